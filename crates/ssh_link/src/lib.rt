@@ -1,0 +1,10 @@
+//! A link of a client and a server: its scripts, its run, its report, and the top call of the program.
+#![tactic(auto)]
+
+mod report;
+mod script;
+mod step;
+
+pub use crate::report::{ClearReport, ClearSide};
+pub use crate::script::{ScriptError, ScriptFault, ScriptKind};
+pub use crate::step::ClearStep;

@@ -1,0 +1,4 @@
+pub mod Ends
+pub mod Feeding
+pub mod Trimming
+pub mod Utf8

@@ -1,0 +1,6 @@
+pub mod Forms
+pub mod Lines
+pub mod Reading
+pub mod Stage
+pub mod Outside
+pub mod Sides

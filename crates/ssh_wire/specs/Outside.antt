@@ -1,0 +1,22 @@
+-- What is known of a source and of a sink: a count of faults, and bytes where they are told.
+use Rattle.std.specs.Prelude.{◌≡◌, ℕ, ◌+◌, ◌-◌, ◌^◌, ◌≤◌, ◌<◌, List, ◌++◌, [], length, take, drop, min, Option, Some, None, IfSome}
+
+-- a count that rose; one that stands at its end counts as risen
+abbrev pub Rose : ℕ → ℕ → Type 0
+Rose before now = min (before + 1) (2 ^ 64 - 1) ≤ now
+
+-- the next n bytes were taken, and stand at the front of the buffer
+abbrev pub TakesNext : ℕ → List ℕ → Option (List ℕ) → Option (List ℕ) → Type 0
+TakesNext n buffer old new = IfSome old (λ left. (n ≤ length left) × (take n buffer ≡ take n left) × (new ≡ Some (drop n left)))
+
+-- where the bytes are told, none are left
+abbrev pub IsAtEnd : Option (List ℕ) → Type 0
+IsAtEnd left = IfSome left (λ bytes. bytes ≡ [])
+
+-- these bytes went behind those that were held
+abbrev pub Appends : List ℕ → Option (List ℕ) → Option (List ℕ) → Type 0
+Appends bytes old new = IfSome old (λ held. new ≡ Some (held ++ bytes))
+
+-- at least one byte of a piece that isn't empty, and no more than it has
+abbrev pub IsPartOf : ℕ → ℕ → Type 0
+IsPartOf size n = (n ≤ size) × (0 < size → 0 < n)

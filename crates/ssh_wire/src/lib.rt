@@ -1,0 +1,19 @@
+//! What all other crates of the transport stand on: errors, small byte types, encodings, version
+//! lines, and the traits of the outside.
+#![tactic(auto)]
+
+mod bytes;
+mod encoding;
+mod error;
+mod outside;
+mod read_id;
+mod side;
+mod ssh_id;
+
+pub use crate::bytes::{Blob, NameList, Payload, PayloadList, Text};
+pub use crate::encoding::{put_u8, put_u32};
+pub use crate::error::{AlgorithmKind, ConfigFault, EncodingFault, Error};
+pub use crate::outside::{Failed, Sink, Source};
+pub use crate::read_id::{IdProgress, ReadSshIdBuffer};
+pub use crate::side::Side;
+pub use crate::ssh_id::SshId;

@@ -1,0 +1,203 @@
+//! Reading the peer's version line in pieces (RFC 4253 section 4.2).
+
+ghost use Rattle.std.specs.Prelude.{◌≡◌, ◌≤◌, ◌<◌, false, ◌+◌, ◌++◌, IfOk, IfSome, None, length, [], is_some, take};
+ghost use Rattle.std.specs.Str.{is_utf8};
+ghost use Rattle.ssh_wire.specs.Lines.{lf_end, line_end, without_cr, line_text, is_id_text};
+
+use crate::error::Error;
+use std::marker::Model;
+use std::str;
+
+/// The longest version line with its ending, in bytes (RFC 4253 section 4.2).
+const LONGEST_LINE: usize = 255;
+
+/// How far the version line has come.
+#[derive(Clone, Copy, Debug, PartialEq, Eq)]
+pub enum IdProgress {
+    /// No line decides yet.
+    NotYet,
+    /// The line is read; so many bytes of the piece belong to it.
+    Id { used: usize },
+}
+
+#[derive(Clone, Copy, Debug, PartialEq, Eq)]
+enum Stage {
+    Reading,
+    Heard,
+    Failed,
+}
+
+/// A version line that is read in pieces. It takes no memory.
+#[derive(Debug, Drop)]
+pub struct ReadSshIdBuffer {
+    line: [u8; LONGEST_LINE],
+    len: usize,
+    stage: Stage,
+}
+
+impl Model for ReadSshIdBuffer {
+    ghost use Rattle.ssh_wire.specs.Reading.{IdReading};
+
+    ghost Value = { IdReading };
+
+    ghost use Rattle.ssh_wire.specs.Stage.{reading_of, IsKept};
+
+    ghost view = { reading_of };
+
+    ghost invariant = { IsKept };
+}
+
+impl ReadSshIdBuffer {
+    ghost use Rattle.ssh_wire.specs.Reading.{Waiting, FeedsLine, used_in, text_heard};
+
+    /// A buffer that has read nothing.
+    pub fn new() -> ReadSshIdBuffer
+        ensures { result ≡ Waiting [] }
+    {
+        ReadSshIdBuffer {
+            line: [0; LONGEST_LINE],
+            len: 0,
+            stage: Stage::Reading,
+        }
+    }
+
+    /// Takes the next piece of what the peer sent. Version where 255 bytes hold no line end, where the
+    /// line is longer, and where it is no id line; it is answered again from then on. After an id the
+    /// answer is `Id { used: 0 }`. The result depends on the bytes and not on their cuts.
+    pub fn feed(&mut self, piece: &[u8], allow_pre_banner_lines: bool) -> Result<IdProgress, Error>
+        requires { allow_pre_banner_lines ≡ false }
+        ensures fed { FeedsLine self.old piece.now result self.new }
+        ensures within { IfOk result (λ progress. used_in progress ≤ length piece.now) }
+    {
+        match self.stage {
+            Stage::Heard => return Ok(IdProgress::Id { used: 0 }),
+            Stage::Failed => return Err(Error::Version),
+            Stage::Reading => {}
+        }
+        let had = self.len;
+        match line_end_in(&self.line[..had], piece) {
+            Some(end) if end <= LONGEST_LINE => {
+                write_at(&mut self.line, had, &piece[..end - had]);
+                match id_text_len(&self.line[..end]) {
+                    Some(text) => {
+                        self.len = text;
+                        self.stage = Stage::Heard;
+                        Ok(IdProgress::Id { used: end - had })
+                    }
+                    None => {
+                        self.stage = Stage::Failed;
+                        Err(Error::Version)
+                    }
+                }
+            }
+            None if piece.len() < LONGEST_LINE - had => {
+                write_at(&mut self.line, had, piece);
+                self.len = had + piece.len();
+                Ok(IdProgress::NotYet)
+            }
+            _ => {
+                self.stage = Stage::Failed;
+                Err(Error::Version)
+            }
+        }
+    }
+
+    /// The id's text without its line ending, empty before it was read.
+    pub fn id(&self) -> &[u8]
+        ensures { result.now ≡ text_heard self.now }
+    {
+        match self.stage {
+            Stage::Heard => &self.line[..self.len],
+            _ => &[],
+        }
+    }
+}
+
+/// Where the first line ends, of which these bytes have come before the piece.
+fn line_end_in(waiting: &[u8], piece: &[u8]) -> Option<usize>
+    requires short { length waiting.now ≤ LONGEST_LINE }
+    requires unfinished { line_end waiting.now ≡ None }
+    ensures end { result ≡ line_end (waiting.now ++ piece.now) }
+    ensures beyond { IfSome result (λ end. length waiting.now < end) }
+    ensures within { IfSome result (λ end. end ≤ length waiting.now + length piece.now) }
+{
+    if waiting.is_empty() {
+        first_line_end(piece)
+    } else {
+        first_lf_end(waiting.len(), piece)
+    }
+}
+
+/// Behind the first LF of bytes that stand from place `at` on.
+fn first_lf_end(at: usize, bytes: &[u8]) -> Option<usize>
+    requires { at ≤ LONGEST_LINE }
+    ensures end { result ≡ lf_end at bytes.now }
+    ensures beyond { IfSome result (λ end. at < end) }
+    ensures within { IfSome result (λ end. end ≤ at + length bytes.now) }
+{
+    for (i, b) in bytes.iter().enumerate() {
+        if *b == b'\n' {
+            return Some(at + i + 1);
+        }
+    }
+    None
+}
+
+/// Behind the first LF that isn't the first byte.
+fn first_line_end(bytes: &[u8]) -> Option<usize>
+    ensures end { result ≡ line_end bytes.now }
+    ensures beyond { IfSome result (λ end. 0 < end) }
+    ensures within { IfSome result (λ end. end ≤ length bytes.now) }
+{
+    let (_, rest) = bytes.split_first()?;
+    first_lf_end(1, rest)
+}
+
+/// The text without a CR at its end.
+fn without_last_cr(text: &[u8]) -> &[u8]
+    ensures { result.now ≡ without_cr text.now }
+{
+    let len = text.len();
+    if len > 0 && text[len - 1] == b'\r' {
+        &text[..len - 1]
+    } else {
+        text
+    }
+}
+
+/// How long the line's text is, where that is an id's.
+fn id_text_len(line: &[u8]) -> Option<usize>
+    ensures id { is_some result ≡ is_id_text (line_text line.now) }
+    ensures text { IfSome result (λ n. take n line.now ≡ line_text line.now) }
+    ensures within { IfSome result (λ n. n ≤ length line.now) }
+{
+    if line.is_empty() {
+        return None;
+    }
+    let text = without_last_cr(&line[..line.len() - 1]);
+    if names_protocol(text) {
+        Some(text.len())
+    } else {
+        None
+    }
+}
+
+fn names_protocol(text: &[u8]) -> bool
+    ensures { result ≡ is_id_text text.now }
+{
+    (text.starts_with(b"SSH-2.0-") || text.starts_with(b"SSH-1.99-")) && is_utf8_text(text)
+}
+
+fn is_utf8_text(bytes: &[u8]) -> bool
+    ensures { result ≡ is_utf8 bytes.now }
+{
+    str::from_utf8(bytes).is_ok()
+}
+
+/// Writes the piece over the bytes from `at` on.
+fn write_at(line: &mut [u8], at: usize, piece: &[u8])
+    requires { at + length piece.now ≤ length line.old }
+    ensures { take (at + length piece.now) line.new ≡ take at line.old ++ piece.now }
+{
+    line[at..at + piece.len()].copy_from_slice(piece);
+}
