@@ -1,0 +1,7 @@
+pub mod Built
+pub mod Finding
+pub mod Fronts
+pub mod KeyKinds
+pub mod Lent
+pub mod Shapes
+pub mod Streams

@@ -1,0 +1,49 @@
+-- What a reader is once the packet that it lends is given back, and a writer once its buffer is.
+use Rattle.std.specs.Prelude.{◌≡◌, ◌<◌, ℕ, true, false, List, length, Option, Some, None, Result, Ok, Err}
+use Rattle.std.specs.Borrow.{MutBor, Lends, Fml}
+use Rattle.std.specs.Io.BufRead.{Rests}
+use Rattle.ssh_packet.specs.Front.{PacketSize, IndexOutOfBounds, Whole, Unfinished, Refused, front_of}
+use Rattle.ssh_packet.specs.Keys.{opening_of}
+use Rattle.ssh_packet.specs.Reading.{Reader}
+use Rattle.ssh_packet.specs.Sealing.{Item, Sealing, moved_on, next_number}
+use Rattle.ssh_packet.specs.Writing.{Writer, Written, counted}
+use Rattle.ssh_packet.specs.declared.keys.OpenKey.{OpenKey}
+use Rattle.ssh_packet.specs.declared.error.OpenError.{OpenError}
+use Rattle.ssh_packet.specs.declared.error.OpenError.TheVariants as errors
+use Rattle.ssh_packet.specs.declared.reader.Incoming.{Incoming}
+use Rattle.ssh_packet.specs.contracts.reader.PacketReader.{the_row}
+use Rattle.ssh_packet.specs.contracts.writer.PacketWriter.{the_row as writer_row}
+use Rattle.ssh_packet.specs.contracts.buffer.SSHBuffer.{the_row as buffer_row}
+
+-- a packet was handed out: its payload is lent, `seqn` is its number plus one
+pub record HandsOut (old : Reader) (key : Sealing) (item : Item) (incoming : Incoming) (new : Reader) (key' : Sealing) : Type 0 where
+  pub live : old.failed ≡ false
+  pub front : front_of key old.number old.waiting ≡ Whole item new.waiting
+  pub payload : incoming.payload.now ≡ item.payload
+  pub seqn : incoming.seqn ≡ next_number old.number
+  pub number : new.number ≡ next_number old.number
+  pub count : new.count ≡ counted old.count (length item.payload)
+  pub failed : new.failed ≡ false
+  pub shorter : length new.waiting < length old.waiting
+  pub moved : key' ≡ moved_on key item
+
+-- why `next` was refused
+abbrev pub Refuses : Reader → Sealing → OpenError → Type 0
+Refuses old key (errors.PacketSize n) = (old.failed ≡ false) × (front_of key old.number old.waiting ≡ Refused (PacketSize n))
+Refuses old key errors.IndexOutOfBounds = (old.failed ≡ false) × (front_of key old.number old.waiting ≡ Refused IndexOutOfBounds)
+Refuses old key errors.Disconnect = old.failed ≡ true
+
+-- what `next` leaves
+abbrev pub Leaves : Reader → Sealing → Sealing → Result (Option Incoming) OpenError → Reader → Type 0
+Leaves old key key' (Ok (Some incoming)) new = (item : Item) × HandsOut old key item incoming new key'
+Leaves old key key' (Ok None) new = (old.failed ≡ false) × (front_of key old.number old.waiting ≡ Unfinished) × (new ≡ old) × (key' ≡ key)
+Leaves old key key' (Err error) new = Refuses old key error × (new ≡ record old { failed = true }) × (key' ≡ key)
+
+abbrev pub LendsNext : MutBor Reader → OpenKey → OpenKey → Result (Option Incoming) OpenError → Fml
+LendsNext s key key' result = Rests the_row s (Leaves s.now (opening_of key) (opening_of key') result)
+
+abbrev pub with_buffer : Writer → Written → Writer
+with_buffer w b = record w { output = b.output; len = b.len; count = b.count; number = b.number }
+
+abbrev pub LendsBuffer : MutBor Writer → MutBor Written → Fml
+LendsBuffer self result = Lends writer_row buffer_row self result (with_buffer self.now)

@@ -1,0 +1,10 @@
+pub mod Errors
+pub mod Finding
+pub mod Front
+pub mod Keys
+pub mod Laws
+pub mod Lending
+pub mod Reading
+pub mod Sealing
+pub mod Stream
+pub mod Writing

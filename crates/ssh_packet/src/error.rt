@@ -1,0 +1,29 @@
+//! Why a packet isn't opened.
+
+use ssh_wire::Error;
+
+/// Why a reader gave no packet. It owns no memory, so that it can stand beside a packet that is lent.
+#[derive(Clone, Copy, Debug, PartialEq, Eq, Hash)]
+pub enum OpenError {
+    /// The packet length is over 262177, or leaves no payload.
+    PacketSize(usize),
+    /// The padding is longer than its packet.
+    IndexOutOfBounds,
+    /// An earlier packet was refused.
+    Disconnect,
+}
+
+impl From<OpenError> for Error {
+    ghost use Rattle.std.specs.Prelude.{◌≡◌};
+    ghost use Rattle.ssh_packet.specs.Errors.{error_of};
+
+    ghost from_gives = { λ error e. e ≡ error_of error };
+
+    fn from(error: OpenError) -> Error {
+        match error {
+            OpenError::PacketSize(n) => Error::PacketSize(n),
+            OpenError::IndexOutOfBounds => Error::IndexOutOfBounds,
+            OpenError::Disconnect => Error::Disconnect,
+        }
+    }
+}

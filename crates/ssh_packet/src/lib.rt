@@ -1,0 +1,18 @@
+//! Binary packets (RFC 4253 section 6): keys, a writer that seals, a reader that opens.
+#![tactic(auto)]
+
+pub mod buffer;
+pub mod clear;
+mod error;
+mod front;
+mod keys;
+mod laws;
+mod reader;
+mod writer;
+
+pub use crate::buffer::SSHBuffer;
+pub use crate::error::OpenError;
+pub use crate::keys::{OpenKey, SealKey};
+pub use crate::laws::{front_stays, front_whole, one_packet, one_reading, padded};
+pub use crate::reader::{Incoming, PacketReader};
+pub use crate::writer::PacketWriter;

@@ -1,0 +1,115 @@
+//! Opening the packets of what was received.
+
+ghost use Rattle.std.specs.Prelude.{◌≡◌, ◌+◌, ◌≤◌, ◌++◌, [], false, OnOk, OnErr, IfErr, drop, vec_len};
+ghost use Rattle.std.specs.Borrow.{sem};
+ghost use Rattle.ssh_wire.specs.declared.error.Error.TheVariants.{Memory};
+
+use crate::error::OpenError;
+use crate::front::{Found, find};
+use crate::keys::OpenKey;
+use ssh_wire::Error;
+use std::alloc::Global;
+use std::marker::Model;
+
+/// Opens packets one after the other.
+#[derive(Debug, Drop)]
+pub struct PacketReader {
+    bytes: Vec<u8>,
+    start: usize,
+    number: u32,
+    count: usize,
+    failed: bool,
+}
+
+impl Model for PacketReader {
+    ghost use Rattle.std.specs.Prelude.{drop, vec_len, ◌≤◌};
+    ghost use Rattle.ssh_packet.specs.Reading.{Reader};
+
+    ghost Value = { Reader };
+
+    ghost view = { λ r. record { waiting = drop r.start r.bytes.items; number = r.number; count = r.count; failed = r.failed } };
+
+    ghost invariant = { λ r. r.start ≤ vec_len r.bytes };
+}
+
+/// A packet that was opened.
+#[derive(Clone, Copy, Debug, Drop)]
+pub struct Incoming<'a> {
+    /// The message, its type first. It is never empty.
+    pub payload: &'a [u8],
+    /// The packet's number plus one; it wraps.
+    pub seqn: u32,
+}
+
+impl PacketReader {
+    ghost use Rattle.ssh_packet.specs.Lending.{LendsNext};
+
+    /// A reader that has read nothing, before packet 0.
+    pub fn new(alloc: Global) -> PacketReader
+        ensures { result ≡ record { waiting = []; number = 0; count = 0; failed = false } }
+    {
+        PacketReader {
+            bytes: Vec::new(alloc),
+            start: 0,
+            number: 0,
+            count: 0,
+            failed: false,
+        }
+    }
+
+    /// Appends a piece of what was received. Memory leaves the reader as it was.
+    pub fn push(&mut self, piece: &[u8]) -> Result<(), Error>
+        ensures ok { OnOk result (self.new ≡ record self.old { waiting = self.old.waiting ++ piece.now }) }
+        ensures unchanged { OnErr result (self.new ≡ self.old) }
+        ensures err { IfErr result (λ e. e ≡ Memory) }
+    {
+        if self.start >= self.bytes.len() - self.start {
+            drop_front(&mut self.bytes, self.start);
+            self.start = 0;
+        }
+        self.bytes.extend_from_slice(piece)?;
+        Ok(())
+    }
+
+    /// The next packet. None where less than a packet waits. PacketSize where the packet length is over
+    /// 262177 or leaves no payload; IndexOutOfBounds where the padding is longer than the packet;
+    /// Disconnect after a refusal. Padding below four bytes is accepted.
+    pub fn next(&mut self, key: &mut OpenKey) -> Result<Option<Incoming<'_>>, OpenError>
+        ensures* after_borrow { sem 𝓛 (LendsNext self.entry key.old key.new result) }
+    {
+        if self.failed {
+            return Err(OpenError::Disconnect);
+        }
+        match find(key, &self.bytes[self.start..]) {
+            Found::Unfinished => Ok(None),
+            Found::BadSize(n) => {
+                self.failed = true;
+                Err(OpenError::PacketSize(n))
+            }
+            Found::BadPadding => {
+                self.failed = true;
+                Err(OpenError::IndexOutOfBounds)
+            }
+            Found::Whole { payload, end } => {
+                let from = self.start + 5;
+                self.start += end;
+                self.number = self.number.wrapping_add(1);
+                self.count = self.count.saturating_add(payload);
+                Ok(Some(Incoming {
+                    payload: &self.bytes[from..from + payload],
+                    seqn: self.number,
+                }))
+            }
+        }
+    }
+}
+
+/// Drops the first n bytes.
+fn drop_front(bytes: &mut Vec<u8>, n: usize)
+    requires { n ≤ vec_len bytes.old }
+    ensures { bytes.new.items ≡ drop n bytes.old.items }
+{
+    let len = bytes.len();
+    bytes.copy_within(n..len, 0);
+    bytes.truncate(len - n);
+}

@@ -1,0 +1,109 @@
+//! Sealing payloads into packets.
+
+ghost use Rattle.std.specs.Prelude.{◌≡◌, ◌+◌, ◌<◌, ◌≤◌, ◌++◌, [], length, replicate, OnOk, OnErr, IfErr, Err, vec_len, vec_capacity};
+ghost use Rattle.std.specs.Borrow.{sem};
+ghost use Rattle.ssh_wire.specs.declared.error.Error.TheVariants.{PacketSize, Memory};
+ghost use Rattle.ssh_packet.specs.Sealing.{Clear, IsAdmissible, framed, item_of, stream_after, longest_payload};
+ghost use Rattle.ssh_packet.specs.Writing.{sent, IsSizeOrMemory};
+
+use crate::buffer::SSHBuffer;
+use crate::clear;
+use crate::keys::SealKey;
+use rand_core::Rng;
+use ssh_wire::{Error, put_u8, put_u32};
+use std::alloc::Global;
+use std::marker::Model;
+
+/// The longest payload of a packet, in bytes.
+const LONGEST_PAYLOAD: usize = 262157;
+
+/// Seals payloads one after the other, behind what its buffer holds.
+#[derive(Debug, Drop)]
+pub struct PacketWriter {
+    buffer: SSHBuffer,
+    cipher: SealKey,
+}
+
+impl Model for PacketWriter {
+    ghost use Rattle.ssh_packet.specs.Keys.{sealing_of};
+    ghost use Rattle.ssh_packet.specs.Writing.{Writer};
+
+    ghost Value = { Writer };
+
+    ghost view = { λ w. record { output = w.buffer.output; len = w.buffer.len; count = w.buffer.count; number = w.buffer.number; sealing = sealing_of w.cipher } };
+}
+
+impl PacketWriter {
+    ghost use Rattle.ssh_packet.specs.Lending.{LendsBuffer};
+
+    /// A writer under the clear key, before packet 0.
+    pub fn clear(alloc: Global) -> PacketWriter
+        ensures { result ≡ record { output = []; len = 0; count = 0; number = 0; sealing = Clear } }
+    {
+        PacketWriter {
+            buffer: SSHBuffer::new(alloc),
+            cipher: SealKey::Clear(clear::Key),
+        }
+    }
+
+    /// Appends one packet of the payload. A payload of no bytes sends nothing. PacketSize where it is
+    /// over 262157 bytes; Memory. A refusal leaves the writer as it was. The clear key pads with zeros
+    /// and draws nothing from the generator.
+    pub fn packet_raw<R: Rng>(&mut self, _rng: &mut R, buf: &[u8]) -> Result<(), Error>
+        ensures sent { OnOk result (self.new ≡ sent self.old buf.now (R.stream _rng.old)) }
+        ensures stream { OnOk result (R.stream _rng.new ≡ stream_after self.old.sealing buf.now (R.stream _rng.old)) }
+        ensures admissible { OnOk result (0 < length buf.now
+            → IsAdmissible self.old.sealing (item_of self.old.sealing buf.now (R.stream _rng.old))) }
+        ensures unchanged { OnErr result (self.new ≡ self.old) }
+        ensures causes { IfErr result (IsSizeOrMemory (length buf.now)) }
+        ensures too_long { longest_payload < length buf.now → result ≡ Err (PacketSize (length buf.now)) }
+    {
+        if buf.is_empty() {
+            return Ok(());
+        }
+        if buf.len() > LONGEST_PAYLOAD {
+            return Err(Error::PacketSize(buf.len()));
+        }
+        let padding = self.cipher.padding_length(buf.len());
+        append_framed(&mut self.buffer.buffer, buf, padding as u8)?;
+        self.buffer.bytes = self.buffer.bytes.saturating_add(buf.len());
+        self.buffer.seqn = self.buffer.seqn.wrapping_add(1);
+        Ok(())
+    }
+
+    /// The output, from the front on.
+    pub fn output(&self) -> &[u8]
+        ensures { result.now ≡ self.now.output }
+    {
+        self.buffer.buffer.as_slice()
+    }
+
+    /// The buffer, lent.
+    pub fn buffer(&mut self) -> &mut SSHBuffer
+        ensures* after_borrow { sem 𝓛 (LendsBuffer self.entry result) }
+        ensures output { result.now.output ≡ self.old.output }
+        ensures count { result.now.count ≡ self.old.count }
+        ensures number { result.now.number ≡ self.old.number }
+    {
+        &mut self.buffer
+    }
+}
+
+/// Appends a packet's text: its length, the padding's length, the payload, and zeros. Memory leaves
+/// `out` as it was.
+fn append_framed(out: &mut Vec<u8>, payload: &[u8], padding: u8) -> Result<(), Error>
+    requires { length payload.now ≤ longest_payload }
+    ensures ok { OnOk result (out.new.items
+        ≡ out.old.items ++ framed (record { payload = payload.now; padding = replicate padding 0 })) }
+    ensures unchanged { OnErr result (out.new.items ≡ out.old.items) }
+    ensures err { IfErr result (λ e. e ≡ Memory) }
+{
+    let padding_len = usize::from(padding);
+    let length = 1 + payload.len() + padding_len;
+    out.reserve(4 + length)?;
+    out.extend_from_slice(&(length as u32).to_be_bytes())?;
+    out.push(padding)?;
+    out.extend_from_slice(payload)?;
+    out.resize(out.len() + padding_len, 0)?;
+    Ok(())
+}
