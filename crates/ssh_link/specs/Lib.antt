@@ -1,1 +1,4 @@
+pub mod ClearRun
+pub mod Delivering
+pub mod Receiving
 pub mod Script

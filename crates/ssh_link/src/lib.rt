@@ -1,6 +1,7 @@
 //! A link of a client and a server: its scripts, its run, its report, and the top call of the program.
 #![tactic(auto)]
 
+mod receiver;
 mod report;
 mod script;
 mod step;
