@@ -1,8 +1,7 @@
 -- Where a line ends that comes in two pieces, and what it is judged.
-use Rattle.std.proofs.Common.{◌≡◌, ℕ, zero, suc, ◌+◌, ◌-◌, ◌<◌, ◌≤◌, Bool, true, false, List, [], ◌∷◌, ◌++◌, length, take, Option, Some, None, IfSome, if◌then◌else◌, nat_eq, nat_lt, refl, sym, ap, subst, ◌∙◌, arith, append-nil, length-append}
-use Rattle.std.proofs.lemmas.Grind.{common_steps}
+use Rattle.std.proofs.Common.{◌≡◌, ℕ, suc, ◌+◌, ◌<◌, ◌≤◌, Bool, true, false, List, [], ◌∷◌, ◌++◌, length, take, Some, None, if◌then◌else◌, nat_eq, sym, ap, ◌∙◌, arith}
 use Rattle.std.proofs.lemmas.Bool.Decides.{nat_tests}
-use Rattle.ssh_wire.specs.Lines.{lf_end, line_end, line_text, is_id_text, judged, id_of, IdFound, NotYet, Id, Version}
+use Rattle.ssh_wire.specs.Lines.{lf_end, line_end, line_text, is_id_text, judged, id_of, Id, Version}
 
 -- what goes on behind bytes without an LF
 pub lf_end-append : (at : ℕ) (w p : List ℕ) → lf_end at w ≡ None → lf_end at (w ++ p) ≡ lf_end (at + length w) p

@@ -1,11 +1,10 @@
 -- A line that a piece ends, as the reader keeps it.
-use Rattle.std.proofs.Common.{◌≡◌, ℕ, ◌+◌, ◌-◌, ◌<◌, ◌≤◌, Bool, true, false, List, ◌++◌, length, take, Option, Some, None, Ok, Err, if◌then◌else◌, refl, sym, ap, subst, ◌∙◌, arith, min}
+use Rattle.std.proofs.Common.{◌≡◌, ℕ, ◌+◌, ◌-◌, ◌<◌, ◌≤◌, true, false, List, ◌++◌, length, take, Some, Ok, Err, refl, sym, ap, ◌∙◌, arith}
 use Rattle.std.proofs.Math.Seq.{take-append-add}
 use Rattle.std.proofs.lemmas.List.{take-append-le, take-append-drop}
 use Rattle.std.proofs.lemmas.Grind.{common_steps}
-use Rattle.ssh_wire.specs.Lines as lines
-use Rattle.ssh_wire.specs.Lines.{line_end, line_text, is_id_text, id_of}
-use Rattle.ssh_wire.specs.Reading.{Waiting, Heard, Failed, FeedsLine, Decides}
+use Rattle.ssh_wire.specs.Lines.{line_end, line_text, is_id_text}
+use Rattle.ssh_wire.specs.Reading.{Waiting, Heard, Failed, FeedsLine}
 use Rattle.ssh_wire.specs.declared.error.Error.TheVariants.{Version}
 use Rattle.ssh_wire.specs.declared.read_id.IdProgress.TheVariants.{Id}
 use Rattle.ssh_wire.proofs.Ends.{id_of-line}

@@ -1,4 +1,5 @@
 pub mod Ends
 pub mod Feeding
+pub mod LineLaws
 pub mod Trimming
 pub mod Utf8

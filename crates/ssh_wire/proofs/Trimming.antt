@@ -1,5 +1,5 @@
 -- What a text is without the CR and LF at its end, from its last byte.
-use Rattle.std.proofs.Common.{◌≡◌, ℕ, Bool, true, false, List, [], ◌∷◌, ◌++◌, length, refl, ap, ◌∙◌, subst}
+use Rattle.std.proofs.Common.{◌≡◌, ℕ, true, false, List, [], ◌∷◌, ◌++◌, refl, ap, ◌∙◌}
 use Rattle.ssh_wire.specs.Lines.{is_line_end, before_trimmed, trimmed}
 
 pub trimmed-end : (front : List ℕ) (b : ℕ) → is_line_end b ≡ true → trimmed (front ++ b ∷ []) ≡ trimmed front

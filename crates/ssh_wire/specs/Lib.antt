@@ -4,3 +4,4 @@ pub mod Reading
 pub mod Stage
 pub mod Outside
 pub mod Sides
+pub mod Laws

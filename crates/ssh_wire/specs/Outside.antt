@@ -1,5 +1,5 @@
 -- What is known of a source and of a sink: a count of faults, and bytes where they are told.
-use Rattle.std.specs.Prelude.{◌≡◌, ℕ, ◌+◌, ◌-◌, ◌^◌, ◌≤◌, ◌<◌, List, ◌++◌, [], length, take, drop, min, Option, Some, None, IfSome}
+use Rattle.std.specs.Prelude.{◌≡◌, ℕ, ◌+◌, ◌-◌, ◌^◌, ◌≤◌, ◌<◌, List, ◌++◌, [], length, take, drop, min, Option, Some, IfSome}
 
 -- a count that rose; one that stands at its end counts as risen
 abbrev pub Rose : ℕ → ℕ → Type 0

@@ -1,5 +1,5 @@
 -- Reading a version line in pieces.
-use Rattle.std.specs.Prelude.{◌≡◌, ℕ, ◌-◌, ◌<◌, ◌≤◌, List, [], ◌++◌, length, take, Option, Some, None, Result, Ok, Err}
+use Rattle.std.specs.Prelude.{◌≡◌, ℕ, ◌-◌, List, [], ◌++◌, length, Result, Ok, Err}
 use Rattle.ssh_wire.specs.Lines as lines
 use Rattle.ssh_wire.specs.Lines.{IdFound, id_of}
 use Rattle.ssh_wire.specs.declared.error.Error.{Error}

@@ -5,6 +5,7 @@
 mod bytes;
 mod encoding;
 mod error;
+mod laws;
 mod outside;
 mod read_id;
 mod side;
@@ -13,6 +14,7 @@ mod ssh_id;
 pub use crate::bytes::{Blob, NameList, Payload, PayloadList, Text};
 pub use crate::encoding::{put_u8, put_u32};
 pub use crate::error::{AlgorithmKind, ConfigFault, EncodingFault, Error};
+pub use crate::laws::{id_stays, less_than_a_line};
 pub use crate::outside::{Failed, Sink, Source};
 pub use crate::read_id::{IdProgress, ReadSshIdBuffer};
 pub use crate::side::Side;

@@ -1,6 +1,6 @@
 -- The two answers where a line ends: the fields are those of a line that waited.
-use Rattle.std.proofs.Common.{rules, ◌≡◌, length, take, arith, length-take}
-use Rattle.ssh_wire.proofs.Feeding.{Ends, hears, refuses}
+use Rattle.std.proofs.Common.{rules, ◌≡◌, length, take}
+use Rattle.ssh_wire.proofs.Feeding.{hears, refuses}
 use Rattle.ssh_wire.proofs.read_id.ReadSshIdBuffer.feed.Goals as goal
 
 pub returns-in-Some-id_text_len-clause-fed : goal.returns-in-Some-id_text_len-clause-fed

@@ -1,0 +1,5 @@
+use Rattle.ssh_wire.proofs.LineLaws.{id_stays}
+use Rattle.ssh_wire.proofs.laws.id_stays.Goals as goal
+
+pub returns : goal.returns
+returns c = id_stays

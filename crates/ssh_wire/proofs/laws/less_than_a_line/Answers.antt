@@ -1,0 +1,5 @@
+use Rattle.ssh_wire.proofs.LineLaws.{less_than_a_line}
+use Rattle.ssh_wire.proofs.laws.less_than_a_line.Goals as goal
+
+pub returns : goal.returns
+returns c = less_than_a_line
