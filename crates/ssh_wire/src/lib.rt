@@ -14,6 +14,6 @@ pub use crate::bytes::{Blob, NameList, Payload, PayloadList, Text};
 pub use crate::encoding::{put_u8, put_u32};
 pub use crate::error::{AlgorithmKind, ConfigFault, EncodingFault, Error};
 pub use crate::outside::{Failed, Sink, Source};
-pub use crate::read_id::{IdProgress, ReadSshIdBuffer};
+pub use crate::read_id::{IdProgress, ReadSshIdBuffer, without_last_cr};
 pub use crate::side::Side;
 pub use crate::ssh_id::SshId;

@@ -1,0 +1,127 @@
+//! Scripts of the command `clear`.
+
+ghost use Rattle.std.specs.Prelude.{◌≡◌, ◌≤◌, Ok, IfOk, IfErr, length, true};
+ghost use Rattle.ssh_link.specs.Script.{is_filled, is_comment, pieces, words_of, submit_of, deliver_of, clear_form, line_says, steps_from, clear_script, longest_script};
+ghost use Rattle.ssh_link.specs.Parsing.{IsRefusal};
+
+use crate::fields::{hex_bytes, number, side};
+use crate::script::{ScriptError, ScriptFault, ScriptKind};
+use crate::step::ClearStep;
+use crate::words::{Words, cut};
+use ssh_wire::Payload;
+use std::alloc::{AllocError, Global};
+
+/// The longest script, in bytes.
+const LONGEST_SCRIPT: usize = 67108864;
+
+const SUBMIT: &[u8] = b"submit";
+const DELIVER: &[u8] = b"deliver";
+
+/// What a line says: nothing, a step, or how it breaks the grammar.
+type ClearLine = Result<Option<ClearStep>, ScriptKind>;
+
+/// Reads a script of the command `clear`, in one pass over the text, in linear time.
+///
+/// A line ends in LF, or at the text's end, and a CR before that is left out. Its words stand between
+/// spaces. A line without words, or whose first word begins with `#`, says nothing. Others are
+/// `submit SIDE HEX` and `deliver SIDE N`, with SIDE `client` or `server`, HEX an even number of hex
+/// digits or `-` for no bytes, and N a decimal number below 2^64 without a leading zero.
+///
+/// Fault names the first line that is neither, counted from 1: NotBuilt where its first word is none of
+/// the forms', Malformed where the words behind it are wrong. A text over 67108864 bytes is TooLong,
+/// with the line 0, whatever its lines say. Memory where an allocation failed.
+pub fn parse_clear(alloc: Global, text: &[u8]) -> Result<Vec<ClearStep>, ScriptError>
+    ensures read { IfOk result (λ steps. clear_script text.now ≡ Ok steps.items) }
+    ensures fault { IfErr result (λ error. IsRefusal (clear_script text.now) error) }
+{
+    if text.len() > LONGEST_SCRIPT {
+        return Err(ScriptError::Fault(ScriptFault {
+            line: 0,
+            kind: ScriptKind::TooLong,
+        }));
+    }
+    clear_steps(alloc, text)
+}
+
+/// The steps of all lines, or the first fault.
+fn clear_steps(alloc: Global, text: &[u8]) -> Result<Vec<ClearStep>, ScriptError>
+    requires { length text.now ≤ longest_script }
+    ensures read { IfOk result (λ steps. steps_from clear_form 1 (pieces 10 text.now) ≡ Ok steps.items) }
+    ensures fault { IfErr result (λ error. IsRefusal (steps_from clear_form 1 (pieces 10 text.now)) error) }
+{
+    let mut steps = Vec::new(alloc);
+    let mut line_number = 1;
+    let mut rest = Some(text);
+    while let Some(lines) = rest {
+        let (line, behind) = cut(lines, b'\n');
+        match clear_line(alloc, line)? {
+            Ok(Some(step)) => steps.push(step)?,
+            Ok(None) => {}
+            Err(kind) => {
+                return Err(ScriptError::Fault(ScriptFault {
+                    line: line_number,
+                    kind,
+                }));
+            }
+        }
+        line_number += 1;
+        rest = behind;
+    }
+    Ok(steps)
+}
+
+fn clear_line(alloc: Global, line: &[u8]) -> Result<ClearLine, AllocError>
+    ensures { IfOk result (λ says. says ≡ line_says clear_form (words_of line.now)) }
+{
+    let mut words = Words::of(line);
+    match words.take() {
+        Some(word) if !begins_comment(word) => clear_step(alloc, word, words),
+        _ => Ok(Ok(None)),
+    }
+}
+
+fn begins_comment(word: &[u8]) -> bool
+    requires { is_filled word.now ≡ true }
+    ensures { result ≡ is_comment word.now }
+{
+    word[0] == b'#'
+}
+
+fn clear_step(alloc: Global, word: &[u8], words: Words) -> Result<ClearLine, AllocError>
+    ensures { IfOk result (λ says. says ≡ clear_form word.now words.entry) }
+{
+    let step = if word == SUBMIT {
+        submit(alloc, words)?
+    } else if word == DELIVER {
+        deliver(words)
+    } else {
+        return Ok(Err(ScriptKind::NotBuilt));
+    };
+    Ok(step.map(Some).ok_or(ScriptKind::Malformed))
+}
+
+/// SIDE HEX
+fn submit(alloc: Global, mut words: Words) -> Result<Option<ClearStep>, AllocError>
+    ensures { IfOk result (λ step. step ≡ submit_of words.entry) }
+{
+    let (Some(side_word), Some(hex_word), None) = (words.take(), words.take(), words.take()) else {
+        return Ok(None);
+    };
+    let Some(side) = side(side_word) else {
+        return Ok(None);
+    };
+    let Some(bytes) = hex_bytes(alloc, hex_word)? else {
+        return Ok(None);
+    };
+    Ok(Some(ClearStep::Submit(side, Payload::new(bytes))))
+}
+
+/// SIDE N
+fn deliver(mut words: Words) -> Option<ClearStep>
+    ensures { result ≡ deliver_of words.entry }
+{
+    let (Some(side_word), Some(count_word), None) = (words.take(), words.take(), words.take()) else {
+        return None;
+    };
+    Some(ClearStep::Deliver(side(side_word)?, number(count_word)?))
+}
