@@ -15,6 +15,7 @@ use std::alloc::{AllocError, Global};
 const LONGEST_SCRIPT: usize = 67108864;
 
 const SUBMIT: &[u8] = b"submit";
+
 const DELIVER: &[u8] = b"deliver";
 
 /// What a line says: nothing, a step, or how it breaks the grammar.
@@ -120,8 +121,77 @@ fn submit(alloc: Global, mut words: Words) -> Result<Option<ClearStep>, AllocErr
 fn deliver(mut words: Words) -> Option<ClearStep>
     ensures { result ≡ deliver_of words.entry }
 {
-    let (Some(side_word), Some(count_word), None) = (words.take(), words.take(), words.take()) else {
+    let (Some(side_word), Some(count_word), None) = (words.take(), words.take(), words.take())
+    else {
         return None;
     };
     Some(ClearStep::Deliver(side(side_word)?, number(count_word)?))
+}
+
+#[cfg(test)]
+mod tests {
+    use super::*;
+    use std::test::Fail;
+
+    /// What a script gives, with its steps behind one another.
+    fn shown(alloc: Global, script: &str) -> Result<String, Fail> {
+        let steps = match parse_clear(alloc, script.as_bytes()) {
+            Ok(steps) => steps,
+            Err(ScriptError::Fault(ScriptFault { line, kind })) => {
+                return Ok(format!(in alloc; "script {line} {kind:?}")?);
+            }
+            Err(ScriptError::Memory) => return Err(AllocError)?,
+        };
+        let mut text = String::new(alloc);
+        for step in steps.iter() {
+            let step = match step {
+                ClearStep::Submit(side, payload) => {
+                    format!(in alloc; "submit {side:?} {:?};", payload.as_slice())?
+                }
+                ClearStep::Deliver(side, count) => format!(in alloc; "deliver {side:?} {count};")?,
+            };
+            text.push_str(step.as_str())?;
+        }
+        Ok(text)
+    }
+
+    #[test]
+    fn scripts(rt: HostRuntime) -> Result<(), Fail> {
+        let cases = [
+            ("", ""),
+            (
+                "submit client 616263\ndeliver server 25\n",
+                "submit Client [97, 98, 99];deliver Server 25;",
+            ),
+            ("submit client -", "submit Client [];"),
+            (
+                "# submit\r\n\r\n  submit   server 0aFF  \r\n \n#hop\n",
+                "submit Server [10, 255];",
+            ),
+            ("deliver client 0\r", "deliver Client 0;"),
+            ("deliver client 0\r\r", "script 1 Malformed"),
+            (
+                "deliver server 18446744073709551615",
+                "deliver Server 18446744073709551615;",
+            ),
+            ("deliver server 18446744073709551616", "script 1 Malformed"),
+            ("deliver server 007", "script 1 Malformed"),
+            ("deliver server +7", "script 1 Malformed"),
+            ("deliver server", "script 1 Malformed"),
+            ("deliver server 7 8", "script 1 Malformed"),
+            ("deliver Server 7", "script 1 Malformed"),
+            ("\nsubmit client 616\n", "script 2 Malformed"),
+            ("submit client 6g", "script 1 Malformed"),
+            ("submit client --", "script 1 Malformed"),
+            ("submit client 61 # two", "script 1 Malformed"),
+            ("submit\nhop client\n", "script 1 Malformed"),
+            ("\n\nhop client\nsubmit\n", "script 3 NotBuilt"),
+            ("Submit client 61", "script 1 NotBuilt"),
+            ("submit\tclient 61", "script 1 NotBuilt"),
+        ];
+        for (script, expected) in cases {
+            assert_eq!(rt; shown(rt.alloc(), script)?.as_str(), expected);
+        }
+        Ok(())
+    }
 }

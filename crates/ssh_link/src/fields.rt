@@ -13,7 +13,9 @@ use std::alloc::{AllocError, Global};
 use std::str;
 
 const CLIENT: &[u8] = b"client";
+
 const SERVER: &[u8] = b"server";
+
 const NO_BYTES: &[u8] = b"-";
 
 /// SIDE: `client` or `server`.
