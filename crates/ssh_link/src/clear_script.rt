@@ -1,25 +1,20 @@
 //! Scripts of the command `clear`.
 
-ghost use Rattle.std.specs.Prelude.{◌≡◌, ◌≤◌, Ok, IfOk, IfErr, length, true};
-ghost use Rattle.ssh_link.specs.Script.{is_filled, is_comment, pieces, words_of, submit_of, deliver_of, clear_form, line_says, steps_from, clear_script, longest_script};
+ghost use Rattle.std.specs.Prelude.{◌≡◌, Ok, IfOk, IfErr};
+ghost use Rattle.ssh_link.specs.Script.{submit_of, deliver_of, clear_form, clear_script};
 ghost use Rattle.ssh_link.specs.Parsing.{IsRefusal};
 
 use crate::fields::{hex_bytes, number, side};
-use crate::script::{ScriptError, ScriptFault, ScriptKind};
+use crate::lines::{Forms, LineSays, read_script};
+use crate::script::{ScriptError, ScriptKind};
 use crate::step::ClearStep;
-use crate::words::{Words, cut};
+use crate::words::Words;
 use ssh_wire::Payload;
 use std::alloc::{AllocError, Global};
-
-/// The longest script, in bytes.
-const LONGEST_SCRIPT: usize = 67108864;
 
 const SUBMIT: &[u8] = b"submit";
 
 const DELIVER: &[u8] = b"deliver";
-
-/// What a line says: nothing, a step, or how it breaks the grammar.
-type ClearLine = Result<Option<ClearStep>, ScriptKind>;
 
 /// Reads a script of the command `clear`, in one pass over the text, in linear time.
 ///
@@ -35,70 +30,26 @@ pub fn parse_clear(alloc: Global, text: &[u8]) -> Result<Vec<ClearStep>, ScriptE
     ensures read { IfOk result (λ steps. clear_script text.now ≡ Ok steps.items) }
     ensures fault { IfErr result (λ error. IsRefusal (clear_script text.now) error) }
 {
-    if text.len() > LONGEST_SCRIPT {
-        return Err(ScriptError::Fault(ScriptFault {
-            line: 0,
-            kind: ScriptKind::TooLong,
-        }));
+    read_script::<ClearForms>(alloc, text)
+}
+
+struct ClearForms;
+
+impl Forms for ClearForms {
+    type Step = ClearStep;
+
+    ghost form = { clear_form };
+
+    fn read(alloc: Global, word: &[u8], words: Words) -> Result<LineSays<ClearStep>, AllocError> {
+        let step = if word == SUBMIT {
+            submit(alloc, words)?
+        } else if word == DELIVER {
+            deliver(words)
+        } else {
+            return Ok(Err(ScriptKind::NotBuilt));
+        };
+        Ok(step.map(Some).ok_or(ScriptKind::Malformed))
     }
-    clear_steps(alloc, text)
-}
-
-/// The steps of all lines, or the first fault.
-fn clear_steps(alloc: Global, text: &[u8]) -> Result<Vec<ClearStep>, ScriptError>
-    requires { length text.now ≤ longest_script }
-    ensures read { IfOk result (λ steps. steps_from clear_form 1 (pieces 10 text.now) ≡ Ok steps.items) }
-    ensures fault { IfErr result (λ error. IsRefusal (steps_from clear_form 1 (pieces 10 text.now)) error) }
-{
-    let mut steps = Vec::new(alloc);
-    let mut line_number = 1;
-    let mut rest = Some(text);
-    while let Some(lines) = rest {
-        let (line, behind) = cut(lines, b'\n');
-        match clear_line(alloc, line)? {
-            Ok(Some(step)) => steps.push(step)?,
-            Ok(None) => {}
-            Err(kind) => {
-                return Err(ScriptError::Fault(ScriptFault {
-                    line: line_number,
-                    kind,
-                }));
-            }
-        }
-        line_number += 1;
-        rest = behind;
-    }
-    Ok(steps)
-}
-
-fn clear_line(alloc: Global, line: &[u8]) -> Result<ClearLine, AllocError>
-    ensures { IfOk result (λ says. says ≡ line_says clear_form (words_of line.now)) }
-{
-    let mut words = Words::of(line);
-    match words.take() {
-        Some(word) if !begins_comment(word) => clear_step(alloc, word, words),
-        _ => Ok(Ok(None)),
-    }
-}
-
-fn begins_comment(word: &[u8]) -> bool
-    requires { is_filled word.now ≡ true }
-    ensures { result ≡ is_comment word.now }
-{
-    word[0] == b'#'
-}
-
-fn clear_step(alloc: Global, word: &[u8], words: Words) -> Result<ClearLine, AllocError>
-    ensures { IfOk result (λ says. says ≡ clear_form word.now words.entry) }
-{
-    let step = if word == SUBMIT {
-        submit(alloc, words)?
-    } else if word == DELIVER {
-        deliver(words)
-    } else {
-        return Ok(Err(ScriptKind::NotBuilt));
-    };
-    Ok(step.map(Some).ok_or(ScriptKind::Malformed))
 }
 
 /// SIDE HEX
@@ -131,6 +82,7 @@ fn deliver(mut words: Words) -> Option<ClearStep>
 #[cfg(test)]
 mod tests {
     use super::*;
+    use crate::script::ScriptFault;
     use std::test::Fail;
 
     /// What a script gives, with its steps behind one another.

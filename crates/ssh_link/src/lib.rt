@@ -3,6 +3,7 @@
 
 mod clear_script;
 mod fields;
+mod lines;
 mod report;
 mod script;
 mod step;
