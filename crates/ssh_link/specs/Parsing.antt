@@ -1,5 +1,5 @@
 -- What is answered where a script breaks its grammar, and what is left of a text on the way.
-use Rattle.std.specs.Prelude.{◌≡◌, ℕ, List, filter, Option, Some, None, Result, Err}
+use Rattle.std.specs.Prelude.{◌≡◌, ℕ, List, filter, Result, Err}
 use Rattle.ssh_link.specs.Script.{pieces, is_filled}
 use Rattle.ssh_link.specs.declared.script.ScriptError.{ScriptError}
 use Rattle.ssh_link.specs.declared.script.ScriptError.TheVariants.{Fault, Memory}

@@ -1,6 +1,6 @@
-use Rattle.std.proofs.Common.{◌≡◌, ◌∙◌, sym, rules, true, None, not}
+use Rattle.std.proofs.Common.{◌≡◌, ◌∙◌, rules, true, None}
 use Rattle.std.specs.Result.{result_ok}
-use Rattle.ssh_link.specs.Script.{number_of, is_number}
+use Rattle.ssh_link.specs.Script.{is_number}
 use Rattle.ssh_link.proofs.Numbers.{number_is_text, number_read}
 use Rattle.ssh_link.proofs.fields.number.Goals as goal
 

@@ -1,4 +1,4 @@
-use Rattle.std.proofs.Common.{◌≡◌, ℕ, ◌+◌, ◌-◌, ◌<◌, length, arith, rules}
+use Rattle.std.proofs.Common.{◌≡◌, length, arith, rules}
 use Rattle.ssh_link.proofs.Cutting.{pieces-cut, pieces-none}
 use Rattle.ssh_link.proofs.words.cut.Goals as goal
 
