@@ -33,6 +33,7 @@ pub fn parse_clear(alloc: Global, text: &[u8]) -> Result<Vec<ClearStep>, ScriptE
     read_script::<ClearForms>(alloc, text)
 }
 
+/// The forms `submit` and `deliver`.
 struct ClearForms;
 
 impl Forms for ClearForms {
