@@ -1,10 +1,9 @@
 //! The fields of a script's line: what one word says.
 
-ghost use Rattle.std.specs.Prelude.{◌≡◌, IfOk, ◌+◌};
+ghost use Rattle.std.specs.Prelude.{◌≡◌, IfOk};
 ghost use Rattle.std.specs.Option.{option_map};
 ghost use Rattle.std.specs.Char.{is_ascii_digit};
 ghost use Rattle.std.specs.List.{list_all};
-ghost use Rattle.std.specs.Str.Parse.{digits_value};
 ghost use Rattle.ssh_link.specs.Script.{side_of, hex_of, number_of, is_number};
 
 use hex::FromHexError;

@@ -1,6 +1,6 @@
 //! Cutting a script's text into lines, and a line into words. What a word means stands elsewhere.
 
-ghost use Rattle.std.specs.Prelude.{◌≡◌, ◌+◌, ◌<◌, ◌≤◌, List, ℕ, [], ◌∷◌, length, true, MatchOption, IfSome};
+ghost use Rattle.std.specs.Prelude.{◌≡◌, ◌<◌, List, ℕ, [], ◌∷◌, length, true, MatchOption, IfSome};
 ghost use Rattle.ssh_link.specs.Script.{pieces, is_filled, words_of};
 ghost use Rattle.ssh_link.specs.Parsing.{words_in};
 
