@@ -1,2 +1,5 @@
+pub mod Cutting
+pub mod Judging
+pub mod Numbers
 pub mod ReadLoop
 pub mod Refusals

@@ -2,3 +2,4 @@ pub mod ClearRun
 pub mod Delivering
 pub mod Receiving
 pub mod Script
+pub mod Parsing

@@ -16,6 +16,6 @@ pub use crate::encoding::{put_u8, put_u32};
 pub use crate::error::{AlgorithmKind, ConfigFault, EncodingFault, Error};
 pub use crate::laws::{id_stays, less_than_a_line};
 pub use crate::outside::{Failed, Sink, Source};
-pub use crate::read_id::{IdProgress, ReadSshIdBuffer};
+pub use crate::read_id::{IdProgress, ReadSshIdBuffer, without_last_cr};
 pub use crate::side::Side;
 pub use crate::ssh_id::SshId;

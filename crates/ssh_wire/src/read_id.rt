@@ -153,8 +153,9 @@ fn first_line_end(bytes: &[u8]) -> Option<usize>
     first_lf_end(1, rest)
 }
 
-/// The text without a CR at its end.
-fn without_last_cr(text: &[u8]) -> &[u8]
+/// The text of a line without the CR that may stand before its LF. One CR at the end is left out, and
+/// none elsewhere.
+pub fn without_last_cr(text: &[u8]) -> &[u8]
     ensures { result.now ≡ without_cr text.now }
 {
     let len = text.len();
