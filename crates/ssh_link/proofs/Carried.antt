@@ -50,7 +50,7 @@ are_sent_drop : (a b : List (List ℕ)) → AreSent (a ++ b) → AreSent b
 are_sent_drop [] b h = h
 are_sent_drop (p ∷ a) b h = are_sent_drop a b h.1
 
-size_of-append : (a b : List (List ℕ)) → size_of (a ++ b) ≡ size_of a + size_of b
+pub size_of-append : (a b : List (List ℕ)) → size_of (a ++ b) ≡ size_of a + size_of b
 size_of-append [] b = omega arith
 size_of-append (p ∷ a) b = omega (arith, size_of-append a b)
 

@@ -1,7 +1,9 @@
 pub mod Carried
 pub mod Cutting
+pub mod Growing
 pub mod Judging
 pub mod Numbers
 pub mod ReadLoop
 pub mod Refusals
+pub mod Runs
 pub mod Sent

@@ -1,3 +1,4 @@
+pub mod ClearLink
 pub mod ClearRun
 pub mod Delivering
 pub mod Receiving
