@@ -1,2 +1,4 @@
+pub mod Answering
+pub mod Commands
 pub mod Names
 pub mod Taking

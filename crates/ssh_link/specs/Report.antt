@@ -13,6 +13,9 @@ use Rattle.ssh_wire.specs.declared.error.EncodingFault.{EncodingFault}
 use Rattle.ssh_wire.specs.declared.error.EncodingFault.TheVariants as encoding
 use Rattle.ssh_wire.specs.declared.error.Error.{Error}
 use Rattle.ssh_wire.specs.declared.error.Error.TheVariants as error
+use Rattle.ssh_link.specs.declared.script.ScriptFault.{ScriptFault}
+use Rattle.ssh_link.specs.declared.script.ScriptKind.{ScriptKind}
+use Rattle.ssh_link.specs.declared.script.ScriptKind.TheVariants as script
 use Rattle.ssh_link.specs.declared.report.ClearSide.{ClearSide}
 use Rattle.ssh_link.specs.declared.report.ClearReport.{ClearReport}
 
@@ -101,3 +104,21 @@ error_text error.Memory = codes "Memory"
 size-example : error_text (error.PacketSize 262158) ≡ codes "PacketSize 262158"
 unfolding digits
 size-example = refl
+
+-- the names of the kinds of a script's fault
+abbrev pub script_kind_name : ScriptKind → List ℕ
+script_kind_name script.NotBuilt = codes "NotBuilt"
+script_kind_name script.Malformed = codes "Malformed"
+script_kind_name script.TooLong = codes "TooLong"
+
+-- the line that tells a script's fault
+abbrev pub fault_printed : ScriptFault → List ℕ
+fault_printed fault = codes "script " ++ decimal fault.line ++ codes " " ++ script_kind_name fault.kind ++ codes "\n"
+
+-- the line that tells a refusal
+abbrev pub refusal_printed : Error → List ℕ
+refusal_printed e = codes "refused " ++ error_text e ++ codes "\n"
+
+fault-example : fault_printed (record { line = 1; kind = script.NotBuilt }) ≡ codes "script 1 NotBuilt\n"
+unfolding digits
+fault-example = refl

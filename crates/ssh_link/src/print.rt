@@ -1,12 +1,13 @@
 //! The text of a report and of a refusal.
 
 ghost use Rattle.std.specs.Prelude.{◌≡◌, ◌∷◌, [], ◌++◌, codes, decimal, IfOk, IfErr, OnOk};
-ghost use Rattle.ssh_link.specs.Report.{side_name, hex_word, report_line, delivered_printed, side_printed, clear_printed, kind_name, encoding_name, config_name, names_word, error_text};
+ghost use Rattle.ssh_link.specs.Report.{side_name, hex_word, report_line, delivered_printed, side_printed, clear_printed, kind_name, encoding_name, config_name, names_word, error_text, refusal_printed, fault_printed, script_kind_name};
 ghost use Rattle.hex.specs.Hex.{encode_lower};
 ghost use Rattle.ssh_wire.specs.declared.error.Error.TheVariants.{Memory, NoCommonAlgo};
 ghost use Rattle.std.specs.List.{flat_map};
 
 use crate::report::{ClearReport, ClearSide};
+use crate::script::{ScriptFault, ScriptKind};
 use itoa::Buffer;
 use ssh_wire::{
     AlgorithmKind, ConfigFault, EncodingFault, Error, NameList, Payload, Side, Text, put_u8,
@@ -273,5 +274,35 @@ fn name_of_config(fault: ConfigFault) -> &'static [u8]
         ConfigFault::KexNone => b"KexNone",
         ConfigFault::NameList => b"NameList",
         ConfigFault::HostBlob => b"HostBlob",
+    }
+}
+
+/// The line that tells a refusal.
+pub fn push_refusal(out: &mut Vec<u8>, error: &Error) -> Result<(), Error>
+    ensures ok { OnOk result (out.new.items ≡ out.old.items ++ refusal_printed error.now) }
+    ensures err { IfErr result (λ e. e ≡ Memory) }
+{
+    push_text(out, b"refused ")?;
+    push_error(out, error)?;
+    put_u8(out, b'\n')
+}
+
+/// The line that tells a script's fault.
+pub fn push_fault(out: &mut Vec<u8>, fault: ScriptFault) -> Result<(), Error>
+    ensures ok { OnOk result (out.new.items ≡ out.old.items ++ fault_printed fault) }
+    ensures err { IfErr result (λ e. e ≡ Memory) }
+{
+    push_numbered(out, b"script ", fault.line)?;
+    push_named(out, b" ", name_of_script_kind(fault.kind))?;
+    put_u8(out, b'\n')
+}
+
+fn name_of_script_kind(kind: ScriptKind) -> &'static [u8]
+    ensures { result.now ≡ script_kind_name kind }
+{
+    match kind {
+        ScriptKind::NotBuilt => b"NotBuilt",
+        ScriptKind::Malformed => b"Malformed",
+        ScriptKind::TooLong => b"TooLong",
     }
 }
