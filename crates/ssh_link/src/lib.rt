@@ -24,3 +24,6 @@ pub use crate::script::{ScriptError, ScriptFault, ScriptKind};
 pub use crate::step::ClearStep;
 pub use crate::stream::{LONGEST_READ, ReadError, read_script, write_text};
 pub use crate::word::{Word, is_command};
+
+#[cfg(test)]
+mod tests;
