@@ -1,9 +1,13 @@
+pub mod Answering
 pub mod Carried
+pub mod Commands
 pub mod Cutting
 pub mod Growing
 pub mod Judging
+pub mod Names
 pub mod Numbers
 pub mod ReadLoop
 pub mod Refusals
 pub mod Runs
 pub mod Sent
+pub mod Taking

@@ -67,6 +67,10 @@ first_refused [] = None
 first_refused (Submit s payload ∷ steps) = if is_bad_size (length payload) then Some (length payload) else first_refused steps
 first_refused (Deliver s n ∷ steps) = first_refused steps
 
+-- a refusal that names the size of the first payload that isn't sent
+abbrev pub IsRefusedSize : List ClearStep → Error → Type 0
+IsRefusedSize steps error = (n : ℕ) × (first_refused steps ≡ Some n) × (error ≡ PacketSize n)
+
 -- why a run is refused: a payload's size, or want of memory
 abbrev pub IsRefusedRun : List ClearStep → Error → Type 0
-IsRefusedRun steps error = (error ≡ Memory) ⊎ ((n : ℕ) × (first_refused steps ≡ Some n) × (error ≡ PacketSize n))
+IsRefusedRun steps error = (error ≡ Memory) ⊎ IsRefusedSize steps error

@@ -1,6 +1,9 @@
 pub mod ClearLink
 pub mod ClearRun
 pub mod Delivering
-pub mod Receiving
-pub mod Script
 pub mod Parsing
+pub mod Program
+pub mod Receiving
+pub mod Report
+pub mod Script
+pub mod Stream

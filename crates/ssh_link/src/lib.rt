@@ -1,18 +1,31 @@
 //! A link of a client and a server: its scripts, its run, its report, and the top call of the program.
 #![tactic(auto)]
 
+mod adapters;
+mod answer;
 mod clear_link;
 mod clear_script;
+mod command;
 mod fields;
 mod lines;
+mod print;
+mod program;
 mod receiver;
 mod report;
 mod run;
 mod script;
 mod step;
+mod stream;
+#[cfg(test)]
+mod tests;
 mod words;
 
+pub use crate::adapters::{StdSink, StdSource};
+pub use crate::answer::MainEnd;
 pub use crate::clear_script::parse_clear;
+pub use crate::command::Word;
+pub use crate::print::print_clear;
+pub use crate::program::link_main;
 pub use crate::report::{ClearReport, ClearSide};
 pub use crate::run::run_clear;
 pub use crate::script::{ScriptError, ScriptFault, ScriptKind};

@@ -1,0 +1,97 @@
+-- The top call of the program: what it answers, and how it ends.
+use Rattle.std.specs.Prelude.{◌≡◌, ℕ, ◌⊎◌, List, [], ◌∷◌, codes, Option, Some, None, IfSome, Result, Ok, Err}
+use Rattle.ssh_wire.specs.Outside.{Appends, Rose}
+use Rattle.ssh_wire.specs.declared.error.Error.{Error}
+use Rattle.ssh_wire.specs.declared.ssh_id.SshId.{SshId}
+use Rattle.ssh_wire.specs.declared.ssh_id.SshId.TheVariants.{Standard}
+use Rattle.ssh_link.specs.ClearRun.{IsClearRun, IsRefusedSize}
+use Rattle.ssh_link.specs.Report.{clear_printed, fault_printed, refusal_printed}
+use Rattle.ssh_link.specs.Script.{clear_script}
+use Rattle.ssh_link.specs.Stream.{AppendsFront}
+use Rattle.ssh_link.specs.declared.answer.Answer.{Answer}
+use Rattle.ssh_link.specs.declared.answer.Answer.TheVariants.{Usage, Faulty, Refused, Ran}
+use Rattle.ssh_link.specs.declared.answer.MainEnd.{MainEnd}
+use Rattle.ssh_link.specs.declared.report.ClearReport.{ClearReport}
+use Rattle.ssh_link.specs.declared.script.ScriptFault.{ScriptFault}
+use Rattle.ssh_link.specs.declared.step.ClearStep.{ClearStep}
+
+-- the words of the one command
+abbrev pub IsCommand : List (List ℕ) → Type 0
+IsCommand words = words ≡ codes "clear" ∷ []
+
+-- the version line of the client
+abbrev pub client_id : SshId
+client_id = Standard (codes "SSH-2.0-sshlink_client")
+
+-- the version line of the server
+abbrev pub server_id : SshId
+server_id = Standard (codes "SSH-2.0-sshlink_server")
+
+-- what is answered to steps: the first payload that may not be sent, or the report of their run
+abbrev pub AnswersSteps : List ClearStep → Answer → Type 0
+AnswersSteps steps Usage = ⊥
+AnswersSteps steps (Faulty fault) = ⊥
+AnswersSteps steps (Refused e) = IsRefusedSize steps e
+AnswersSteps steps (Ran report) = IsClearRun client_id server_id steps report
+
+-- what is answered to a script: its fault, or what is answered to its steps
+abbrev pub AnswersScript : Result (List ClearStep) ScriptFault → Answer → Type 0
+AnswersScript (Err fault) answer = answer ≡ Faulty fault
+AnswersScript (Ok steps) answer = AnswersSteps steps answer
+
+-- what is answered to the text that was left, all of it where that is told
+abbrev pub AnswersLeft : Option (List ℕ) → Answer → Type 0
+AnswersLeft left answer = (text : List ℕ) × IfSome left (λ bytes. bytes ≡ text) × AnswersScript (clear_script text) answer
+
+-- what is answered to words that aren't the command, or else to what was left
+abbrev pub IsAnswer : List (List ℕ) → Option (List ℕ) → Answer → Type 0
+IsAnswer words left Usage = ¬ (IsCommand words)
+IsAnswer words left (Faulty fault) = IsCommand words × AnswersLeft left (Faulty fault)
+IsAnswer words left (Refused e) = IsCommand words × AnswersLeft left (Refused e)
+IsAnswer words left (Ran report) = IsCommand words × AnswersLeft left (Ran report)
+
+-- what is written
+abbrev pub answer_text : Answer → List ℕ
+answer_text Usage = codes "usage\n"
+answer_text (Faulty fault) = fault_printed fault
+answer_text (Refused e) = refusal_printed e
+answer_text (Ran report) = clear_printed report
+
+-- the exit status, once all is written
+abbrev pub answer_status : Answer → ℕ
+answer_status Usage = 2
+answer_status (Faulty fault) = 3
+answer_status (Refused e) = 1
+answer_status (Ran report) = 0
+
+abbrev pub shown_clear : Answer → Option ClearReport
+shown_clear Usage = None
+shown_clear (Faulty fault) = None
+shown_clear (Refused e) = None
+shown_clear (Ran report) = Some report
+
+abbrev pub shown_refused : Answer → Option Error
+shown_refused Usage = None
+shown_refused (Faulty fault) = None
+shown_refused (Refused e) = Some e
+shown_refused (Ran report) = None
+
+abbrev pub shown_fault : Answer → Option ScriptFault
+shown_fault Usage = None
+shown_fault (Faulty fault) = Some fault
+shown_fault (Refused e) = None
+shown_fault (Ran report) = None
+
+-- the end tells this answer, and no other
+abbrev pub Shows : Answer → MainEnd → Type 0
+Shows answer end = (end.clear ≡ shown_clear answer) × (end.refused ≡ shown_refused answer) × (end.fault ≡ shown_fault answer)
+
+-- the end tells no answer
+abbrev pub ShowsNone : MainEnd → Type 0
+ShowsNone end = (end.clear ≡ None) × (end.refused ≡ None) × (end.fault ≡ None)
+
+-- the answer's text was written and the status is the answer's, or the sink failed behind a front of the text
+abbrev pub IsWritten : Answer → ℕ → Option (List ℕ) → Option (List ℕ) → ℕ → ℕ → Type 0
+IsWritten answer status held now faults faults_now =
+    ((status ≡ answer_status answer) × Appends (answer_text answer) held now)
+    ⊎ ((status ≡ 5) × Rose faults faults_now × AppendsFront (answer_text answer) held now)

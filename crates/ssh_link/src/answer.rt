@@ -1,0 +1,100 @@
+//! What the program answers, and how it ends.
+
+ghost use Rattle.std.specs.Prelude.{◌≡◌, [], ◌++◌, IfOk, IfErr};
+ghost use Rattle.ssh_link.specs.Program.{answer_text, answer_status, Shows, ShowsNone};
+ghost use Rattle.ssh_wire.specs.declared.error.Error.TheVariants.{Memory};
+
+use crate::print::{print_clear, push_fault, push_refusal};
+use crate::report::ClearReport;
+use crate::script::ScriptFault;
+use ssh_wire::Error;
+use std::alloc::Global;
+
+/// What the program answers.
+#[derive(Debug, Drop)]
+pub enum Answer {
+    /// The words are no command.
+    Usage,
+    /// The script breaks its grammar.
+    Faulty(ScriptFault),
+    /// The run was refused.
+    Refused(Error),
+    /// The run went to its end.
+    Ran(ClearReport),
+}
+
+/// How a call of the program ended.
+#[derive(Debug, Drop)]
+pub struct MainEnd {
+    /// The exit status: 0 the report is written, 1 the run was refused, 2 the words are no command, 3
+    /// the script is faulty, 4 the source failed, 5 the sink failed, 6 want of memory.
+    pub status: u8,
+    /// The report, where the run went to its end.
+    pub clear: Option<ClearReport>,
+    /// Why the run was refused.
+    pub refused: Option<Error>,
+    /// How the script breaks its grammar.
+    pub fault: Option<ScriptFault>,
+}
+
+impl MainEnd {
+    /// An end without an answer.
+    pub fn without(status: u8) -> MainEnd
+        ensures status { result.status ≡ status }
+        ensures none { ShowsNone result }
+    {
+        MainEnd {
+            status,
+            clear: None,
+            refused: None,
+            fault: None,
+        }
+    }
+
+    /// An end with an answer.
+    pub fn with(answer: Answer, status: u8) -> MainEnd
+        ensures status { result.status ≡ status }
+        ensures shown { Shows answer result }
+    {
+        let mut end = MainEnd::without(status);
+        match answer {
+            Answer::Usage => {}
+            Answer::Faulty(fault) => end.fault = Some(fault),
+            Answer::Refused(error) => end.refused = Some(error),
+            Answer::Ran(report) => end.clear = Some(report),
+        }
+        end
+    }
+}
+
+impl Answer {
+    /// The exit status, once all is written.
+    pub fn status(&self) -> u8
+        ensures { result ≡ answer_status self.now }
+    {
+        match self {
+            Answer::Usage => 2,
+            Answer::Faulty(_) => 3,
+            Answer::Refused(_) => 1,
+            Answer::Ran(_) => 0,
+        }
+    }
+
+    /// The text that is written. Memory where there is no room for it.
+    pub fn text(&self, alloc: Global) -> Result<Vec<u8>, Error>
+        ensures text { IfOk result (λ text. text.items ≡ answer_text self.now) }
+        ensures err { IfErr result (λ e. e ≡ Memory) }
+    {
+        let mut out = Vec::new(alloc);
+        match self {
+            Answer::Usage => out.extend_from_slice(USAGE)?,
+            Answer::Faulty(fault) => push_fault(&mut out, *fault)?,
+            Answer::Refused(error) => push_refusal(&mut out, error)?,
+            Answer::Ran(report) => return print_clear(alloc, report),
+        }
+        Ok(out)
+    }
+}
+
+/// What is written where the words are no command.
+pub const USAGE: &[u8] = b"usage\n";
