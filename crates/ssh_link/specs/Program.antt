@@ -4,7 +4,7 @@ use Rattle.ssh_wire.specs.Outside.{Appends, Rose}
 use Rattle.ssh_wire.specs.declared.error.Error.{Error}
 use Rattle.ssh_wire.specs.declared.ssh_id.SshId.{SshId}
 use Rattle.ssh_wire.specs.declared.ssh_id.SshId.TheVariants.{Standard}
-use Rattle.ssh_link.specs.ClearRun.{IsClearRun, IsRefusedSize}
+use Rattle.ssh_link.specs.ClearRun.{IsClearRun, IsRefusedSize, first_refused}
 use Rattle.ssh_link.specs.Report.{clear_printed, fault_printed, refusal_printed}
 use Rattle.ssh_link.specs.Script.{clear_script}
 use Rattle.ssh_link.specs.Stream.{AppendsFront}
@@ -27,12 +27,12 @@ client_id = Standard (codes "SSH-2.0-sshlink_client")
 abbrev pub server_id : SshId
 server_id = Standard (codes "SSH-2.0-sshlink_server")
 
--- what is answered to steps: the first payload that may not be sent, or the report of their run
+-- what is answered to steps: the first payload that may not be sent, or where there is none the report of their run
 abbrev pub AnswersSteps : List ClearStep → Answer → Type 0
 AnswersSteps steps Usage = ⊥
 AnswersSteps steps (Faulty fault) = ⊥
 AnswersSteps steps (Refused e) = IsRefusedSize steps e
-AnswersSteps steps (Ran report) = IsClearRun client_id server_id steps report
+AnswersSteps steps (Ran report) = (first_refused steps ≡ None) × IsClearRun client_id server_id steps report
 
 -- what is answered to a script: its fault, or what is answered to its steps
 abbrev pub AnswersScript : Result (List ClearStep) ScriptFault → Answer → Type 0

@@ -31,9 +31,15 @@ impl<R: Read> StdSource<R> {
     {
         StdSource { reader, faults: 0 }
     }
+}
+
+impl<R: Read> Source for StdSource<R> {
+    ghost faults = { λ s. s.faults };
+
+    ghost left = { λ _. None };
 
     /// Reads once. On `Failed` the reader took nothing, where it tells its bytes.
-    pub fn read_next(&mut self, out: &mut [u8]) -> Result<usize, Failed>
+    fn read(&mut self, out: &mut [u8]) -> Result<usize, Failed>
         ensures within { IfOk result (λ n. n ≤ length out.old) }
         ensures bytes { ReadConsumes (R.remaining self.old.inner) (R.remaining self.new.inner) result out.new }
         ensures fault { OnErr result (self.new.faults ≡ counted self.old.faults) }
@@ -46,16 +52,6 @@ impl<R: Read> StdSource<R> {
                 Err(Failed::Failed)
             }
         }
-    }
-}
-
-impl<R: Read> Source for StdSource<R> {
-    ghost faults = { λ s. s.faults };
-
-    ghost left = { λ _. None };
-
-    fn read(&mut self, out: &mut [u8]) -> Result<usize, Failed> {
-        self.read_next(out)
     }
 }
 
@@ -81,9 +77,15 @@ impl<W: Write> StdSink<W> {
     {
         StdSink { writer, faults: 0 }
     }
+}
+
+impl<W: Write> Sink for StdSink<W> {
+    ghost faults = { λ s. s.faults };
+
+    ghost held = { λ _. None };
 
     /// Writes once, and flushes. A write of nothing of a piece that isn't empty is a fault too.
-    pub fn write_next(&mut self, bytes: &[u8]) -> Result<usize, Failed>
+    fn write(&mut self, bytes: &[u8]) -> Result<usize, Failed>
         ensures part { IfOk result (λ n. IsPartOf (length bytes.now) n) }
         ensures bytes { IfOk result (λ n. Appends (W.contents self.old.inner) (W.contents self.new.inner) (take n bytes.now)) }
         ensures fault { OnErr result (self.new.faults ≡ counted self.old.faults) }
@@ -96,16 +98,6 @@ impl<W: Write> StdSink<W> {
                 Err(Failed::Failed)
             }
         }
-    }
-}
-
-impl<W: Write> Sink for StdSink<W> {
-    ghost faults = { λ s. s.faults };
-
-    ghost held = { λ _. None };
-
-    fn write(&mut self, bytes: &[u8]) -> Result<usize, Failed> {
-        self.write_next(bytes)
     }
 }
 
