@@ -44,6 +44,7 @@ pub fn link_main<S: Source, K: Sink>(
     ensures source_failed { result.status ≡ 4 → Rose (S.faults source.old) (S.faults source.new) }
     ensures silent { (result.status ≡ 4) ⊎ (result.status ≡ 6) → ShowsNone result × (K.held sink.new ≡ K.held sink.old) }
     ensures usage { ¬ (IsCommand words.now) → (result.status ≡ 2) ⊎ (result.status ≡ 5) }
+    ensures read { (result.status ≡ 4) ⊎ (result.status ≡ 6) → IsCommand words.now }
     ensures unread { ¬ (IsCommand words.now) → S.left source.new ≡ S.left source.old }
     ensures bounded { TakesAtMost (longest_script + 1) (S.left source.old) (S.left source.new) }
 {
