@@ -82,6 +82,7 @@ impl PacketWriter {
     pub fn buffer(&mut self) -> &mut SSHBuffer
         ensures* after_borrow { sem 𝓛 (LendsBuffer self.entry result) }
         ensures output { result.now.output ≡ self.old.output }
+        ensures len { result.now.len ≡ self.old.len }
         ensures count { result.now.count ≡ self.old.count }
         ensures number { result.now.number ≡ self.old.number }
     {
