@@ -57,6 +57,7 @@ impl PacketWriter {
         ensures unchanged { OnErr result (self.new ≡ self.old) }
         ensures causes { IfErr result (IsSizeOrMemory (length buf.now)) }
         ensures too_long { longest_payload < length buf.now → result ≡ Err (PacketSize (length buf.now)) }
+        ensures undrawn { longest_payload < length buf.now → R.stream _rng.new ≡ R.stream _rng.old }
     {
         if buf.is_empty() {
             return Ok(());
