@@ -8,6 +8,8 @@ mod front;
 mod keys;
 mod laws;
 mod reader;
+#[cfg(test)]
+mod tests;
 mod writer;
 
 pub use crate::buffer::SSHBuffer;

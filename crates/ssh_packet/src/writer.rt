@@ -57,6 +57,7 @@ impl PacketWriter {
         ensures unchanged { OnErr result (self.new ≡ self.old) }
         ensures causes { IfErr result (IsSizeOrMemory (length buf.now)) }
         ensures too_long { longest_payload < length buf.now → result ≡ Err (PacketSize (length buf.now)) }
+        ensures undrawn { longest_payload < length buf.now → R.stream _rng.new ≡ R.stream _rng.old }
     {
         if buf.is_empty() {
             return Ok(());
@@ -82,6 +83,7 @@ impl PacketWriter {
     pub fn buffer(&mut self) -> &mut SSHBuffer
         ensures* after_borrow { sem 𝓛 (LendsBuffer self.entry result) }
         ensures output { result.now.output ≡ self.old.output }
+        ensures len { result.now.len ≡ self.old.len }
         ensures count { result.now.count ≡ self.old.count }
         ensures number { result.now.number ≡ self.old.number }
     {

@@ -10,6 +10,8 @@ mod outside;
 mod read_id;
 mod side;
 mod ssh_id;
+#[cfg(test)]
+mod tests;
 
 pub use crate::bytes::{Blob, NameList, Payload, PayloadList, Text};
 pub use crate::encoding::{put_u8, put_u32};
