@@ -13,79 +13,153 @@ use std::alloc::Global;
 use std::io::Cursor;
 use std::test::Fail;
 
-/// One call of the program, and what it is to write and to end with.
-struct Row {
-    words: &'static [&'static str],
-    script: &'static [u8],
-    source_fails: &'static [u64],
-    sink_fails: &'static [u64],
-    written: &'static [u8],
-    status: u8,
-}
+const CLIENT_LINE: &str = "client wire 5353482d322e302d7373686c696e6b5f636c69656e740d0a";
 
-const ROWS: [Row; 4] = [
-    Row {
-        words: &[],
-        script: b"",
-        source_fails: &[],
-        sink_fails: &[],
-        written: b"usage\n",
-        status: 2,
-    },
-    Row {
-        words: &["clear", "more"],
-        script: b"",
-        source_fails: &[1],
-        sink_fails: &[],
-        written: b"usage\n",
-        status: 2,
-    },
-    Row {
-        words: &["clear"],
-        script: b"",
-        source_fails: &[1],
-        sink_fails: &[],
-        written: b"",
-        status: 4,
-    },
-    Row {
-        words: &["hop"],
-        script: b"",
-        source_fails: &[],
-        sink_fails: &[1],
-        written: b"",
-        status: 5,
-    },
+const SERVER_LINE: &str = "server wire 5353482d322e302d7373686c696e6b5f7365727665720d0a";
+
+/// Scripts of the command `clear`: the status, and what is written of the client and of the server.
+const SCRIPTS: [(&str, u8, &str, &str); 9] = [
+    (
+        "submit client 616263\ndeliver server 25\ndeliver server 100\n",
+        0,
+        "0000000c086162630000000000000000\nclient taken 0\n",
+        "\nserver taken 40\nserver delivered 616263\n",
+    ),
+    ("", 0, "\nclient taken 0\n", "\nserver taken 0\n"),
+    (
+        "# a comment\r\n\r\n \n  deliver   client  5 \r\ndeliver client 19",
+        0,
+        "\nclient taken 24\n",
+        "\nserver taken 0\n",
+    ),
+    (
+        "submit server 1500\nsubmit server 15\ndeliver client 55\n",
+        0,
+        "\nclient taken 55\nclient delivered 1500\n",
+        "0000000c0915000000000000000000000000000c0a1500000000000000000000\nserver taken 0\n",
+    ),
+    ("submit client -", 1, "refused PacketSize 0\n", ""),
+    ("hop client", 3, "script 1 NotBuilt\n", ""),
+    ("submit client 6", 3, "script 1 Malformed\n", ""),
+    (
+        "\n\n# x\ndeliver server 01\nhop",
+        3,
+        "script 4 Malformed\n",
+        "",
+    ),
+    ("deliver\tserver 1", 3, "script 1 NotBuilt\n", ""),
 ];
 
-fn words_of(alloc: Global, texts: &[&str]) -> Result<Vec<Word>, Fail> {
-    let mut words = Vec::new(alloc);
-    for text in texts {
-        words.push(Word::new(String::from_str(alloc, *text)?))?;
+/// How the program ends on these words and this script, over a source and a sink that fail at these
+/// calls and a sink with so much room. What was written stands behind what `written` held.
+fn answer_to(
+    alloc: Global,
+    words: &[&str],
+    script: &[u8],
+    fails: (&[u64], &[u64]),
+    room: usize,
+    written: &mut Vec<u8>,
+) -> Result<MainEnd, Fail> {
+    let mut texts = Vec::new(alloc);
+    for word in words {
+        texts.push(Word::new(String::from_str(alloc, *word)?))?;
     }
-    Ok(words)
+    let mut source = MemorySource::new(
+        Vec::from_slice(alloc, script)?,
+        Vec::from_slice(alloc, fails.0)?,
+    );
+    let mut sink = MemorySink::new(alloc, Vec::from_slice(alloc, fails.1)?, room)?;
+    let end = link_main(alloc, texts.as_slice(), &mut source, &mut sink);
+    written.extend_from_slice(sink.held())?;
+    Ok(end)
 }
 
-fn end_of(alloc: Global, row: &Row, sink: &mut MemorySink) -> Result<MainEnd, Fail> {
-    let words = words_of(alloc, row.words)?;
-    let mut source = MemorySource::new(
-        Vec::from_slice(alloc, row.script)?,
-        Vec::from_slice(alloc, row.source_fails)?,
-    );
-    Ok(link_main(alloc, words.as_slice(), &mut source, sink))
+/// The report whose two sides go on like this.
+fn report_of(alloc: Global, client: &str, server: &str) -> Result<String, Fail> {
+    let mut text = String::from_str(alloc, CLIENT_LINE)?;
+    text.push_str(client)?;
+    text.push_str(SERVER_LINE)?;
+    text.push_str(server)?;
+    Ok(text)
 }
 
 #[test]
-fn ends_as_told(rt: HostRuntime) -> Result<(), Fail> {
-    for row in &ROWS {
-        let mut sink = MemorySink::new(
+fn scripts_answered(rt: HostRuntime) -> Result<(), Fail> {
+    for (script, status, client, server) in SCRIPTS {
+        let mut written = Vec::new(rt.alloc());
+        let end = answer_to(
             rt.alloc(),
-            Vec::from_slice(rt.alloc(), row.sink_fails)?,
+            &["clear"],
+            script.as_bytes(),
+            (&[], &[]),
             4096,
+            &mut written,
         )?;
-        let end = end_of(rt.alloc(), row, &mut sink)?;
-        assert_eq!(rt; end.status, row.status);
-        assert_eq!(rt; sink.held(), row.written);
+        assert_eq!(rt; end.status, status, "at {script:?}");
+        let text = if status == 0 {
+            report_of(rt.alloc(), client, server)?
+        } else {
+            String::from_str(rt.alloc(), client)?
+        };
+        assert_eq!(rt; written.as_slice(), text.as_bytes(), "at {script:?}");
+        assert_eq!(rt; end.clear.is_some(), status == 0);
+        assert_eq!(rt; end.refused.is_some(), status == 1);
+        assert_eq!(rt; end.fault.is_some(), status == 3);
+    }
+    Ok(())
+}
+
+/// Words, the calls at which source and sink fail, the sink's room, the status, and what is written.
+const FAULTS: [(&[&str], &[u64], &[u64], usize, u8, &str); 9] = [
+    (&[], &[], &[], 64, 2, "usage\n"),
+    (&["clear", "more"], &[1], &[], 64, 2, "usage\n"),
+    (&["run"], &[], &[], 64, 2, "usage\n"),
+    (&["hop"], &[], &[1], 64, 5, ""),
+    (&["hop"], &[], &[], 4, 5, "usag"),
+    (&["clear"], &[1], &[], 64, 4, ""),
+    (&["clear"], &[2], &[], 64, 4, ""),
+    (&["clear"], &[], &[1], 64, 5, ""),
+    (&["clear"], &[], &[], 20, 5, "client wire 5353482d"),
+];
+
+#[test]
+fn faults_answered(rt: HostRuntime) -> Result<(), Fail> {
+    for (words, source_fails, sink_fails, room, status, text) in FAULTS {
+        let mut written = Vec::new(rt.alloc());
+        let end = answer_to(
+            rt.alloc(),
+            words,
+            b"deliver client 1\n",
+            (source_fails, sink_fails),
+            room,
+            &mut written,
+        )?;
+        assert_eq!(rt; end.status, status, "at {words:?}");
+        assert_eq!(rt; written.as_slice(), text.as_bytes(), "at {words:?}");
+    }
+    Ok(())
+}
+
+#[test]
+fn longest_payload(rt: HostRuntime) -> Result<(), Fail> {
+    for (len, status) in [(262157u32, 0), (262158, 1)] {
+        let mut script = Vec::from_slice(rt.alloc(), b"submit server ")?;
+        for _ in 0..len {
+            script.extend_from_slice(b"5e")?;
+        }
+        script.extend_from_slice(b"\ndeliver client 300000\n")?;
+        let mut written = Vec::new(rt.alloc());
+        let end = answer_to(
+            rt.alloc(),
+            &["clear"],
+            script.as_slice(),
+            (&[], &[]),
+            1 << 21,
+            &mut written,
+        )?;
+        assert_eq!(rt; end.status, status);
+        let taken = end.clear.as_ref().map(|report| report.client.taken);
+        assert_eq!(rt; taken, (status == 0).then_some(262192));
     }
     Ok(())
 }

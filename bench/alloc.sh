@@ -1,0 +1,20 @@
+#!/usr/bin/env bash
+# Usage: bench/alloc.sh [SCRIPT]
+# Runs the program on the script (examples/clear.txt if none is given) with each of its allocations failing
+# in turn. Each such run has to end with status 6 and write nothing. Needs rt.
+set -u
+script=$(realpath "${1:-$(dirname "$0")/../examples/clear.txt}")
+cd "$(dirname "$0")/../crates/sshlink" || exit 1
+log=$(mktemp)
+trap 'rm -f "$log"' EXIT
+for ((n = 1; ; n++)); do
+  written=$(rt try --fail-alloc "$n" -- clear <"$script" 2>"$log")
+  if grep -q '^run=ended status=0 ' "$log"; then
+    echo "$((n - 1)) allocations, each of which fails with status 6"
+    exit 0
+  fi
+  if ! grep -q '^run=ended status=6 ' "$log" || [ -n "$written" ]; then
+    echo "allocation $n: $(tail -n 1 "$log"); written: $written"
+    exit 1
+  fi
+done
