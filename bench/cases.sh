@@ -20,5 +20,5 @@ for input in $(find "$folder" -name stdin | sort); do
   fi
 done
 rm -f "$written"
-echo "cases: $agree agree, $differ differ"
+echo "cases: $agree passed, $differ failed"
 [ "$differ" = 0 ] && [ "$agree" -gt 0 ]

@@ -1,23 +1,20 @@
 -- A side that takes the front of what the other side sent.
-use Rattle.std.proofs.Common.{◌≡◌, ℕ, zero, suc, ◌+◌, ◌-◌, ◌<◌, ◌≤◌, List, [], ◌∷◌, ◌++◌, length, map, take, drop, refl, sym, ◌∙◌, ap, subst, arith, Bool, true, false, nat_lt, nat_le, append_assoc, append-nil, length-append, length-drop, if◌then◌else◌, inl, inr}
+use Rattle.std.proofs.Common.{◌≡◌, ℕ, ◌+◌, ◌-◌, ◌<◌, ◌≤◌, List, [], ◌∷◌, ◌++◌, length, take, drop, refl, sym, ◌∙◌, ap, subst, arith, Bool, true, false, nat_lt, append_assoc, length-append, length-drop, inl, inr}
 use Rattle.std.proofs.lemmas.Bool.Decides.{nat_tests}
-use Rattle.std.proofs.lemmas.Grind.{common_steps}
 use Rattle.std.proofs.lemmas.List.{take-append-drop, take-append-le, drop-append-le, drop-drop, length-take-le}
-use Rattle.std.proofs.Math.Seq.{take-append_seam, drop-append_seam, take-append-add, drop-append-add}
+use Rattle.std.proofs.Math.Seq.{drop-append_seam, take-append-add}
 use Rattle.ssh_wire.specs.Lines as lines
 use Rattle.ssh_wire.specs.Lines.{IdFound, id_line, id_text, id_of}
 use Rattle.ssh_wire.specs.Reading.{IdReading, Waiting, Heard, Failed}
 use Rattle.ssh_wire.specs.declared.ssh_id.SshId.{SshId}
 use Rattle.ssh_wire.proofs.LineLaws.{id_stays, less_than_a_line}
-use Rattle.ssh_packet.specs.Sealing.{Item, Clear, sealed, next_number}
-use Rattle.ssh_packet.specs.Stream.{packets, number_after}
-use Rattle.ssh_packet.specs.Front.{Front, Unfinished, Fault, Refused}
+use Rattle.ssh_packet.specs.Front.{Unfinished, Refused}
 use Rattle.ssh_packet.specs.Reading.{Reader}
-use Rattle.ssh_link.specs.ClearRun.{IsWholeLine, clear_item, packet_size, clear_wire, whole_in}
-use Rattle.ssh_link.specs.Delivering.{Finds, payloads_of}
-use Rattle.ssh_link.specs.Receiving.{ReadsOn, CannotRead, Takes, TakesBy, TakesLine, CannotTakeBy, CannotTakeLine}
+use Rattle.ssh_link.specs.ClearRun.{IsWholeLine, clear_wire}
+use Rattle.ssh_link.specs.Delivering.{payloads_of}
+use Rattle.ssh_link.specs.Receiving.{ReadsOn, CannotRead, TakesBy, TakesLine, CannotTakeBy, CannotTakeLine}
 use Rattle.ssh_link.specs.declared.receiver.Receiver.{Receiver}
-use Rattle.ssh_link.proofs.Sent.{sent_from, AreSent, size_of, IsShort, finds_sent, length_packet}
+use Rattle.ssh_link.proofs.Sent.{sent_from, AreSent, size_of, IsShort, finds_sent}
 
 -- a part of the line was taken
 pub record ReadsLine (id : SshId) (taken : ℕ) (waiting : List ℕ) (r : Receiver) : Type 0 where

@@ -1,5 +1,5 @@
 -- A side that took some of what the other sent: when more is sent, and at the end.
-use Rattle.std.proofs.Common.{◌≡◌, ℕ, zero, suc, ◌+◌, ◌-◌, ◌<◌, ◌≤◌, List, [], ◌∷◌, ◌++◌, length, map, take, drop, refl, sym, ◌∙◌, ap, subst, arith, Bool, true, false, nat_le, append_assoc, append-nil, length-append, if◌then◌else◌}
+use Rattle.std.proofs.Common.{◌≡◌, ℕ, ◌+◌, ◌-◌, ◌≤◌, List, [], ◌∷◌, ◌++◌, length, drop, refl, sym, ◌∙◌, ap, arith, true, false, nat_le, append_assoc, append-nil, length-append, if◌then◌else◌}
 use Rattle.std.proofs.lemmas.Bool.Decides.{nat_tests}
 use Rattle.std.proofs.lemmas.List.{drop-append-le}
 use Rattle.ssh_wire.specs.Lines.{id_line}
@@ -9,7 +9,7 @@ use Rattle.ssh_packet.specs.Sealing.{Clear, sealed, next_number, IsAdmissible}
 use Rattle.ssh_link.specs.ClearRun.{clear_item, packet_size, clear_wire, whole_in}
 use Rattle.ssh_link.specs.declared.receiver.Receiver.{Receiver}
 use Rattle.ssh_link.proofs.Sent.{sent_from, AreSent, size_of, IsShort, length_packet}
-use Rattle.ssh_link.proofs.Carried.{ReadsLine, ReadsPackets, ReadsBy, Reads, size_of-append}
+use Rattle.ssh_link.proofs.Carried.{ReadsBy}
 
 -- the number of the packet behind some
 abbrev pub number_behind : ℕ → List (List ℕ) → ℕ

@@ -1,8 +1,8 @@
 -- What a side has read so far of some bytes.
-use Rattle.std.proofs.Common.{◌≡◌, ℕ, List, [], ◌∷◌, ◌++◌, refl, sym, ◌∙◌, ap, subst, append_assoc, append-nil, true, false, inl, inr}
-use Rattle.ssh_packet.specs.Sealing.{Item, Clear, next_number}
+use Rattle.std.proofs.Common.{◌≡◌, ℕ, List, [], ◌∷◌, ◌++◌, refl, sym, ◌∙◌, ap, subst, append_assoc, append-nil, inl, inr}
+use Rattle.ssh_packet.specs.Sealing.{Item, next_number}
 use Rattle.ssh_packet.specs.Stream.{number_after}
-use Rattle.ssh_packet.specs.Front.{Front, Whole, Unfinished, Fault, Refused, front_of}
+use Rattle.ssh_packet.specs.Front.{Front, Unfinished, Refused}
 use Rattle.ssh_packet.specs.Reading.{Reader}
 use Rattle.ssh_link.specs.Delivering.{Finds, payloads_of, DeliversOne, DeliversNone, IsRefused}
 use Rattle.ssh_link.specs.Receiving.{ReadsOn, CannotRead}

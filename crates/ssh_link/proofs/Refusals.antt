@@ -1,5 +1,5 @@
 -- A reader's refusal, whatever its key.
-use Rattle.std.proofs.Common.{◌≡◌, true, false, inl, inr, Option, Result, Ok, Err, subst, ◌⊎◌}
+use Rattle.std.proofs.Common.{◌≡◌, inl, inr, Option, Result, Err, subst}
 use Rattle.ssh_packet.specs.Front.{PacketSize, IndexOutOfBounds}
 use Rattle.ssh_packet.specs.Keys.{opening_of}
 use Rattle.ssh_packet.specs.Lending.{Leaves, Refuses}

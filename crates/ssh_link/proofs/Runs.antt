@@ -1,13 +1,11 @@
 -- A clear link between its steps.
-use Rattle.std.proofs.Common.{◌≡◌, ℕ, zero, suc, ◌+◌, ◌-◌, ◌<◌, ◌≤◌, List, [], ◌∷◌, ◌++◌, length, map, take, drop, min, refl, sym, ◌∙◌, ap, subst, arith, Bool, true, false, Option, Some, None, append_assoc, append-nil, length-append, length-drop, if◌then◌else◌, inl, inr, ◌⊎◌}
-use Rattle.std.proofs.lemmas.Grind.{common_steps}
+use Rattle.std.proofs.Common.{◌≡◌, ℕ, ◌+◌, ◌-◌, ◌<◌, ◌≤◌, List, [], ◌∷◌, ◌++◌, length, take, min, refl, sym, ◌∙◌, ap, subst, arith, true, false, Some, append_assoc, append-nil, length-append, if◌then◌else◌, inl, inr}
 use Rattle.ssh_wire.specs.Lines.{id_line, id_of, Id}
 use Rattle.ssh_wire.specs.Reading.{IdReading}
 use Rattle.ssh_packet.specs.Reading.{Reader}
 use Rattle.ssh_packet.specs.Writing.{Writer}
 use Rattle.ssh_wire.specs.Sides.{same_side, other_side}
 use Rattle.ssh_wire.specs.declared.error.Error.{Error}
-use Rattle.ssh_wire.specs.declared.error.Error.TheVariants.{PacketSize, Memory}
 use Rattle.ssh_wire.specs.declared.side.Side.{Side}
 use Rattle.ssh_wire.specs.declared.side.Side.TheVariants.{Client, Server}
 use Rattle.ssh_wire.specs.declared.ssh_id.SshId.{SshId}

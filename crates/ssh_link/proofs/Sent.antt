@@ -1,14 +1,13 @@
 -- The packets that a side sent, as the other side finds them.
-use Rattle.std.proofs.Common.{◌≡◌, ℕ, zero, suc, ◌+◌, ◌-◌, ◌<◌, ◌≤◌, List, [], ◌∷◌, ◌++◌, length, map, take, drop, replicate, refl, sym, ◌∙◌, ap, subst, arith, Bool, true, false, nat_lt, nat_le, append_assoc, append-nil, length-append, if◌then◌else◌}
+use Rattle.std.proofs.Common.{◌≡◌, ℕ, ◌+◌, ◌<◌, ◌≤◌, List, [], ◌∷◌, ◌++◌, length, map, take, drop, refl, sym, ◌∙◌, ap, subst, arith, Bool, true, false, nat_le, append_assoc, length-append}
 use Rattle.std.proofs.lemmas.Bool.Decides.{nat_tests}
 use Rattle.std.proofs.lemmas.List.{length-replicate, take-append-drop, length-take-le}
-use Rattle.std.proofs.Math.Seq.{take-append_seam}
-use Rattle.ssh_packet.specs.Sealing.{Item, Clear, sealed, framed, packet_length, next_number, padding_length, IsAdmissible}
+use Rattle.ssh_packet.specs.Sealing.{Item, Clear, sealed, next_number, padding_length, IsAdmissible}
 use Rattle.ssh_packet.specs.Stream.{packets, number_after}
-use Rattle.ssh_packet.specs.Front.{Front, Whole, Unfinished, Fault, Refused, front_of}
+use Rattle.ssh_packet.specs.Front.{Front, Whole, Unfinished, Refused, front_of}
 use Rattle.ssh_packet.proofs.Shapes.{length_framed, cut_alike}
 use Rattle.ssh_packet.proofs.Fronts.{front_whole, front_stays_whole, front_stays_refused}
-use Rattle.ssh_link.specs.ClearRun.{clear_item, packet_size, whole_in}
+use Rattle.ssh_link.specs.ClearRun.{clear_item, packet_size}
 use Rattle.ssh_link.specs.Delivering.{Finds, payloads_of}
 
 -- the packets of payloads, from a number on

@@ -1,6 +1,6 @@
 -- A run of a clear link: two id lines and clear packets, carried in pieces.
-use Rattle.std.specs.Prelude.{◌≡◌, ℕ, ◌+◌, ◌-◌, ◌<◌, ◌≤◌, nat_lt, nat_le, ◌||◌, ◌==◌, Bool, true, false, if◌then◌else◌, List, [], ◌∷◌, ◌++◌, length, map, min, replicate, Option, Some, None, ◌⊎◌}
-use Rattle.ssh_wire.specs.Lines.{id_line, id_text, id_of, IdFound, Id}
+use Rattle.std.specs.Prelude.{◌≡◌, ℕ, ◌+◌, ◌-◌, nat_lt, nat_le, ◌||◌, ◌==◌, Bool, if◌then◌else◌, List, [], ◌∷◌, ◌++◌, length, map, min, replicate, Option, Some, None, ◌⊎◌}
+use Rattle.ssh_wire.specs.Lines.{id_line, id_text, id_of, Id}
 use Rattle.ssh_wire.specs.Sides.{same_side, other_side}
 use Rattle.ssh_wire.specs.declared.error.Error.{Error}
 use Rattle.ssh_wire.specs.declared.error.Error.TheVariants.{PacketSize, Memory}

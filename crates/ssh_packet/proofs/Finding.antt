@@ -1,12 +1,12 @@
 -- The packet that the code takes apart is the one that stands there.
-use Rattle.std.proofs.Common.{◌≡◌, ℕ, ◌+◌, ◌-◌, ◌*◌, ◌<◌, ◌≤◌, List, [], ◌∷◌, ◌++◌, length, take, drop, slice_index, refl, sym, ◌∙◌, ap, arith, add-zero, Bool, true, false, if◌then◌else◌, nat_lt, ◌||◌, length-append, length-drop}
+use Rattle.std.proofs.Common.{◌≡◌, ℕ, ◌+◌, ◌-◌, ◌*◌, ◌<◌, ◌≤◌, List, [], ◌∷◌, length, take, drop, slice_index, sym, ◌∙◌, ap, arith, add-zero, Bool, true, if◌then◌else◌, nat_lt, ◌||◌, length-drop}
 use Rattle.std.proofs.lemmas.Bool.Decides.{nat_tests}
 use Rattle.std.proofs.lemmas.Grind.{common_steps}
 use Rattle.std.proofs.lemmas.List.{take-append-le, drop-append-le, take-append-drop}
 use Rattle.std.specs.Int.{w32, from_be_bytes}
 use Rattle.ssh_packet.specs.Sealing.{Clear}
-use Rattle.ssh_packet.specs.Front.{Front, Whole, Unfinished, Refused, PacketSize, IndexOutOfBounds, length_in, is_bad_length, parted, parted_by, opened, measured, front_of}
-use Rattle.ssh_packet.specs.Finding.{Finds, FindsWhole}
+use Rattle.ssh_packet.specs.Front.{Whole, Unfinished, Refused, PacketSize, length_in, parted_by, opened, measured, front_of}
+use Rattle.ssh_packet.specs.Finding.{FindsWhole}
 use Rattle.ssh_packet.proofs.Fronts.{not_below, left_out, good_length}
 
 -- bytes inside a front are those of the whole

@@ -1,12 +1,12 @@
 -- What a reader finds at the front: a packet that stands there, and the same when bytes come behind.
-use Rattle.std.proofs.Common.{◌≡◌, ℕ, zero, suc, ◌+◌, ◌-◌, ◌^◌, ◌<◌, ◌≤◌, List, [], ◌∷◌, ◌++◌, length, take, drop, slice_index, refl, sym, ◌∙◌, ap, subst, arith, Bool, true, false, if◌then◌else◌, ◌||◌, nat_lt, append-nil, length-append, length-drop}
+use Rattle.std.proofs.Common.{◌≡◌, ℕ, ◌+◌, ◌-◌, ◌<◌, ◌≤◌, List, ◌++◌, length, take, drop, refl, sym, ◌∙◌, ap, subst, arith, Bool, true, false, if◌then◌else◌, ◌||◌, nat_lt, length-append}
 use Rattle.std.proofs.lemmas.Bool.Decides.{nat_tests}
 use Rattle.std.proofs.lemmas.List.{take-append-le, drop-append-le}
 use Rattle.std.proofs.lemmas.Nat.{from_be_bytes-to_be_bytes_4}
 use Rattle.std.proofs.Math.Seq.{take-append_seam, drop-append_seam}
 use Rattle.std.specs.Int.{w32, from_be_bytes}
-use Rattle.ssh_packet.specs.Sealing.{Item, Sealing, Clear, framed, packet_length, sealed, IsAdmissible, tag_size}
-use Rattle.ssh_packet.specs.Front.{Fault, Front, Whole, Unfinished, Refused, PacketSize, IndexOutOfBounds, probe, length_in, is_bad_length, text_in, parted, parted_by, opened, measured, front_of}
+use Rattle.ssh_packet.specs.Sealing.{Item, Sealing, Clear, framed, packet_length, sealed, IsAdmissible}
+use Rattle.ssh_packet.specs.Front.{Fault, Front, Whole, Unfinished, Refused, length_in, is_bad_length, parted, parted_by, opened, measured, front_of}
 use Rattle.ssh_packet.proofs.Shapes.{front_framed, length_framed, item_alike}
 
 pub not_below : (a b : ℕ) → b ≤ a → nat_lt a b ≡ false

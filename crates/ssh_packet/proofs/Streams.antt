@@ -1,6 +1,6 @@
 -- Two readings of the same bytes are one.
 use Rattle.std.proofs.Common.{◌≡◌, ℕ, List, [], ◌∷◌, ◌++◌, refl, sym, ◌∙◌, ap, subst, append_assoc}
-use Rattle.ssh_packet.specs.Sealing.{Item, Sealing, sealed, moved_on, next_number, IsAdmissible}
+use Rattle.ssh_packet.specs.Sealing.{Item, Sealing, sealed, moved_on, next_number}
 use Rattle.ssh_packet.specs.Stream.{packets, AreAdmissible, sealing_after, number_after, IsEnd, Entries}
 use Rattle.ssh_packet.proofs.Shapes.{one_packet}
 

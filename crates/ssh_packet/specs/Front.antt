@@ -1,5 +1,5 @@
 -- What a reader finds at the front of the bytes that wait.
-use Rattle.std.specs.Prelude.{◌≡◌, ℕ, ◌+◌, ◌-◌, nat_lt, ◌||◌, Bool, if◌then◌else◌, List, [], ◌∷◌, length, take, drop, slice_index, replicate, ◌++◌, refl}
+use Rattle.std.specs.Prelude.{◌≡◌, ℕ, ◌+◌, ◌-◌, nat_lt, ◌||◌, Bool, if◌then◌else◌, List, [], ◌∷◌, length, take, drop, slice_index, replicate, refl}
 use Rattle.std.specs.Int.{w32, from_be_bytes}
 use Rattle.ssh_packet.specs.Sealing.{Item, Sealing, Clear, tag_size, longest_packet}
 

@@ -1,8 +1,8 @@
 -- What is true of every packet and of every stream of packets.
-use Rattle.std.specs.Prelude.{◌≡◌, ◌≢◌, ℕ, ◌+◌, ◌%◌, ◌≤◌, List, [], ◌++◌, length}
+use Rattle.std.specs.Prelude.{◌≡◌, ℕ, ◌+◌, ◌%◌, ◌≤◌, List, ◌++◌}
 use Rattle.ssh_packet.specs.Sealing.{Item, Sealing, Clear, IsAdmissible, sealed, padding_length}
 use Rattle.ssh_packet.specs.Stream.{Entries}
-use Rattle.ssh_packet.specs.Front.{Front, Whole, Unfinished, Fault, Refused, front_of}
+use Rattle.ssh_packet.specs.Front.{Whole, Fault, Refused, front_of}
 
 -- state, number and bytes determine the packet, whatever follows it
 abbrev pub OnePacket : Type 0

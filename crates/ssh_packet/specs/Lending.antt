@@ -1,5 +1,5 @@
 -- What a reader is once the packet that it lends is given back, and a writer once its buffer is.
-use Rattle.std.specs.Prelude.{◌≡◌, ◌<◌, ℕ, true, false, List, length, Option, Some, None, Result, Ok, Err}
+use Rattle.std.specs.Prelude.{◌≡◌, ◌<◌, true, false, length, Option, Some, None, Result, Ok, Err}
 use Rattle.std.specs.Borrow.{MutBor, Lends, Fml}
 use Rattle.std.specs.Io.BufRead.{Rests}
 use Rattle.ssh_packet.specs.Front.{PacketSize, IndexOutOfBounds, Whole, Unfinished, Refused, front_of}

@@ -1,4 +1,4 @@
-use Rattle.std.proofs.Common.{ℕ, ◌≡◌, sym, subst}
+use Rattle.std.proofs.Common.{sym, subst}
 use Rattle.ssh_packet.specs.Sealing.{Sealing}
 use Rattle.ssh_packet.specs.Front.{front_of}
 use Rattle.ssh_packet.specs.Finding.{Finds}

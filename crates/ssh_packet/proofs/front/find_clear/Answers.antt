@@ -1,6 +1,6 @@
-use Rattle.std.proofs.Common.{ℕ, ◌≡◌, ◌≤◌, ◌<◌, ◌+◌, length, ap, sym, subst, ◌∙◌, arith}
+use Rattle.std.proofs.Common.{ap, sym, subst, ◌∙◌}
 use Rattle.ssh_packet.specs.Sealing.{Clear}
-use Rattle.ssh_packet.specs.Front.{Front, front_of, length_in, measured, opened}
+use Rattle.ssh_packet.specs.Front.{Front, measured}
 use Rattle.ssh_packet.specs.Finding.{Finds}
 use Rattle.ssh_packet.proofs.Finding.{finds_few, front_measured, measured_long, measured_short, opened_unfinished}
 use Rattle.ssh_packet.proofs.front.find_clear.Goals as goal

@@ -1,4 +1,4 @@
-use Rattle.std.proofs.Common.{◌≡◌, ◌∙◌, ℕ, ap, sym, List, ◌++◌, ◌∷◌, [], take, ◌+◌, ◌-◌, replicate, vec_len, length, arith}
+use Rattle.std.proofs.Common.{◌∙◌, ap, ◌++◌, ◌∷◌, [], take, ◌+◌, ◌-◌, replicate, vec_len, length, arith}
 use Rattle.ssh_packet.proofs.Built.{built}
 use Rattle.ssh_packet.proofs.writer.append_framed.Goals as goal
 

@@ -1,4 +1,4 @@
-use Rattle.std.proofs.Common.{◌≡◌, inl, inr, refl, ◌⊎◌}
+use Rattle.std.proofs.Common.{inl, inr, refl}
 use Rattle.std.proofs.lemmas.Result.{err_from_is_err_and}
 use Rattle.ssh_link.proofs.ReadLoop.{read_one, read_all, read_stops}
 use Rattle.ssh_link.proofs.receiver.Receiver.read.Goals as goal

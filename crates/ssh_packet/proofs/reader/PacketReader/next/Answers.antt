@@ -1,4 +1,4 @@
-use Rattle.std.proofs.Common.{rules, ◌≡◌, refl, sym, ap, subst, ◌∙◌, arith, length-drop, List, ℕ, ◌+◌, ◌-◌, ◌≤◌, length, min, take, drop}
+use Rattle.std.proofs.Common.{◌≡◌, refl, sym, ap, subst, ◌∙◌, arith, length-drop, List, ℕ, ◌+◌, length, min, take, drop}
 use Rattle.std.proofs.lemmas.List.{drop-drop}
 use Rattle.ssh_packet.specs.Sealing.{Item}
 use Rattle.ssh_packet.specs.Front.{Whole, front_of}
