@@ -1,0 +1,4 @@
+pub mod Zeros
+pub mod Digests
+pub mod Hashing
+pub mod Hmac
