@@ -5,6 +5,10 @@
 mod digest;
 mod hash_value;
 mod hmac;
+mod keys;
+pub mod mac;
+
+
 
 pub use crate::digest::{DigestKind, Hasher};
 pub use crate::hash_value::HashValue;
