@@ -20,7 +20,7 @@ front_and_zeros : (n more : ℕ) (bytes : List ℕ) → length bytes + more ≤ 
     take (length bytes + more) (bytes ++ drop (length bytes) (zeros n)) ≡ bytes ++ zeros more
 front_and_zeros n more bytes long =
     rw (zeros-dropped n (length bytes), take-append-add bytes (zeros (n - length bytes)) more)
-      (ap (λ z. bytes ++ z) (zeros-taken (n - length bytes) more (omega arith)))
+    (ap (λ z. bytes ++ z) (zeros-taken (n - length bytes) more (omega arith)))
 
 -- the front of bytes with zeros behind them
 pub front_filled : (n k : ℕ) (bytes front : List ℕ) → front ≡ bytes → length bytes ≤ k → k ≤ n →

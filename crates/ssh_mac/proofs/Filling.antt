@@ -18,7 +18,8 @@ pub filled : (n : ℕ) (bytes front : List ℕ) → front ≡ bytes → length b
     (length bytes ≤ n) × (length (front ++ drop (length bytes) (zeros n)) ≡ n) × (drop (length bytes) (front ++ drop (length bytes) (zeros n)) ≡ zeros (n - length bytes))
 filled n bytes front same short =
     let rest = zeros-dropped n (length bytes) in
-    let long = ap length same in
-    (short,
-     omega (arith, length-append front (drop (length bytes) (zeros n)), long, ap length rest, length-zeros (n - length bytes)),
-     drop-append-drop (length bytes) (zeros n) front (length bytes) (omega arith) long ∙ rest)
+    let long = ap length same in (
+      short,
+      omega (arith, length-append front (drop (length bytes) (zeros n)), long, ap length rest, length-zeros (n - length bytes)),
+      drop-append-drop (length bytes) (zeros n) front (length bytes) (omega arith) long ∙ rest,
+    )

@@ -23,6 +23,5 @@ HasTaken (Sha384 hasher) text = Holds384 hasher text
 HasTaken (Sha512 hasher) text = Holds512 hasher text
 
 -- the hasher hashes by this function, and this is the text so far
-pub record IsHashing (hasher : Hasher) (kind : DigestKind) (text : List ℕ) : Type 0 where
-  pub kind_is : kind_of hasher.state ≡ kind
-  pub text_is : HasTaken hasher.state text
+unfoldable pub IsHashing : Hasher → DigestKind → List ℕ → Type 0
+IsHashing hasher kind text = (kind_of hasher.state ≡ kind) × HasTaken hasher.state text

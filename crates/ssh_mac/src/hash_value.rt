@@ -29,8 +29,8 @@ impl Model for HashValue {
     ghost inverse = { λ b. record { bytes = b ++ zeros (64 - length b); len = length b } };
 
     ghost inverse_ok = { λ h k i. record {
-        bytes = refilled h.len h.bytes k.0 k.1 k.2 i;
-        len = length-take-le h.len h.bytes (omega (arith, k.0, k.1)) i;
+      bytes = refilled h.len h.bytes k.0 k.1 k.2 i;
+      len = length-take-le h.len h.bytes (omega (arith, k.0, k.1)) i;
     } };
 }
 

@@ -9,6 +9,7 @@ use crate::hash_value::HashValue;
 
 /// The bytes that the key is combined with, for the inner and for the outer digest (section 2).
 const INNER: u8 = 0x36;
+
 const OUTER: u8 = 0x5c;
 
 /// The length of the longest block of a hash function, in bytes.

@@ -85,7 +85,12 @@ impl CryptoMac {
         ensures size { length result ≡ digest_length self.now.digest }
     {
         let key_len = self.kind.digest_len();
-        hmac_of(self.kind, &self.key[..key_len], &sequence_number.to_be_bytes(), payload)
+        hmac_of(
+            self.kind,
+            &self.key[..key_len],
+            &sequence_number.to_be_bytes(),
+            payload,
+        )
     }
 }
 

@@ -3,7 +3,6 @@
 ghost use Rattle.std.specs.Prelude.{◌≡◌, ◌↔◌, length};
 
 use crate::digest::DigestKind;
-
 pub use crate::keys::{CryptoEtmMac, CryptoMac, Mac, MacKey, NoMac};
 
 /// The name of a MAC.
@@ -19,11 +18,17 @@ pub enum Name {
 }
 
 pub const NONE: Name = Name::NoMac;
+
 pub const HMAC_SHA1: Name = Name::HmacSha1;
+
 pub const HMAC_SHA256: Name = Name::HmacSha256;
+
 pub const HMAC_SHA512: Name = Name::HmacSha512;
+
 pub const HMAC_SHA1_ETM: Name = Name::HmacSha1Etm;
+
 pub const HMAC_SHA256_ETM: Name = Name::HmacSha256Etm;
+
 pub const HMAC_SHA512_ETM: Name = Name::HmacSha512Etm;
 
 /// Each name once.
@@ -95,9 +100,18 @@ impl Name {
             Name::HmacSha1 => MacKey::Plain(CryptoMac::new(DigestKind::Sha1, key)),
             Name::HmacSha256 => MacKey::Plain(CryptoMac::new(DigestKind::Sha256, key)),
             Name::HmacSha512 => MacKey::Plain(CryptoMac::new(DigestKind::Sha512, key)),
-            Name::HmacSha1Etm => MacKey::Etm(CryptoEtmMac::new(CryptoMac::new(DigestKind::Sha1, key))),
-            Name::HmacSha256Etm => MacKey::Etm(CryptoEtmMac::new(CryptoMac::new(DigestKind::Sha256, key))),
-            Name::HmacSha512Etm => MacKey::Etm(CryptoEtmMac::new(CryptoMac::new(DigestKind::Sha512, key))),
+            Name::HmacSha1Etm => MacKey::Etm(CryptoEtmMac::new(CryptoMac::new(
+                DigestKind::Sha1,
+                key,
+            ))),
+            Name::HmacSha256Etm => MacKey::Etm(CryptoEtmMac::new(CryptoMac::new(
+                DigestKind::Sha256,
+                key,
+            ))),
+            Name::HmacSha512Etm => MacKey::Etm(CryptoEtmMac::new(CryptoMac::new(
+                DigestKind::Sha512,
+                key,
+            ))),
         }
     }
 }

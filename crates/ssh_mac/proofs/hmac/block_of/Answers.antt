@@ -12,7 +12,7 @@ returns-then-key-block_len c =
     let long : block_length c.args.kind < length c.args.key.now = omega arith in
     let hash = simp append-nil at c.digest_of_parts-hash.ensures in
     long_key c.args.kind c.args.key.now c.as_bytes-bytes.result.now _ long (c.as_bytes-bytes.ensures.value ∙ hash) c.copy_from_slice.ensures.after
-      (omega (arith, ap length c.as_bytes-bytes.ensures.value, c.as_bytes-bytes.ensures.short))
+    (omega (arith, ap length c.as_bytes-bytes.ensures.value, c.as_bytes-bytes.ensures.short))
 
 pub returns-else-key-block_len : goal.returns-else-key-block_len
 unfolding zeros
