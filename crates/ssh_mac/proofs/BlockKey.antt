@@ -1,12 +1,12 @@
 -- The key of a block, in an array that is longer, and HMAC over it.
-use Rattle.std.proofs.Common.{◌≡◌, ℕ, ◌+◌, ◌-◌, ◌≤◌, ◌<◌, List, [], ◌++◌, length, take, drop, ap, subst, sym, ◌∙◌, refl, arith, length-append, append_assoc, cond, nat_lt, true, false, map, bit_xor, set, get_or}
-use Rattle.std.proofs.lemmas.List.{length-replicate, take-map}
+use Rattle.std.proofs.Common.{◌≡◌, ℕ, ◌+◌, ◌-◌, ◌≤◌, ◌<◌, List, [], ◌++◌, length, take, drop, ap, subst, sym, ◌∙◌, refl, arith, append_assoc, bit_xor, set, get_or}
+use Rattle.std.proofs.lemmas.List.{take-map}
 use Rattle.ssh_mac.specs.declared.digest.DigestKind.{DigestKind}
 use Rattle.ssh_mac.specs.declared.digest.DigestKind.TheVariants.{Sha1, Sha256, Sha384, Sha512}
 use Rattle.ssh_mac.specs.Digests.{digest_of, block_length}
 use Rattle.ssh_mac.specs.Hmac.{block_key, short_key, combined, hmac}
 use Rattle.ssh_mac.specs.Zeros.{zeros}
-use Rattle.ssh_mac.proofs.Filling.{zeros-dropped, length-zeros}
+use Rattle.ssh_mac.proofs.Filling.{zeros-dropped}
 use Rattle.std.proofs.lemmas.List.{take-replicate, append-nil, get_or_default}
 use Rattle.std.proofs.lemmas.List.Edits.{map_over_more}
 use Rattle.std.proofs.lemmas.Bool.{lt-ltb, le-ltb}

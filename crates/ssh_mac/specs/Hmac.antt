@@ -1,5 +1,5 @@
 -- HMAC (RFC 2104 section 2).
-use Rattle.std.specs.Prelude.{◌≡◌, ℕ, ◌-◌, nat_lt, if◌then◌else◌, List, [], ◌∷◌, ◌++◌, length, map, bit_xor}
+use Rattle.std.specs.Prelude.{ℕ, ◌-◌, nat_lt, if◌then◌else◌, List, ◌++◌, length, map, bit_xor}
 use Rattle.ssh_mac.specs.declared.digest.DigestKind.{DigestKind}
 use Rattle.ssh_mac.specs.Digests.{digest_of, block_length}
 use Rattle.ssh_mac.specs.Zeros.{zeros}

@@ -1,5 +1,4 @@
 -- What the keys of a MAC are for a contract.
-use Rattle.std.specs.Prelude.{ℕ, List}
 use Rattle.ssh_mac.specs.Tags as T
 use Rattle.ssh_mac.specs.Tags.{MacOf}
 use Rattle.ssh_mac.specs.declared.keys.MacKey.{MacKey}

@@ -11,7 +11,7 @@ const LONGEST: usize = 64;
 #[derive(Clone, Copy, Debug, PartialEq, Eq)]
 pub struct HashValue {
     // The hash, and zeros behind it.
-    bytes: [u8; 64],
+    bytes: [u8; LONGEST],
     len: usize,
 }
 
@@ -40,7 +40,7 @@ impl HashValue {
         ensures { result ≡ [] }
     {
         HashValue {
-            bytes: [0; 64],
+            bytes: [0; LONGEST],
             len: 0,
         }
     }

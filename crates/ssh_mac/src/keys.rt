@@ -1,11 +1,15 @@
 //! What authenticates packets: the trait of MACs, HMAC over packets in clear and over encrypted ones, and none.
 
 ghost use Rattle.std.specs.Prelude.{◌≡◌, ℕ, List, Bool, true, length};
+ghost use Rattle.std.specs.Str.{bytes_eq};
 
 use crate::digest::DigestKind;
 use crate::hash_value::HashValue;
 use crate::hmac::hmac_of;
 use std::marker::Model;
+
+/// The length of the longest key, in bytes.
+const LONGEST_KEY: usize = 64;
 
 /// A message authentication code under its key.
 pub trait Mac {
@@ -48,12 +52,26 @@ pub trait Mac {
     ghost accepted_is_tag: { (m : Self) (number : ℕ) (text given : List ℕ) → accepts m number text given ≡ true → length given ≡ size m → given ≡ tag m number text };
 }
 
+// Whether two texts are equal. Every byte of texts of one length is looked at, whatever the bytes are.
+fn is_same(tag: &[u8], given: &[u8]) -> bool
+    ensures { result ≡ bytes_eq tag.now given.now }
+{
+    if tag.len() != given.len() {
+        return false;
+    }
+    let mut difference = 0;
+    for i in 0..tag.len() {
+        difference |= tag[i] ^ given[i];
+    }
+    difference == 0
+}
+
 /// HMAC over the packet in clear, under a key as long as the digest.
 #[derive(Drop)]
 pub struct CryptoMac {
     kind: DigestKind,
     // The key, with bytes behind it that are never read.
-    key: [u8; 64],
+    key: [u8; LONGEST_KEY],
 }
 
 impl Model for CryptoMac {
@@ -74,7 +92,7 @@ impl CryptoMac {
         requires { length key.now ≡ digest_length kind }
         ensures { result ≡ record { digest = kind; key = key.now } }
     {
-        let mut whole = [0; 64];
+        let mut whole = [0; LONGEST_KEY];
         whole[..key.len()].copy_from_slice(key);
         CryptoMac { kind, key: whole }
     }
@@ -127,7 +145,7 @@ impl Mac for CryptoMac {
 
     fn verify(&self, sequence_number: u32, payload: &[u8], mac: &[u8]) -> bool {
         let computed = self.tag_for(sequence_number, payload);
-        computed.as_bytes() == mac
+        is_same(computed.as_bytes(), mac)
     }
 }
 
@@ -146,10 +164,15 @@ impl Model for CryptoEtmMac {
 }
 
 impl CryptoEtmMac {
-    pub(crate) fn new(mac: CryptoMac) -> CryptoEtmMac
-        ensures { result ≡ mac }
+    ghost use Rattle.ssh_mac.specs.Digests.{digest_length};
+
+    pub(crate) fn new(kind: DigestKind, key: &[u8]) -> CryptoEtmMac
+        requires { length key.now ≡ digest_length kind }
+        ensures { result ≡ record { digest = kind; key = key.now } }
     {
-        CryptoEtmMac { mac }
+        CryptoEtmMac {
+            mac: CryptoMac::new(kind, key),
+        }
     }
 }
 

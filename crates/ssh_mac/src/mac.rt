@@ -100,18 +100,9 @@ impl Name {
             Name::HmacSha1 => MacKey::Plain(CryptoMac::new(DigestKind::Sha1, key)),
             Name::HmacSha256 => MacKey::Plain(CryptoMac::new(DigestKind::Sha256, key)),
             Name::HmacSha512 => MacKey::Plain(CryptoMac::new(DigestKind::Sha512, key)),
-            Name::HmacSha1Etm => MacKey::Etm(CryptoEtmMac::new(CryptoMac::new(
-                DigestKind::Sha1,
-                key,
-            ))),
-            Name::HmacSha256Etm => MacKey::Etm(CryptoEtmMac::new(CryptoMac::new(
-                DigestKind::Sha256,
-                key,
-            ))),
-            Name::HmacSha512Etm => MacKey::Etm(CryptoEtmMac::new(CryptoMac::new(
-                DigestKind::Sha512,
-                key,
-            ))),
+            Name::HmacSha1Etm => MacKey::Etm(CryptoEtmMac::new(DigestKind::Sha1, key)),
+            Name::HmacSha256Etm => MacKey::Etm(CryptoEtmMac::new(DigestKind::Sha256, key)),
+            Name::HmacSha512Etm => MacKey::Etm(CryptoEtmMac::new(DigestKind::Sha512, key)),
         }
     }
 }
