@@ -1,4 +1,5 @@
 pub mod Forms
+pub mod Fields
 pub mod Lines
 pub mod Reading
 pub mod Stage

@@ -1,12 +1,11 @@
 //! Reading the peer's version line in pieces (RFC 4253 section 4.2).
 
 ghost use Rattle.std.specs.Prelude.{◌≡◌, ◌≤◌, ◌<◌, false, ◌+◌, ◌++◌, IfOk, IfSome, None, length, [], is_some, take};
-ghost use Rattle.std.specs.Str.{is_utf8};
 ghost use Rattle.ssh_wire.specs.Lines.{lf_end, line_end, without_cr, line_text, is_id_text};
 
 use crate::error::Error;
+use crate::fields::is_utf8_text;
 use std::marker::Model;
-use std::str;
 
 /// The longest version line with its ending, in bytes (RFC 4253 section 4.2).
 const LONGEST_LINE: usize = 255;
@@ -187,12 +186,6 @@ fn names_protocol(text: &[u8]) -> bool
     ensures { result ≡ is_id_text text.now }
 {
     (text.starts_with(b"SSH-2.0-") || text.starts_with(b"SSH-1.99-")) && is_utf8_text(text)
-}
-
-fn is_utf8_text(bytes: &[u8]) -> bool
-    ensures { result ≡ is_utf8 bytes.now }
-{
-    str::from_utf8(bytes).is_ok()
 }
 
 /// Writes the piece over the bytes from `at` on.
