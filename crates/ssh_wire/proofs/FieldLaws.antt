@@ -13,10 +13,10 @@ use Rattle.ssh_wire.specs.declared.error.EncodingFault.{EncodingFault}
 use Rattle.ssh_wire.specs.declared.error.EncodingFault.TheVariants.{Length, CharacterEncoding, MpintEncoding}
 use Rattle.ssh_wire.proofs.Magnitudes.{NoZeroFirst, shortest_is, magnitude_front, magnitude_same, unsigned_shortest, magnitude_unsigned, unsigned_length, magnitude_length}
 
-same_pair : {A : Type 0} (p q : A) → (r : Result A EncodingFault) → r ≡ Ok p → r ≡ Ok q → p ≡ q
+pub same_pair : {A : Type 0} (p q : A) → (r : Result A EncodingFault) → r ≡ Ok p → r ≡ Ok q → p ≡ q
 same_pair p q r h k = let same : Ok p ≡ Ok q = sym h ∙ k in cc
 
-bind_ok : {A B : Type 0} (r : Result A EncodingFault) (f : A → Result B EncodingFault) (y : B) → (r >>= f) ≡ Ok y → (x : A) × (r ≡ Ok x) × (f x ≡ Ok y)
+pub bind_ok : {A B : Type 0} (r : Result A EncodingFault) (f : A → Result B EncodingFault) (y : B) → (r >>= f) ≡ Ok y → (x : A) × (r ≡ Ok x) × (f x ≡ Ok y)
 bind_ok (Ok x) f y h = (x, refl, h)
 bind_ok (Err e) f y h = cc
 

@@ -3,6 +3,7 @@ pub mod Feeding
 pub mod FieldLaws
 pub mod LineLaws
 pub mod Magnitudes
+pub mod NameLaws
 pub mod Numbers
 pub mod Trimming
 pub mod Utf8

@@ -55,6 +55,16 @@ abbrev pub answered : {Y : Type 0} → Result Y EncodingFault → Result Y Error
 answered (Ok y) = Ok y
 answered (Err f) = Err (SshEncoding f)
 
+-- what was made of a text, its value seen by `view`, unless memory is wanting
+abbrev pub Gives : {X Y : Type 0} → (X → Y) → Result Y EncodingFault → Result X Error → Type 0
+Gives view read (Ok x) = read ≡ Ok (view x)
+Gives view read (Err e) = (e ≡ Memory) ⊎ (answered read ≡ Err e)
+
+-- what is made where memory isn't wanting
+abbrev pub IsMadeInMemory : {X Y : Type 0} → (X → Y) → Y → Result X Error → Type 0
+IsMadeInMemory view y (Ok x) = view x ≡ y
+IsMadeInMemory view y (Err e) = e ≡ Memory
+
 -- A read at the front of `old`, its value seen by `view`. A refusal takes nothing.
 abbrev pub Takes : {X Y : Type 0} → (X → Y) → Result (Y × List ℕ) EncodingFault → List ℕ → Result X Error → List ℕ → Type 0
 Takes view read old (Ok x) new = read ≡ Ok (view x, new)

@@ -1,6 +1,7 @@
--- What is true of every version line and every number.
-use Rattle.std.specs.Prelude.{◌≡◌, ℕ, ◌<◌, List, ◌++◌, length, take}
-use Rattle.ssh_wire.specs.Forms.{AreBytes, number, magnitude, unsigned, mpint}
+-- What is true of every version line, number and name list.
+use Rattle.std.specs.Prelude.{◌≡◌, ℕ, ◌<◌, List, ◌++◌, length, take, Ok}
+use Rattle.ssh_wire.specs.Forms.{AreBytes, number, magnitude, unsigned, mpint, joined}
+use Rattle.ssh_wire.specs.Names.{names_of, AreNames, without_last_comma}
 use Rattle.ssh_wire.specs.Lines.{id_of, NotYet, Id}
 
 -- an id line that was found stays found when bytes come behind
@@ -22,3 +23,11 @@ OneMpint = (s t : List ℕ) → AreBytes s → AreBytes t → number s ≡ numbe
 -- equal mpints are of equal numbers
 abbrev pub EqualMpints : Type 0
 EqualMpints = (s t : List ℕ) → mpint s ≡ mpint t → number s ≡ number t
+
+-- names that were joined are read again
+abbrev pub JoinedRead : Type 0
+JoinedRead = (names : List (List ℕ)) → AreNames names → names_of (joined names) ≡ Ok names
+
+-- names that were read are the text, but for one comma at its end
+abbrev pub ReadSpelled : Type 0
+ReadSpelled = (text : List ℕ) (names : List (List ℕ)) → names_of text ≡ Ok names → joined names ≡ without_last_comma text

@@ -1,5 +1,7 @@
 pub mod Forms
 pub mod Fields
+pub mod Names
+pub mod Naming
 pub mod Lines
 pub mod Reading
 pub mod Stage

@@ -1,6 +1,6 @@
 //! Laws of the forms and of version lines, for proofs above to cite.
 
-ghost use Rattle.ssh_wire.specs.Laws.{IdStays, LessThanALine, MpintNumber, OneMpint, EqualMpints};
+ghost use Rattle.ssh_wire.specs.Laws.{IdStays, LessThanALine, MpintNumber, OneMpint, EqualMpints, JoinedRead, ReadSpelled};
 
 /// An id line that was found stays found when bytes come behind.
 pub fn id_stays()
@@ -25,4 +25,14 @@ pub fn one_mpint()
 /// Equal mpints are of equal numbers.
 pub fn equal_mpints()
     ensures { EqualMpints }
+{}
+
+/// Reading the names that were joined gives them again.
+pub fn joined_read()
+    ensures { JoinedRead }
+{}
+
+/// Names that were read are the text, but for one comma at its end.
+pub fn read_spelled()
+    ensures { ReadSpelled }
 {}

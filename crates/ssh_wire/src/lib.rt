@@ -8,6 +8,7 @@ mod error;
 mod fields;
 mod laws;
 mod limited;
+mod name_list;
 mod outside;
 mod read_id;
 mod reader;
@@ -19,7 +20,9 @@ mod tests;
 pub use crate::bytes::{Blob, NameList, Payload, PayloadList, Text};
 pub use crate::encoding::{encode_mpint, put_string, put_u8, put_u32};
 pub use crate::error::{AlgorithmKind, ConfigFault, EncodingFault, Error};
-pub use crate::laws::{equal_mpints, id_stays, less_than_a_line, mpint_number, one_mpint};
+pub use crate::laws::{
+    equal_mpints, id_stays, joined_read, less_than_a_line, mpint_number, one_mpint, read_spelled,
+};
 pub use crate::limited::LimitedString;
 pub use crate::outside::{Failed, Sink, Source};
 pub use crate::read_id::{IdProgress, ReadSshIdBuffer, without_last_cr};
