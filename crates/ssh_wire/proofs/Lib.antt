@@ -1,6 +1,7 @@
 pub mod Ends
 pub mod Feeding
 pub mod FieldLaws
+pub mod Finding
 pub mod LineLaws
 pub mod Magnitudes
 pub mod NameLaws

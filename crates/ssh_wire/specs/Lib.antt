@@ -8,3 +8,9 @@ pub mod Stage
 pub mod Outside
 pub mod Sides
 pub mod Laws
+pub mod Orders
+pub mod Reasons
+pub mod Signals
+pub mod FailureTexts
+pub mod OpenFailures
+pub mod Algorithms
