@@ -5,6 +5,8 @@ pub mod Naming
 pub mod Lines
 pub mod Reading
 pub mod Stage
+pub mod Stepping
+pub mod FromSource
 pub mod Outside
 pub mod Sides
 pub mod Laws

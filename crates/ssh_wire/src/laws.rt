@@ -1,6 +1,6 @@
 //! Laws of the forms and of version lines, for proofs above to cite.
 
-ghost use Rattle.ssh_wire.specs.Laws.{IdStays, LessThanALine, MpintNumber, OneMpint, EqualMpints, JoinedRead, ReadSpelled};
+ghost use Rattle.ssh_wire.specs.Laws.{IdStays, LessThanALine, FedTwice, FedMore, MpintNumber, OneMpint, EqualMpints, JoinedRead, ReadSpelled};
 
 /// An id line that was found stays found when bytes come behind.
 pub fn id_stays()
@@ -35,4 +35,14 @@ pub fn joined_read()
 /// Names that were read are the text, but for one comma at its end.
 pub fn read_spelled()
     ensures { ReadSpelled }
+{}
+
+/// Two pieces, of which the first decides nothing, are read as one.
+pub fn fed_twice()
+    ensures { FedTwice }
+{}
+
+/// A piece that decides is read the same with bytes behind it.
+pub fn fed_more()
+    ensures { FedMore }
 {}

@@ -9,6 +9,7 @@ mod disconnect;
 mod encoding;
 mod error;
 mod fields;
+mod from_source;
 mod laws;
 mod limited;
 mod limits;
@@ -24,6 +25,7 @@ mod send_error;
 mod side;
 mod signal;
 mod ssh_id;
+mod ssh_read;
 mod strict_order;
 #[cfg(test)]
 mod tests;
@@ -35,7 +37,8 @@ pub use crate::disconnect::Disconnect;
 pub use crate::encoding::{encode_mpint, put_string, put_u8, put_u32};
 pub use crate::error::{AlgorithmKind, ConfigFault, EncodingFault, Error};
 pub use crate::laws::{
-    equal_mpints, id_stays, joined_read, less_than_a_line, mpint_number, one_mpint, read_spelled,
+    equal_mpints, fed_more, fed_twice, id_stays, joined_read, less_than_a_line, mpint_number,
+    one_mpint, read_spelled,
 };
 pub use crate::limited::LimitedString;
 pub use crate::limits::Limits;
@@ -49,6 +52,7 @@ pub use crate::send_error::SendError;
 pub use crate::side::Side;
 pub use crate::signal::Sig;
 pub use crate::ssh_id::SshId;
+pub use crate::ssh_read::SshRead;
 pub use crate::strict_order::{
     is_kex_msg, validate_client_msg_strict_kex, validate_server_msg_strict_kex,
 };
