@@ -35,7 +35,7 @@ pub record ReadsPackets (id : SshId) (payloads : List (List ℕ)) (taken : ℕ) 
   pub live : r.reader.failed ≡ false
 
 abbrev pub ReadsBy : IdReading → SshId → List (List ℕ) → ℕ → Receiver → Type 0
-ReadsBy (Waiting waiting) id payloads taken r = ReadsLine id taken waiting r
+ReadsBy (Waiting waiting others) id payloads taken r = ReadsLine id taken waiting r
 ReadsBy (Heard text) id payloads taken r = ReadsPackets id payloads taken r
 ReadsBy Failed id payloads taken r = ⊥
 
@@ -137,12 +137,12 @@ begins id payloads taken n waiting piece r h p enough =
     ap (λ w. (w ++ drop (length (id_line id) - length waiting) piece) ++ drop (taken + n) (clear_wire id payloads)) h.empty
     ∙ (behind_line id payloads taken n waiting piece r h p enough ∙ ap (λ k. sent_from k payloads) (sym h.number))
 
-takes_line : (id : SshId) (payloads : List (List ℕ)) (taken n : ℕ) (waiting piece : List ℕ) (r new : Receiver) → IsWholeLine id → AreSent payloads → ReadsLine id taken waiting r → IsPiece (clear_wire id payloads) taken n piece → TakesLine (id_of 0 (waiting ++ piece)) waiting piece r new → Reads id payloads (taken + n) new
-takes_line id payloads taken n waiting piece r new whole ok h p t = by_size (nat_lt (taken + n) (length (id_line id))) refl where
+takes_line : (id : SshId) (payloads : List (List ℕ)) (taken n others : ℕ) (waiting piece : List ℕ) (r new : Receiver) → IsWholeLine id → AreSent payloads → ReadsLine id taken waiting r → IsPiece (clear_wire id payloads) taken n piece → TakesLine (id_of 0 (waiting ++ piece)) waiting others piece r new → Reads id payloads (taken + n) new
+takes_line id payloads taken n others waiting piece r new whole ok h p t = by_size (nat_lt (taken + n) (length (id_line id))) refl where
   by_size : (b : Bool) → nat_lt (taken + n) (length (id_line id)) ≡ b → Reads id payloads (taken + n) new
   by_size true e =
       let less : taken + n < length (id_line id) = grind (arith, nat_tests) in
-      let P : IdFound → Type 0 = λ f. TakesLine f waiting piece r new in
+      let P : IdFound → Type 0 = λ f. TakesLine f waiting others piece r new in
       let goes = subst P (found_not id payloads taken n waiting piece r whole h p less) t in
       let N : IdReading → Type 0 = λ i. ReadsBy i id payloads (taken + n) new in
       subst N (sym goes.0) (record {
@@ -155,7 +155,7 @@ takes_line id payloads taken n waiting piece r new whole ok h p t = by_size (nat
       })
   by_size false e =
       let enough : length (id_line id) ≤ taken + n = grind (arith, nat_tests) in
-      let P : IdFound → Type 0 = λ f. TakesLine f waiting piece r new in
+      let P : IdFound → Type 0 = λ f. TakesLine f waiting others piece r new in
       let goes = subst P (found_line id payloads taken n waiting piece r whole h p enough) t in
       let N : IdReading → Type 0 = λ i. ReadsBy i id payloads (taken + n) new in
       let waited : length waiting ≡ taken = ap length h.waits ∙ length-take-le taken (id_line id) (omega (arith, h.short)) in
@@ -169,7 +169,7 @@ takes_line id payloads taken n waiting piece r new whole ok h p t = by_size (nat
 
 -- a piece that was taken is read
 pub takes_piece : (i : IdReading) (id : SshId) (payloads : List (List ℕ)) (taken n : ℕ) (piece : List ℕ) (r new : Receiver) → IsWholeLine id → AreSent payloads → ReadsBy i id payloads taken r → IsPiece (clear_wire id payloads) taken n piece → TakesBy i piece r new → Reads id payloads (taken + n) new
-takes_piece (Waiting waiting) id payloads taken n piece r new whole ok h p t = takes_line id payloads taken n waiting piece r new whole ok h p t
+takes_piece (Waiting waiting others) id payloads taken n piece r new whole ok h p t = takes_line id payloads taken n others waiting piece r new whole ok h p t
 takes_piece (Heard text) id payloads taken n piece r new whole ok h p t =
     let N : IdReading → Type 0 = λ i. ReadsBy i id payloads (taken + n) new in
     let sized = length_piece (clear_wire id payloads) taken n piece p in
@@ -194,7 +194,7 @@ cannot_line id payloads taken n waiting piece r whole ok h p t = by_size (nat_lt
 
 -- no piece of what was sent is refused
 pub takes_all : (i : IdReading) (id : SshId) (payloads : List (List ℕ)) (taken n : ℕ) (piece : List ℕ) (r : Receiver) → IsWholeLine id → AreSent payloads → ReadsBy i id payloads taken r → IsPiece (clear_wire id payloads) taken n piece → CannotTakeBy i piece r → ⊥
-takes_all (Waiting waiting) id payloads taken n piece r whole ok h p t = cannot_line id payloads taken n waiting piece r whole ok h p t
+takes_all (Waiting waiting others) id payloads taken n piece r whole ok h p t = cannot_line id payloads taken n waiting piece r whole ok h p t
 takes_all (Heard text) id payloads taken n piece r whole ok h p t =
     reads_all payloads h.later r piece (drop (taken + n) (clear_wire id payloads)) h.split ok h.live
     (append_assoc r.reader.waiting piece _ ∙ (ap (λ b. r.reader.waiting ++ b) (piece_and_rest (clear_wire id payloads) taken n piece p) ∙ h.stands)) t

@@ -47,7 +47,7 @@ short_push bytes (p ∷ later) payload h = h
 
 -- more is sent
 pub reads_push : (i : IdReading) (id : SshId) (payloads : List (List ℕ)) (payload : List ℕ) (taken : ℕ) (r : Receiver) → taken ≤ length (clear_wire id payloads) → ReadsBy i id payloads taken r → ReadsBy i id (payloads ++ payload ∷ []) taken r
-reads_push (Waiting waiting) id payloads payload taken r within h = h
+reads_push (Waiting waiting others) id payloads payload taken r within h = h
 reads_push (Heard text) id payloads payload taken r within h = record {
   later = h.later ++ payload ∷ [];
   split = ap (λ l. l ++ payload ∷ []) h.split ∙ append_assoc r.delivered.items h.later (payload ∷ []);
@@ -85,7 +85,7 @@ nothing_whole (p ∷ payloads) =
 
 -- what was delivered are the payloads that lie whole in the bytes taken
 pub reads_whole : (i : IdReading) (id : SshId) (payloads : List (List ℕ)) (taken : ℕ) (r : Receiver) → ReadsBy i id payloads taken r → r.delivered.items ≡ whole_in (taken - length (id_line id)) payloads
-reads_whole (Waiting waiting) id payloads taken r h =
+reads_whole (Waiting waiting others) id payloads taken r h =
     let none : taken - length (id_line id) ≡ 0 = omega (arith, h.short) in
     h.none ∙ sym (ap (λ n. whole_in n payloads) none ∙ nothing_whole payloads)
 reads_whole (Heard text) id payloads taken r h =

@@ -19,7 +19,7 @@ pub record IsFresh (id : SshId) (side : ClearEnd) : Type 0 where
   pub output : side.writer.output ≡ id_line id
   pub number : side.writer.number ≡ 0
   pub sealing : side.writer.sealing ≡ Clear
-  pub line : side.receiver.id ≡ Waiting []
+  pub line : side.receiver.id ≡ Waiting [] 0
   pub reader : side.receiver.reader ≡ record { waiting = []; number = 0; count = 0; failed = false }
   pub delivered : side.receiver.delivered.items ≡ []
   pub taken : side.taken ≡ 0

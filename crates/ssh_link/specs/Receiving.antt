@@ -27,14 +27,14 @@ abbrev pub SameReading : Receiver → Receiver → Type 0
 SameReading old new = (new.reader ≡ old.reader) × (new.delivered.items ≡ old.delivered.items)
 
 -- a piece of the line, and what stands behind it, by what the bytes so far begin with
-abbrev pub TakesLine : IdFound → List ℕ → List ℕ → Receiver → Receiver → Type 0
-TakesLine lines.NotYet waiting piece old new = (new.id ≡ Waiting (waiting ++ piece)) × SameReading old new
-TakesLine (lines.Id text end) waiting piece old new = (new.id ≡ Heard text) × ReadsOn old (drop (end - length waiting) piece) new
-TakesLine lines.Version waiting piece old new = ⊥
+abbrev pub TakesLine : IdFound → List ℕ → ℕ → List ℕ → Receiver → Receiver → Type 0
+TakesLine lines.NotYet waiting others piece old new = (new.id ≡ Waiting (waiting ++ piece) others) × SameReading old new
+TakesLine (lines.Id text end) waiting others piece old new = (new.id ≡ Heard text) × ReadsOn old (drop (end - length waiting) piece) new
+TakesLine lines.Version waiting others piece old new = ⊥
 
 -- a piece was taken
 abbrev pub TakesBy : IdReading → List ℕ → Receiver → Receiver → Type 0
-TakesBy (Waiting waiting) piece old new = TakesLine (id_of 0 (waiting ++ piece)) waiting piece old new
+TakesBy (Waiting waiting others) piece old new = TakesLine (id_of 0 (waiting ++ piece)) waiting others piece old new
 TakesBy (Heard text) piece old new = (new.id ≡ Heard text) × ReadsOn old piece new
 TakesBy Failed piece old new = ⊥
 
@@ -48,7 +48,7 @@ CannotTakeLine lines.Version waiting piece old = Unit {0}
 
 -- why a piece wasn't taken
 abbrev pub CannotTakeBy : IdReading → List ℕ → Receiver → Type 0
-CannotTakeBy (Waiting waiting) piece old = CannotTakeLine (id_of 0 (waiting ++ piece)) waiting piece old
+CannotTakeBy (Waiting waiting others) piece old = CannotTakeLine (id_of 0 (waiting ++ piece)) waiting piece old
 CannotTakeBy (Heard text) piece old = CannotRead old piece
 CannotTakeBy Failed piece old = Unit {0}
 

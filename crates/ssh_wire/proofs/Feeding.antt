@@ -1,13 +1,13 @@
 -- A line that a piece ends, as the reader keeps it.
-use Rattle.std.proofs.Common.{◌≡◌, ℕ, ◌+◌, ◌-◌, ◌<◌, ◌≤◌, true, false, List, ◌++◌, length, take, Some, Ok, Err, refl, sym, ap, ◌∙◌, arith}
+use Rattle.std.proofs.Common.{◌≡◌, ℕ, ◌+◌, ◌-◌, ◌<◌, ◌≤◌, true, false, List, [], ◌++◌, length, take, Some, Ok, Err, refl, sym, ap, ◌∙◌, arith}
 use Rattle.std.proofs.Math.Seq.{take-append-add}
 use Rattle.std.proofs.lemmas.List.{take-append-le, take-append-drop}
 use Rattle.std.proofs.lemmas.Grind.{common_steps}
 use Rattle.ssh_wire.specs.Lines.{line_end, line_text, is_id_text}
-use Rattle.ssh_wire.specs.Reading.{Waiting, Heard, Failed, FeedsLine}
-use Rattle.ssh_wire.specs.declared.error.Error.TheVariants.{Version}
-use Rattle.ssh_wire.specs.declared.read_id.IdProgress.TheVariants.{Id}
-use Rattle.ssh_wire.proofs.Ends.{id_of-line}
+use Rattle.ssh_wire.specs.Reading.{Waiting, Heard}
+use Rattle.ssh_wire.specs.Stepping.{ReadsLine}
+use Rattle.ssh_wire.specs.declared.read_id.LineRead.TheVariants as LineRead
+use Rattle.ssh_wire.proofs.Ends.{line_of-end}
 
 -- the piece's front stands behind what waited
 pub record Ends (w p line : List ℕ) (had end : ℕ) : Type 0 where
@@ -28,13 +28,14 @@ line_kept w p line had end e =
 take_front : (line : List ℕ) (text end : ℕ) → text ≤ length (take end line) → take text line ≡ take text (take end line)
 take_front line text end h = ap (take text) (sym (take-append-drop end line)) ∙ take-append-le text (take end line) _ h
 
-pub hears : (w p line : List ℕ) (had end text : ℕ) → Ends w p line had end → true ≡ is_id_text (line_text (take end line)) → take text (take end line) ≡ line_text (take end line) → text ≤ length (take end line) → FeedsLine (Waiting w) p (Ok (Id (end - had))) (Heard (take text line))
-hears w p line had end text e named text_of fits =
+pub hears : (w p line : List ℕ) (had end text others : ℕ) → Ends w p line had end → true ≡ is_id_text (line_text (take end line)) → take text (take end line) ≡ line_text (take end line) → text ≤ length (take end line) → ReadsLine (Waiting w others) p (LineRead.IdLine (end - had)) (Heard (take text line))
+hears w p line had end text others e named text_of fits =
     let shown = take_front line text end fits ∙ text_of in
-    let found = id_of-line (w ++ p) (take end line) true end e.at e.short (line_kept w p line had end e) named in
+    let found = line_of-end (w ++ p) (take end line) true end e.at e.short (line_kept w p line had end e) named in
     rw (found, e.waited, shown) (refl, refl)
 
-pub refuses : (w p line : List ℕ) (had end : ℕ) → Ends w p line had end → false ≡ is_id_text (line_text (take end line)) → FeedsLine (Waiting w) p (Err Version) Failed
-refuses w p line had end e named =
-    let found = id_of-line (w ++ p) (take end line) false end e.at e.short (line_kept w p line had end e) named in
-    rw found (refl, refl)
+pub passes : (w p line : List ℕ) (had end others : ℕ) → Ends w p line had end → false ≡ is_id_text (line_text (take end line)) → ReadsLine (Waiting w others) p (LineRead.OtherLine (end - had)) (Waiting [] others)
+passes w p line had end others e named =
+    let found = line_of-end (w ++ p) (take end line) false end e.at e.short (line_kept w p line had end e) named in
+    let beyond : had ≤ end = (let b = e.beyond in omega arith) in
+    rw (found, e.waited) (refl, refl, beyond)

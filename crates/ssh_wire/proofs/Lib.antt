@@ -1,5 +1,13 @@
+pub mod Cuts
 pub mod Ends
 pub mod Feeding
+pub mod FieldLaws
+pub mod Finding
+pub mod LineByLine
 pub mod LineLaws
+pub mod Magnitudes
+pub mod NameLaws
+pub mod Numbers
+pub mod Sources
 pub mod Trimming
 pub mod Utf8

@@ -15,7 +15,7 @@ lf_end-stays at (x ∷ b) more n h = step (nat_eq x 10) (λ e. lf_end-stays (at 
     step false behind h = behind h
 
 -- a line end lies behind the place where the bytes begin, and within them
-lf_end-within : (at : ℕ) (b : List ℕ) (n : ℕ) → lf_end at b ≡ Some n → (at < n) × (n ≤ at + length b)
+pub lf_end-within : (at : ℕ) (b : List ℕ) (n : ℕ) → lf_end at b ≡ Some n → (at < n) × (n ≤ at + length b)
 lf_end-within at [] n h = cc
 lf_end-within at (x ∷ b) n h = step (nat_eq x 10) (λ e. lf_end-within (at + 1) b n e) h
   where
@@ -33,11 +33,11 @@ lf_end-before at (x ∷ b) n (suc k) h small = step (nat_eq x 10) (λ e. lf_end-
     step true behind h = let e : at + 1 ≡ n = cc in absurd (omega arith)
     step false behind h = behind h
 
-line_end-stays : (b more : List ℕ) (n : ℕ) → line_end b ≡ Some n → line_end (b ++ more) ≡ Some n
+pub line_end-stays : (b more : List ℕ) (n : ℕ) → line_end b ≡ Some n → line_end (b ++ more) ≡ Some n
 line_end-stays [] more n h = cc
 line_end-stays (x ∷ b) more n h = lf_end-stays 1 b more n h
 
-line_end-within : (b : List ℕ) (n : ℕ) → line_end b ≡ Some n → n ≤ length b
+pub line_end-within : (b : List ℕ) (n : ℕ) → line_end b ≡ Some n → n ≤ length b
 line_end-within [] n h = cc
 line_end-within (x ∷ b) n h = let w = lf_end-within 1 b n h in omega arith
 

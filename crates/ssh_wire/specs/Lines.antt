@@ -79,6 +79,27 @@ abbrev pub id_of : ℕ → List ℕ → IdFound
 id_of zero bytes = judged bytes (λ n. Version) (line_end bytes)
 id_of (suc others) bytes = judged bytes (λ n. behind n (id_of others (drop n bytes))) (line_end bytes)
 
+-- how many other lines may stand before the id line where they are allowed
+abbrev pub other_line_limit : ℕ
+other_line_limit = 20
+
+-- the first line of bytes: an id's, with its text; an other line; too long; or not ended. Lines have their length
+pub data Line : Type 0 where
+  Unfinished : Line
+  IdLine : (text : List ℕ) (end : ℕ) → Line
+  OtherLine : (end : ℕ) → Line
+  TooLong : Line
+
+abbrev pub line_to : List ℕ → Option ℕ → Line
+line_to bytes None = if nat_le 255 (length bytes) then TooLong else Unfinished
+line_to bytes (Some n) =
+    if nat_lt 255 n then TooLong
+    else if is_id_text (line_text (take n bytes)) then IdLine (line_text (take n bytes)) n
+    else OtherLine n
+
+abbrev pub line_of : List ℕ → Line
+line_of bytes = line_to bytes (line_end bytes)
+
 -- less than a line of the least length
 short-example : id_of 0 (codes "SSH-2.0-") ≡ NotYet
 short-example = refl

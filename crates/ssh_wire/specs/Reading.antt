@@ -1,35 +1,77 @@
 -- Reading a version line in pieces.
-use Rattle.std.specs.Prelude.{◌≡◌, ℕ, ◌-◌, List, [], ◌++◌, length, Result, Ok, Err}
+use Rattle.std.specs.Prelude.{◌≡◌, ℕ, zero, suc, ◌+◌, ◌-◌, ◌<◌, ◌≤◌, Bool, true, false, List, [], ◌++◌, length, drop, Option, Some, None, Result, Ok, Err}
 use Rattle.ssh_wire.specs.Lines as lines
-use Rattle.ssh_wire.specs.Lines.{IdFound, id_of}
+use Rattle.ssh_wire.specs.Lines.{IdFound, id_of, line_end, other_line_limit}
 use Rattle.ssh_wire.specs.declared.error.Error.{Error}
-use Rattle.ssh_wire.specs.declared.error.Error.TheVariants.{Version}
+use Rattle.ssh_wire.specs.declared.error.Error.TheVariants.{Version, Disconnect}
 use Rattle.ssh_wire.specs.declared.read_id.IdProgress.{IdProgress}
 use Rattle.ssh_wire.specs.declared.read_id.IdProgress.TheVariants.{NotYet, Id}
 
--- bytes of a line that hasn't ended; the id's text; or no id line came
+-- bytes of a line that hasn't ended, and how many other lines were read before it; the id's text; or no id line came
 pub data IdReading : Type 0 where
-  Waiting : (bytes : List ℕ) → IdReading
+  Waiting : (bytes : List ℕ) (others : ℕ) → IdReading
   Heard : (text : List ℕ) → IdReading
   Failed : IdReading
 
--- what is answered, where so many of the bytes had waited
-abbrev pub Decides : IdFound → ℕ → List ℕ → Result IdProgress Error → IdReading → Type 0
-Decides lines.NotYet had bytes result new = (result ≡ Ok NotYet) × (new ≡ Waiting bytes)
-Decides (lines.Id text end) had bytes result new = (result ≡ Ok (Id (end - had))) × (new ≡ Heard text)
-Decides lines.Version had bytes result new = (result ≡ Err Version) × (new ≡ Failed)
+-- how many other lines are still allowed, where so many were read
+abbrev pub still_allowed : Bool → ℕ → ℕ
+still_allowed true others = other_line_limit - others
+still_allowed false others = 0
+
+abbrev pub by_end : IdReading → (ℕ → IdReading) → Option ℕ → IdReading
+by_end unfinished other None = unfinished
+by_end unfinished other (Some n) = other n
+
+-- what is left of bytes that decide nothing, where so many other lines may still come and so many were read
+abbrev pub left_of : ℕ → List ℕ → ℕ → IdReading
+left_of zero bytes others = Waiting bytes others
+left_of (suc left) bytes others = by_end (Waiting bytes others) (λ n. left_of left (drop n bytes) (others + 1)) (line_end bytes)
+
+-- what is answered, where so many of the bytes had waited, and what is left where nothing is decided
+abbrev pub Decides : IdFound → ℕ → IdReading → Result IdProgress Error → IdReading → Type 0
+Decides lines.NotYet had left result new = (result ≡ Ok NotYet) × (new ≡ left)
+Decides (lines.Id text end) had left result new = (result ≡ Ok (Id (end - had))) × (new ≡ Heard text)
+Decides lines.Version had left result new = (result ≡ Err Version) × (new ≡ Failed)
+
+-- a piece fed, where other lines may stand before the id line or not
+abbrev pub Feeds : Bool → IdReading → List ℕ → Result IdProgress Error → IdReading → Type 0
+Feeds allow (Waiting bytes others) piece result new =
+    Decides (id_of (still_allowed allow others) (bytes ++ piece)) (length bytes) (left_of (still_allowed allow others) (bytes ++ piece) others) result new
+Feeds allow (Heard text) piece result new = (result ≡ Ok (Id 0)) × (new ≡ Heard text)
+Feeds allow Failed piece result new = (result ≡ Err Version) × (new ≡ Failed)
 
 -- a piece fed, where no other line may stand before the id line
 abbrev pub FeedsLine : IdReading → List ℕ → Result IdProgress Error → IdReading → Type 0
-FeedsLine (Waiting bytes) piece result new = Decides (id_of 0 (bytes ++ piece)) (length bytes) (bytes ++ piece) result new
-FeedsLine (Heard text) piece result new = (result ≡ Ok (Id 0)) × (new ≡ Heard text)
-FeedsLine Failed piece result new = (result ≡ Err Version) × (new ≡ Failed)
+FeedsLine old piece result new = Feeds false old piece result new
 
 abbrev pub used_in : IdProgress → ℕ
 used_in NotYet = 0
 used_in (Id used) = used
 
 abbrev pub text_heard : IdReading → List ℕ
-text_heard (Waiting bytes) = []
+text_heard (Waiting bytes others) = []
 text_heard (Heard text) = text
 text_heard Failed = []
+
+-- how many bytes of a line that hasn't ended are held
+abbrev pub held : IdReading → ℕ
+held (Waiting bytes others) = length bytes
+held (Heard text) = 0
+held Failed = 0
+
+-- less than a line waits, behind no more other lines than may stand there
+abbrev pub IsShort : IdReading → Type 0
+IsShort (Waiting bytes others) = (length bytes < 255) × (others ≤ other_line_limit)
+IsShort (Heard text) = Unit {0}
+IsShort Failed = Unit {0}
+
+abbrev pub waits : IdReading → Bool
+waits (Waiting bytes others) = true
+waits (Heard text) = false
+waits Failed = false
+
+-- what is answered at the end of all bytes
+abbrev pub finished : IdReading → Result (Unit {0}) Error
+finished (Waiting bytes others) = Err Disconnect
+finished (Heard text) = Ok tt
+finished Failed = Err Version

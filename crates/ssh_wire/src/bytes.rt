@@ -1,8 +1,12 @@
 //! Bytes, texts and lists of them, as small types that contracts see as lists.
 
-ghost use Rattle.std.specs.Prelude.{◌≡◌, List, ℕ};
+ghost use Rattle.std.specs.Prelude.{◌≡◌, List, ℕ, IfOk};
 ghost use Rattle.std.specs.String.{string_bytes};
+ghost use Rattle.std.specs.Str.{bytes_eq};
+ghost use Rattle.std.specs.Cmp.Rules.{comparing};
+ghost use Rattle.std.proofs.Common.{rules};
 
+use std::alloc::{AllocError, Global};
 use std::marker::Model;
 
 /// Bytes, such as a key or a public value.
@@ -137,12 +141,33 @@ impl Text {
         self.text.as_str()
     }
 
+    /// A text with the same bytes. Memory.
+    pub(crate) fn copied(alloc: Global, text: &str) -> Result<Text, AllocError>
+        ensures { IfOk result (λ t. t ≡ text.now) }
+    {
+        Ok(Text::new(String::from_str(alloc, text)?))
+    }
+
     /// The string that the text stands in.
     pub fn into_string(self) -> String
         ensures { string_bytes result ≡ self }
     {
         self.text
     }
+}
+
+impl PartialEq for Text {
+    ghost eq = { bytes_eq };
+
+    ghost laws = { Prim.search (comparing, rules) };
+
+    fn eq(&self, other: &Text) -> bool {
+        self.as_str() == other.as_str()
+    }
+}
+
+impl Eq for Text {
+    ghost laws = { Prim.search (comparing, rules) };
 }
 
 /// Names of algorithms in order of preference (RFC 4251 section 5, name-list).

@@ -1,10 +1,11 @@
 //! Writing the forms of RFC 4251 section 5.
 
-ghost use Rattle.std.specs.Prelude.{◌≡◌, ◌∷◌, [], ◌++◌, OnOk, OnErr, IfErr};
-ghost use Rattle.ssh_wire.specs.Forms.{u32be};
+ghost use Rattle.std.specs.Prelude.{◌≡◌, ◌∷◌, [], ◌++◌, ◌<◌, ◌≤◌, ◌-◌, ◌^◌, length, OnOk, OnErr, IfErr};
+ghost use Rattle.ssh_wire.specs.Forms.{u32be, string, mpint, unsigned};
 ghost use Rattle.ssh_wire.specs.declared.error.Error.TheVariants.{Memory};
 
 use crate::error::Error;
+use crate::fields::without_leading_zeros;
 
 /// Appends one byte. Memory leaves `out` as it was.
 pub fn put_u8(out: &mut Vec<u8>, v: u8) -> Result<(), Error>
@@ -24,4 +25,46 @@ pub fn put_u32(out: &mut Vec<u8>, v: u32) -> Result<(), Error>
 {
     out.extend_from_slice(&v.to_be_bytes())?;
     Ok(())
+}
+
+/// Appends a `string`: its length as a `uint32`, then its bytes. Memory leaves `out` as it was.
+pub fn put_string(out: &mut Vec<u8>, s: &[u8]) -> Result<(), Error>
+    requires { length s.now < 2 ^ 32 }
+    ensures ok { OnOk result (out.new.items ≡ out.old.items ++ string s.now) }
+    ensures unchanged { OnErr result (out.new.items ≡ out.old.items) }
+    ensures err { IfErr result (λ e. e ≡ Memory) }
+{
+    out.reserve(4 + s.len())?;
+    out.extend_from_slice(&(s.len() as u32).to_be_bytes())?;
+    out.extend_from_slice(s)?;
+    Ok(())
+}
+
+/// Appends an `mpint` of the number that the bytes spell, the most significant first: a `string` without
+/// leading zeros, with one zero byte before a first byte of at least 0x80. Memory leaves `out` as it was.
+pub fn encode_mpint(s: &[u8], out: &mut Vec<u8>) -> Result<(), Error>
+    requires { length s.now < 2 ^ 32 - 1 }
+    ensures ok { OnOk result (out.new.items ≡ out.old.items ++ mpint s.now) }
+    ensures unchanged { OnErr result (out.new.items ≡ out.old.items) }
+    ensures err { IfErr result (λ e. e ≡ Memory) }
+{
+    let digits = without_leading_zeros(s);
+    let sign = sign_of(digits);
+    let size = sign.len() + digits.len();
+    out.reserve(4 + size)?;
+    out.extend_from_slice(&(size as u32).to_be_bytes())?;
+    out.extend_from_slice(sign)?;
+    out.extend_from_slice(digits)?;
+    Ok(())
+}
+
+/// The zero byte that keeps the first bit clear, where it is needed.
+fn sign_of(digits: &[u8]) -> &'static [u8]
+    ensures value { result.now ++ digits.now ≡ unsigned digits.now }
+    ensures short { length result.now ≤ 1 }
+{
+    match digits {
+        [first, ..] if *first >= 0x80 => &[0],
+        _ => &[],
+    }
 }

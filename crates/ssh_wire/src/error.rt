@@ -12,7 +12,7 @@ use thiserror::Error;
 pub enum EncodingFault {
     /// A field is cut short or too long.
     Length,
-    /// A text isn't UTF-8, or a name isn't printable ASCII.
+    /// A text isn't UTF-8, or a name is empty or isn't ASCII.
     CharacterEncoding,
     /// A number is negative or has an unneeded leading byte.
     MpintEncoding,

@@ -1,15 +1,17 @@
 //! Reading the peer's version line in pieces (RFC 4253 section 4.2).
 
 ghost use Rattle.std.specs.Prelude.{◌≡◌, ◌≤◌, ◌<◌, false, ◌+◌, ◌++◌, IfOk, IfSome, None, length, [], is_some, take};
-ghost use Rattle.std.specs.Str.{is_utf8};
 ghost use Rattle.ssh_wire.specs.Lines.{lf_end, line_end, without_cr, line_text, is_id_text};
 
 use crate::error::Error;
+use crate::fields::is_utf8_text;
 use std::marker::Model;
-use std::str;
 
 /// The longest version line with its ending, in bytes (RFC 4253 section 4.2).
 const LONGEST_LINE: usize = 255;
+
+/// How many other lines may stand before the version line.
+const OTHER_LINE_LIMIT: usize = 20;
 
 /// How far the version line has come.
 #[derive(Clone, Copy, Debug, PartialEq, Eq)]
@@ -27,11 +29,21 @@ enum Stage {
     Failed,
 }
 
-/// A version line that is read in pieces. It takes no memory.
+/// What the first line of a piece is, and how many bytes of the piece belong to it.
+#[derive(Clone, Copy, Debug)]
+enum LineRead {
+    Unfinished,
+    IdLine(usize),
+    OtherLine(usize),
+    TooLong,
+}
+
+/// A version line, and other lines before it, that are read in pieces. It takes no memory.
 #[derive(Debug, Drop)]
 pub struct ReadSshIdBuffer {
     line: [u8; LONGEST_LINE],
     len: usize,
+    others: usize,
     stage: Stage,
 }
 
@@ -48,56 +60,43 @@ impl Model for ReadSshIdBuffer {
 }
 
 impl ReadSshIdBuffer {
-    ghost use Rattle.ssh_wire.specs.Reading.{Waiting, FeedsLine, used_in, text_heard};
+    ghost use Rattle.ssh_wire.specs.Reading.{Waiting, Feeds, FeedsLine, used_in, text_heard, held, waits, finished, IsShort};
+    ghost use Rattle.ssh_wire.specs.Stepping.{ReadsLine, PassesOther, read_in};
 
     /// A buffer that has read nothing.
     pub fn new() -> ReadSshIdBuffer
-        ensures { result ≡ Waiting [] }
+        ensures { result ≡ Waiting [] 0 }
     {
         ReadSshIdBuffer {
             line: [0; LONGEST_LINE],
             len: 0,
+            others: 0,
             stage: Stage::Reading,
         }
     }
 
-    /// Takes the next piece of what the peer sent. Version where 255 bytes hold no line end, where the
-    /// line is longer, and where it is no id line; it is answered again from then on. After an id the
-    /// answer is `Id { used: 0 }`. The result depends on the bytes and not on their cuts.
+    /// Takes the next piece of what the peer sent, where other lines may end in it or not. Version where
+    /// 255 bytes hold no line end, where a line is longer, at the 21st other line, and at the first that
+    /// isn't allowed; it is answered again from then on. Lines that earlier calls let pass count. After an
+    /// id the answer is `Id { used: 0 }`. With one flag the result depends on the bytes and not on their
+    /// cuts.
     pub fn feed(&mut self, piece: &[u8], allow_pre_banner_lines: bool) -> Result<IdProgress, Error>
-        requires { allow_pre_banner_lines ≡ false }
-        ensures fed { FeedsLine self.old piece.now result self.new }
+        ensures fed { Feeds allow_pre_banner_lines self.old piece.now result self.new }
         ensures within { IfOk result (λ progress. used_in progress ≤ length piece.now) }
+        ensures short { IsShort self.new }
     {
-        match self.stage {
-            Stage::Heard => return Ok(IdProgress::Id { used: 0 }),
-            Stage::Failed => return Err(Error::Version),
-            Stage::Reading => {}
-        }
-        let had = self.len;
-        match line_end_in(&self.line[..had], piece) {
-            Some(end) if end <= LONGEST_LINE => {
-                write_at(&mut self.line, had, &piece[..end - had]);
-                match id_text_len(&self.line[..end]) {
-                    Some(text) => {
-                        self.len = text;
-                        self.stage = Stage::Heard;
-                        Ok(IdProgress::Id { used: end - had })
+        let mut used = 0;
+        'lines: loop {
+            match self.read_line(&piece[used..]) {
+                LineRead::Unfinished => return Ok(IdProgress::NotYet),
+                LineRead::IdLine(more) => return Ok(IdProgress::Id { used: used + more }),
+                LineRead::OtherLine(more) => {
+                    if !self.pass_other(allow_pre_banner_lines) {
+                        return Err(Error::Version);
                     }
-                    None => {
-                        self.stage = Stage::Failed;
-                        Err(Error::Version)
-                    }
+                    used += more;
                 }
-            }
-            None if piece.len() < LONGEST_LINE - had => {
-                write_at(&mut self.line, had, piece);
-                self.len = had + piece.len();
-                Ok(IdProgress::NotYet)
-            }
-            _ => {
-                self.stage = Stage::Failed;
-                Err(Error::Version)
+                LineRead::TooLong => return Err(Error::Version),
             }
         }
     }
@@ -109,6 +108,94 @@ impl ReadSshIdBuffer {
         match self.stage {
             Stage::Heard => &self.line[..self.len],
             _ => &[],
+        }
+    }
+
+    /// How many bytes of a line that hasn't ended are held; none after an id or Version.
+    pub fn waiting(&self) -> usize
+        ensures { result ≡ held self.now }
+    {
+        match self.stage {
+            Stage::Reading => self.len,
+            _ => 0,
+        }
+    }
+
+    /// Whether neither an id nor Version was reached.
+    pub(crate) fn is_waiting(&self) -> bool
+        ensures { result ≡ waits self.now }
+    {
+        match self.stage {
+            Stage::Reading => true,
+            _ => false,
+        }
+    }
+
+    /// What is answered where nothing more comes: nothing after an id, Version after Version, else
+    /// Disconnect.
+    pub fn finish(&self) -> Result<(), Error>
+        ensures { result ≡ finished self.now }
+    {
+        match self.stage {
+            Stage::Reading => Err(Error::Disconnect),
+            Stage::Heard => Ok(()),
+            Stage::Failed => Err(Error::Version),
+        }
+    }
+
+    /// Reads the first line of a piece.
+    fn read_line(&mut self, piece: &[u8]) -> LineRead
+        ensures read { ReadsLine self.old piece.now result self.new }
+        ensures within { read_in result ≤ length piece.now }
+        ensures short { IsShort self.new }
+    {
+        match self.stage {
+            Stage::Heard => return LineRead::IdLine(0),
+            Stage::Failed => return LineRead::TooLong,
+            Stage::Reading => {}
+        }
+        let had = self.len;
+        match line_end_in(&self.line[..had], piece) {
+            Some(end) if end <= LONGEST_LINE => {
+                write_at(&mut self.line, had, &piece[..end - had]);
+                match id_text_len(&self.line[..end]) {
+                    Some(text) => {
+                        self.len = text;
+                        self.stage = Stage::Heard;
+                        LineRead::IdLine(end - had)
+                    }
+                    None => {
+                        self.len = 0;
+                        LineRead::OtherLine(end - had)
+                    }
+                }
+            }
+            None if piece.len() < LONGEST_LINE - had => {
+                write_at(&mut self.line, had, piece);
+                self.len = had + piece.len();
+                LineRead::Unfinished
+            }
+            _ => {
+                self.stage = Stage::Failed;
+                LineRead::TooLong
+            }
+        }
+    }
+
+    /// Counts an other line that was read, or fails where it isn't allowed.
+    fn pass_other(&mut self, allow: bool) -> bool
+        ensures passed { PassesOther allow self.old result self.new }
+        ensures short { IsShort self.new }
+    {
+        match self.stage {
+            Stage::Reading if allow && self.others < OTHER_LINE_LIMIT => {
+                self.others += 1;
+                true
+            }
+            _ => {
+                self.stage = Stage::Failed;
+                false
+            }
         }
     }
 }
@@ -187,12 +274,6 @@ fn names_protocol(text: &[u8]) -> bool
     ensures { result ≡ is_id_text text.now }
 {
     (text.starts_with(b"SSH-2.0-") || text.starts_with(b"SSH-1.99-")) && is_utf8_text(text)
-}
-
-fn is_utf8_text(bytes: &[u8]) -> bool
-    ensures { result ≡ is_utf8 bytes.now }
-{
-    str::from_utf8(bytes).is_ok()
 }
 
 /// Writes the piece over the bytes from `at` on.

@@ -1,5 +1,8 @@
 //! Version lines, printed texts, and each call that takes memory.
 
+mod forms;
+mod lines;
+
 use crate::{
     AlgorithmKind, Blob, ConfigFault, EncodingFault, Error, IdProgress, NameList, Payload,
     PayloadList, ReadSshIdBuffer, SshId, Text, put_u8, put_u32,
