@@ -1,0 +1,37 @@
+-- The names of MACs (RFC 4253 section 6.4, RFC 6668 section 2, and OpenSSH's encrypt-then-MAC names).
+use Rattle.std.specs.Prelude.{ℕ, List, codes}
+use Rattle.ssh_mac.specs.declared.digest.DigestKind.TheVariants as K
+use Rattle.ssh_mac.specs.Tags as T
+use Rattle.ssh_mac.specs.Tags.{MacOf}
+use Rattle.ssh_mac.specs.declared.mac.Name.{Name}
+use Rattle.ssh_mac.specs.declared.mac.Name.TheVariants.{NoMac, HmacSha1, HmacSha256, HmacSha512, HmacSha1Etm, HmacSha256Etm, HmacSha512Etm}
+
+-- the text of a name
+abbrev pub text_of : Name → List ℕ
+text_of NoMac = codes "none"
+text_of HmacSha1 = codes "hmac-sha1"
+text_of HmacSha256 = codes "hmac-sha2-256"
+text_of HmacSha512 = codes "hmac-sha2-512"
+text_of HmacSha1Etm = codes "hmac-sha1-etm@openssh.com"
+text_of HmacSha256Etm = codes "hmac-sha2-256-etm@openssh.com"
+text_of HmacSha512Etm = codes "hmac-sha2-512-etm@openssh.com"
+
+-- the length of its key in bytes, and of its tag
+abbrev pub key_length : Name → ℕ
+key_length NoMac = 0
+key_length HmacSha1 = 20
+key_length HmacSha256 = 32
+key_length HmacSha512 = 64
+key_length HmacSha1Etm = 20
+key_length HmacSha256Etm = 32
+key_length HmacSha512Etm = 64
+
+-- the MAC of a name under a key
+abbrev pub mac_named : Name → List ℕ → MacOf
+mac_named NoMac key = T.NoMac
+mac_named HmacSha1 key = T.Plain K.Sha1 key
+mac_named HmacSha256 key = T.Plain K.Sha256 key
+mac_named HmacSha512 key = T.Plain K.Sha512 key
+mac_named HmacSha1Etm key = T.Etm K.Sha1 key
+mac_named HmacSha256Etm key = T.Etm K.Sha256 key
+mac_named HmacSha512Etm key = T.Etm K.Sha512 key

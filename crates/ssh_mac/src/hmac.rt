@@ -1,0 +1,64 @@
+//! HMAC (RFC 2104).
+
+ghost use Rattle.std.specs.Prelude.{◌≡◌, ◌++◌, ◌≤◌, length, take};
+ghost use Rattle.ssh_mac.specs.Digests.{block_length, digest_of};
+ghost use Rattle.ssh_mac.specs.Hmac.{hmac, block_key, combined};
+
+use crate::digest::{DigestKind, Hasher};
+use crate::hash_value::HashValue;
+
+/// The bytes that the key is combined with, for the inner and for the outer digest (section 2).
+const INNER: u8 = 0x36;
+
+const OUTER: u8 = 0x5c;
+
+/// The length of the longest block of a hash function, in bytes.
+const LONGEST_BLOCK: usize = 128;
+
+/// HMAC under a key of any length, of a text in two pieces: 20, 32, 48 or 64 bytes.
+pub fn hmac_of(kind: DigestKind, key: &[u8], front: &[u8], rest: &[u8]) -> HashValue
+    ensures { result ≡ hmac kind key.now (front.now ++ rest.now) }
+{
+    let mut inner_block = block_of(kind, key);
+    let mut outer_block = inner_block;
+    combine(&mut inner_block, INNER);
+    combine(&mut outer_block, OUTER);
+    let block_len = kind.block_len();
+    let inner = digest_of_parts(kind, &inner_block[..block_len], front, rest);
+    digest_of_parts(kind, &outer_block[..block_len], inner.as_bytes(), &[])
+}
+
+// The digest of three pieces as one text.
+fn digest_of_parts(kind: DigestKind, block: &[u8], front: &[u8], rest: &[u8]) -> HashValue
+    ensures { result ≡ digest_of kind ((block.now ++ front.now) ++ rest.now) }
+{
+    let mut hasher = Hasher::new(kind);
+    hasher.update(block);
+    hasher.update(front);
+    hasher.update(rest);
+    hasher.finalize()
+}
+
+// The key as long as a block, with zeros behind the block.
+fn block_of(kind: DigestKind, key: &[u8]) -> [u8; LONGEST_BLOCK]
+    ensures { take (block_length kind) result ≡ block_key kind key.now }
+{
+    let mut block = [0; LONGEST_BLOCK];
+    if key.len() > kind.block_len() {
+        let hash = digest_of_parts(kind, key, &[], &[]);
+        let bytes = hash.as_bytes();
+        block[..bytes.len()].copy_from_slice(bytes);
+    } else {
+        block[..key.len()].copy_from_slice(key);
+    }
+    block
+}
+
+// Combines each byte with the same byte by exclusive or.
+fn combine(block: &mut [u8], byte: u8)
+    ensures { block.new ≡ combined byte block.old }
+{
+    for b in block.iter_mut() {
+        *b ^= byte;
+    }
+}

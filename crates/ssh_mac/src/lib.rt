@@ -1,0 +1,15 @@
+//! Digests, HMAC (RFC 2104) and the message authentication codes of SSH (RFC 4253 section 6.4).
+//! No call takes memory.
+#![tactic(auto)]
+
+mod digest;
+mod hash_value;
+mod hmac;
+mod keys;
+pub mod mac;
+#[cfg(test)]
+mod tests;
+
+pub use crate::digest::{DigestKind, Hasher};
+pub use crate::hash_value::HashValue;
+pub use crate::hmac::hmac_of;
