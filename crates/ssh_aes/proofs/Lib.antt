@@ -1,0 +1,5 @@
+pub mod Below
+pub mod Entries
+pub mod Polynomials
+pub mod Written
+pub mod Schedules

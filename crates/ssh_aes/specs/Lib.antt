@@ -1,0 +1,6 @@
+pub mod Field
+pub mod Aes
+pub mod Keys
+pub mod Modes
+pub mod Gcm
+pub mod Laws
