@@ -5,7 +5,7 @@ use Rattle.std.proofs.lemmas.Bool.{eqb-true, ltb-true}
 use Rattle.ssh_aes.specs.declared.tables.TheConstants.{SUBSTITUTION, INVERSE_SUBSTITUTION, ROUND_CONSTANTS}
 use Rattle.ssh_aes.specs.Field.{byte_product, product_modulo, polynomial_product, remainder}
 use Rattle.ssh_aes.specs.Aes.{substitute, inverse_substitute, round_constant, inverse, times_squares, combined}
-use Rattle.ssh_aes.proofs.Below.{all_below, all_below-at}
+use Rattle.ssh_aes.proofs.Below.{all_below, all_below-at, and_left, and_right}
 
 -- ---- the inverse is one
 
@@ -107,6 +107,19 @@ fourteen_test = refl
 
 pub fourteen_is : (b : ℕ) → b < 256 → bit_xor (bit_xor (times_eight b) (times_four b)) (byte_product 2 b) ≡ byte_product 14 b
 fourteen_is b h = eqb-true _ _ (all_below-at 256 (λ b. eqb (bit_xor (bit_xor (times_eight b) (times_four b)) (byte_product 2 b)) (byte_product 14 b)) fourteen_test b h)
+
+small_test : all_below 256 (λ b. ltb (byte_product 2 b) 256 && ltb (byte_product 3 b) 256) ≡ true
+unfolding product_modulo polynomial_product remainder
+small_test = refl
+
+pub small : (b : ℕ) → b < 256 → (ltb (byte_product 2 b) 256 && ltb (byte_product 3 b) 256) ≡ true
+small b h = all_below-at 256 (λ b. ltb (byte_product 2 b) 256 && ltb (byte_product 3 b) 256) small_test b h
+
+pub two-lt : (b : ℕ) → b < 256 → byte_product 2 b < 256
+two-lt b h = ltb-true _ _ (and_left _ _ (small b h))
+
+pub three-lt : (b : ℕ) → b < 256 → byte_product 3 b < 256
+three-lt b h = ltb-true _ _ (and_right _ _ (small b h))
 
 -- ---- a column of InvMixColumns and MixColumns together
 

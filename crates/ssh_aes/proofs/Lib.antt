@@ -3,3 +3,5 @@ pub mod Entries
 pub mod Polynomials
 pub mod Written
 pub mod Schedules
+pub mod Inverses
+pub mod Worked

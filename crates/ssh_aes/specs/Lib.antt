@@ -4,3 +4,4 @@ pub mod Keys
 pub mod Modes
 pub mod Gcm
 pub mod Laws
+pub mod Examples

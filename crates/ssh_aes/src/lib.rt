@@ -3,5 +3,6 @@
 #![tactic(auto)]
 
 pub mod aes;
+pub mod laws;
 pub(crate) mod steps;
 pub(crate) mod tables;
