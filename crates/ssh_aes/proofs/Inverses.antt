@@ -23,8 +23,9 @@ pub record IsBlock (s : List ℕ) : Type 0 where
 
 pub IsBytes-listed : (n : ℕ) (f : ℕ → ℕ) → ((i : ℕ) → i < n → f i < 256) → IsBytes (listed n f)
 IsBytes-listed n f h i = elim (le_or_gt n i) [
-    inl l ↦ let e = get_or_past (listed n f) i 0 (omega (arith, length-listed n f)) in rw e (omega arith)
-    | inr l ↦ rw (listed-at n f i l) (h i l) ]
+  | inl l ↦ let e = get_or_past (listed n f) i 0 (omega (arith, length-listed n f)) in rw e (omega arith)
+  | inr l ↦ rw (listed-at n f i l) (h i l)
+]
 
 pub IsBlock-listed : (f : ℕ → ℕ) → ((i : ℕ) → i < 16 → f i < 256) → IsBlock (listed 16 f)
 IsBlock-listed f h = record { length_is = length-listed 16 f; bytes = IsBytes-listed 16 f h }
@@ -199,7 +200,7 @@ mix_columns-block s b =
     let column : (i : ℕ) → IsBytes (mixed_column (slice_index s i) (slice_index s (i + 1)) (slice_index s (i + 2)) (slice_index s (i + 3))) = λ i. mixed_column-bytes _ _ _ _ (b.bytes i) (b.bytes (i + 1)) (b.bytes (i + 2)) (b.bytes (i + 3)) in
     record {
       length_is = simp (length-append, length-mixed_column) refl;
-      bytes = IsBytes-append _ _ (IsBytes-append _ _ (IsBytes-append _ _ (column 0) (column 4)) (column 8)) (column 12)
+      bytes = IsBytes-append _ _ (IsBytes-append _ _ (IsBytes-append _ _ (column 0) (column 4)) (column 8)) (column 12);
     }
 
 -- ---- the schedule
@@ -232,8 +233,8 @@ next_word-bytes n w i x =
     cond-has IsBytes (eqb (i % n) 0) a (cond (eqb n 8 && eqb (i % 8) 4) b c)
     (plus_word-bytes w (i - n) (bit_xor (u 1) r) (u 2) (u 3) (u 0) x (xor-lt (u 1) r (k 1) (round_constant-lt (i / n - 1))) (k 2) (k 3) (k 0))
     (cond-has IsBytes (eqb n 8 && eqb (i % 8) 4) b c
-      (plus_word-bytes w (i - n) (u 0) (u 1) (u 2) (u 3) x (k 0) (k 1) (k 2) (k 3))
-      (plus_word-bytes w (i - n) (t 0) (t 1) (t 2) (t 3) x (h 0) (h 1) (h 2) (h 3)))
+    (plus_word-bytes w (i - n) (u 0) (u 1) (u 2) (u 3) x (k 0) (k 1) (k 2) (k 3))
+    (plus_word-bytes w (i - n) (t 0) (t 1) (t 2) (t 3) x (h 0) (h 1) (h 2) (h 3)))
 
 pub bytes_of-bytes : (n : ℕ) (s : List ℕ) → IsBytes (bytes_of n s)
 bytes_of-bytes n s = IsBytes-listed n (λ i. slice_index s i % 256) (λ i l. omega arith)

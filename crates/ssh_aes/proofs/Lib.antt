@@ -5,3 +5,4 @@ pub mod Written
 pub mod Schedules
 pub mod Inverses
 pub mod Worked
+pub mod Running

@@ -76,8 +76,9 @@ pub length-next_word : (n : ℕ) (w : List ℕ) (i : ℕ) → length (next_word 
 unfolding next_word
 length-next_word n w i =
     elim (eqb (i % n) 0) as (λ t. length (cond t (plus_word w (i - n) (bit_xor (substitute (word_byte w (i - 1) 1)) (round_constant (i / n - 1))) (substitute (word_byte w (i - 1) 2)) (substitute (word_byte w (i - 1) 3)) (substitute (word_byte w (i - 1) 0))) (cond (eqb n 8 && eqb (i % 8) 4) (plus_word w (i - n) (substitute (word_byte w (i - 1) 0)) (substitute (word_byte w (i - 1) 1)) (substitute (word_byte w (i - 1) 2)) (substitute (word_byte w (i - 1) 3))) (plus_word w (i - n) (word_byte w (i - 1) 0) (word_byte w (i - 1) 1) (word_byte w (i - 1) 2) (word_byte w (i - 1) 3)))) ≡ 4) [
-      true ↦ refl
-      | false ↦ elim (eqb n 8 && eqb (i % 8) 4) as (λ t. length (cond t (plus_word w (i - n) (substitute (word_byte w (i - 1) 0)) (substitute (word_byte w (i - 1) 1)) (substitute (word_byte w (i - 1) 2)) (substitute (word_byte w (i - 1) 3))) (plus_word w (i - n) (word_byte w (i - 1) 0) (word_byte w (i - 1) 1) (word_byte w (i - 1) 2) (word_byte w (i - 1) 3))) ≡ 4) [ true ↦ refl | false ↦ refl ] ]
+      | true ↦ refl
+      | false ↦ elim (eqb n 8 && eqb (i % 8) 4) as (λ t. length (cond t (plus_word w (i - n) (substitute (word_byte w (i - 1) 0)) (substitute (word_byte w (i - 1) 1)) (substitute (word_byte w (i - 1) 2)) (substitute (word_byte w (i - 1) 3))) (plus_word w (i - n) (word_byte w (i - 1) 0) (word_byte w (i - 1) 1) (word_byte w (i - 1) 2) (word_byte w (i - 1) 3))) ≡ 4) [ true ↦ refl | false ↦ refl ]
+    ]
 
 -- ---- the schedule
 

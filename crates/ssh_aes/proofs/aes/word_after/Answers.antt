@@ -20,7 +20,8 @@ returns-then-i-eq4 c =
 pub returns : goal.returns
 returns c =
     let other : c.args.words ≡ 8 → c.args.i % 8 ≢ 4 = elim c.else-words-eq8.branch [
-      else-words-eq8-via-then-words-eq8+else-i-eq4 w ↦ λ h. w.if-i-eq4.false
-      | else-words-eq8-via-else-words-eq8 w ↦ λ h. absurd (w.if-words-eq8.false h) ] in
+      | else-words-eq8-via-then-words-eq8+else-i-eq4 w ↦ λ h. w.if-i-eq4.false
+      | else-words-eq8-via-else-words-eq8 w ↦ λ h. absurd (w.if-words-eq8.false h)
+    ] in
     let e = next_word-plain c.args.words c.args.keys.now c.args.i c.if-i-words-eq0.false other in
     rw (c.sum_with_word-2.ensures, e) (simp add-zero refl)

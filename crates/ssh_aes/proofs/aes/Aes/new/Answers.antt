@@ -14,7 +14,8 @@ loop-i-init c =
     let z : length c.args.key.now / 4 - length c.args.key.now / 4 ≡ 0 = omega arith in
     record {
       len = search rules;
-      made = rw (e, c.with_key-keys.ensures, z) (sym (bytes_of-same _ c.args.key.now (sym e) (λ k. omega (arith, c.type_inv.key k)))) }
+      made = rw (e, c.with_key-keys.ensures, z) (sym (bytes_of-same _ c.args.key.now (sym e) (λ k. omega (arith, c.type_inv.key k))));
+    }
 
 pub loop-i-preserved : goal.loop-i-preserved
 loop-i-preserved c =
@@ -30,7 +31,8 @@ loop-i-preserved c =
     let g = next_word-take n c.loop-i.keys i (omega (arith, some_words (length c.args.key.now) c.requires)) (omega arith) in
     record {
       len = same_len_mid (4 * i) (4 * i + 4 - 4 * i) c.loop-i.keys c.copy_from_slice.new.self c.copy_from_slice.ensures.len ∙ c.loop-i.invariant.len;
-      made = t ∙ ap (λ x. take (4 * i) c.loop-i.keys ++ x) (v ∙ sym g) ∙ s }
+      made = t ∙ ap (λ x. take (4 * i) c.loop-i.keys ++ x) (v ∙ sym g) ∙ s;
+    }
 
 pub invariant_of-result : goal.invariant_of-result
 invariant_of-result c =
