@@ -1,0 +1,26 @@
+//! Laws of the block cipher and of its modes, for proofs above to cite.
+
+ghost use Rattle.ssh_aes.specs.Examples.{SubstitutionExample, BlockExamples};
+ghost use Rattle.ssh_aes.specs.Laws.{BlocksUndone, RunsWell, OpensWell};
+ghost use Rattle.ssh_aes.specs.Modes.{Running};
+
+/// The worked examples of FIPS 197 are what the definitions give.
+pub fn worked_examples()
+    ensures substitution { SubstitutionExample }
+    ensures blocks { BlockExamples }
+{}
+
+/// Decryption undoes encryption, under every key.
+pub fn blocks_undone()
+    ensures { BlocksUndone }
+{}
+
+/// Masking keeps the length, tells texts apart, and shows a text's front at the front.
+pub fn runs_well()
+    ensures { (r : Running) → RunsWell r }
+{}
+
+/// Opening undoes masking, whatever the length.
+pub fn opens_well()
+    ensures { (r : Running) → OpensWell r }
+{}

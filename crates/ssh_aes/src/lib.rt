@@ -1,0 +1,18 @@
+//! AES (FIPS 197), counter mode and chaining mode (SP 800-38A) and Galois counter mode (SP
+//! 800-38D), without memory of their own.
+#![tactic(auto)]
+
+mod aes;
+mod blocks;
+mod cbc;
+mod ctr;
+mod laws;
+mod runs;
+mod steps;
+mod tables;
+
+pub use crate::aes::Aes;
+pub use crate::cbc::CbcWrapper;
+pub use crate::ctr::CtrWrapper;
+pub use crate::laws::{blocks_undone, opens_well, runs_well, worked_examples};
+pub use crate::runs::{BlockStreamCipher, PacketLengthProbe};
