@@ -1,4 +1,5 @@
 pub mod Built
+pub mod Ciphers
 pub mod Finding
 pub mod Fronts
 pub mod KeyKinds
