@@ -100,9 +100,10 @@ unfolding body
 text_back Clear t b h = refl
 text_back (Block r mac) t b h = decrypted_back (is_encrypt_then_mac mac) r t b h
 text_back (Gcm key nonce) t b h =
-    rejoined t _ _ h (take_headed t _ h)
-    (ap (λ a. gcm_plain key nonce a (drop 4 (take 4 t ++ gcm_text key nonce (take 4 t) (drop 4 t)))) (take_headed t _ h)
-    ∙ (ap (gcm_plain key nonce (take 4 t)) (drop_headed t _ h) ∙ (gcm_well key nonce).opens (take 4 t) (drop 4 t) (bytes_drop t 4 b)))
+    let hidden = gcm_text key nonce (take 4 t) (drop 4 t) in
+    rejoined t _ _ h (take_headed t hidden h)
+    (ap (λ a. gcm_plain key nonce a (drop 4 (take 4 t ++ hidden))) (take_headed t hidden h)
+    ∙ (ap (gcm_plain key nonce (take 4 t)) (drop_headed t hidden h) ∙ (gcm_well key nonce).opens (take 4 t) (drop 4 t) (bytes_drop t 4 b)))
 
 -- the tag that belongs to it is the one behind it
 covered_back : (etm : Bool) (r : Running) (t : List ℕ) → IsBytes t → covered etm r (body_by etm r t) ≡ over etm r t
@@ -115,8 +116,9 @@ unfolding body tag_behind
 tag_back Clear number t b h = refl
 tag_back (Block r mac) number t b h = ap (tag_of mac number) (covered_back (is_encrypt_then_mac mac) r t b)
 tag_back (Gcm key nonce) number t b h =
-    ap (λ a. cipher_tag key nonce a (drop 4 (take 4 t ++ gcm_text key nonce (take 4 t) (drop 4 t)))) (take_headed t _ h)
-    ∙ ap (cipher_tag key nonce (take 4 t)) (drop_headed t _ h)
+    let hidden = gcm_text key nonce (take 4 t) (drop 4 t) in
+    ap (λ a. cipher_tag key nonce a (drop 4 (take 4 t ++ hidden))) (take_headed t hidden h)
+    ∙ ap (cipher_tag key nonce (take 4 t)) (drop_headed t hidden h)
 
 -- ---- a packet at the front
 

@@ -140,8 +140,10 @@ padding_from (Gcm key nonce) n stream = fill_bytes (padding_length (Gcm key nonc
 abbrev pub item_of : Sealing → List ℕ → Stream → Item
 item_of sealing payload stream = record { payload = payload; padding = (padding_from sealing (length payload) stream).0 }
 
+-- what is left of the stream behind a payload: one of no bytes sends nothing
 abbrev pub stream_after : Sealing → List ℕ → Stream → Stream
-stream_after sealing payload stream = (padding_from sealing (length payload) stream).1
+stream_after sealing [] stream = stream
+stream_after sealing (b ∷ rest) stream = (padding_from sealing (1 + length rest) stream).1
 
 -- ---- examples
 
