@@ -4,5 +4,6 @@ pub mod Finding
 pub mod Fronts
 pub mod KeyKinds
 pub mod Lent
+pub mod Padding
 pub mod Shapes
 pub mod Streams

@@ -2,7 +2,9 @@
 #![tactic(auto)]
 
 pub mod buffer;
+pub mod cipher;
 pub mod clear;
+pub mod compression;
 mod error;
 mod front;
 mod keys;
@@ -15,6 +17,6 @@ mod writer;
 pub use crate::buffer::SSHBuffer;
 pub use crate::error::OpenError;
 pub use crate::keys::{OpenKey, SealKey};
-pub use crate::laws::{front_stays, front_whole, one_packet, one_reading, padded};
+pub use crate::laws::{carried, front_stays, front_whole, one_packet, one_reading, padded, plain_reading};
 pub use crate::reader::{Incoming, PacketReader};
 pub use crate::writer::PacketWriter;
