@@ -14,5 +14,5 @@ mod tables;
 pub use crate::aes::Aes;
 pub use crate::cbc::CbcWrapper;
 pub use crate::ctr::CtrWrapper;
-pub use crate::laws::{blocks_undone, opens_well, runs_well, worked_examples};
+pub use crate::laws::{blocks_undone, opens_well, runs_well, streams_undone, worked_examples};
 pub use crate::runs::{BlockStreamCipher, PacketLengthProbe};
