@@ -7,3 +7,4 @@ pub mod Inverses
 pub mod Worked
 pub mod Running
 pub mod Chaining
+pub mod Sealing

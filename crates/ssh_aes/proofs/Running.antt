@@ -193,5 +193,5 @@ opens_well r = record {
 pub streams_undone : {S : Type 0} (running : S → Running) → StreamsUndone running
 streams_undone running s t text e b = record {
   text_is = ap (λ v. unmasked v (masked (running s) text)) (sym e) ∙ unmasked-masked (running s) text b;
-  state_is = ap (λ v. passed v (masked (running s) text)) (sym e)
+  state_is = ap (λ v. passed v (masked (running s) text)) (sym e);
 }

@@ -1,8 +1,9 @@
 //! Laws of the block cipher and of its modes, for proofs above to cite.
 
 ghost use Rattle.ssh_aes.specs.Examples.{SubstitutionExample, BlockExamples};
-ghost use Rattle.ssh_aes.specs.Laws.{BlocksUndone, RunsWell, OpensWell, StreamsUndone};
+ghost use Rattle.ssh_aes.specs.Laws.{BlocksUndone, RunsWell, OpensWell, GcmWell, StreamsUndone};
 ghost use Rattle.ssh_aes.specs.Modes.{Running};
+ghost use Rattle.std.specs.Prelude.{ℕ, List};
 
 use crate::runs::BlockStreamCipher;
 
@@ -30,4 +31,9 @@ pub fn opens_well()
 /// Two ciphers at equal states undo each other, whatever the length, and are at equal states again.
 pub fn streams_undone<C: BlockStreamCipher>()
     ensures { StreamsUndone C.running }
+{}
+
+/// Sealing in Galois counter mode keeps the length, makes a tag of 16 bytes, and is undone.
+pub fn gcm_well()
+    ensures { (key nonce : List ℕ) → GcmWell key nonce }
 {}

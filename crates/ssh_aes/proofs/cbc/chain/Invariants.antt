@@ -7,5 +7,5 @@ invariant-loop-k l = record {
   text : take (16 * l.k) l.bytes ++ chained l.aes l.last (length l.initial.bytes / 16 - l.k) (drop (16 * l.k) l.bytes) ≡ chained l.aes l.initial.last (length l.initial.bytes / 16) l.initial.bytes;
   last : l.last ≡ last_block l.initial.last l.k l.bytes;
   long : length l.last ≡ 16;
-  bytes : (i : ℕ) → slice_index l.last i < 256
+  bytes : (i : ℕ) → slice_index l.last i < 256;
 }

@@ -9,5 +9,5 @@ invariant-loop-k l =
       text : take (16 * l.k) l.bytes ++ unchained l.aes l.last (n - l.k) (drop (16 * l.k) l.bytes) ≡ unchained l.aes l.initial.last n l.initial.bytes;
       last : last_block l.last (n - l.k) (drop (16 * l.k) l.bytes) ≡ last_block l.initial.last n l.initial.bytes;
       long : length l.last ≡ 16;
-      bytes : (i : ℕ) → slice_index l.last i < 256
+      bytes : (i : ℕ) → slice_index l.last i < 256;
     }

@@ -7,5 +7,5 @@ use Rattle.ssh_aes.proofs.ctr.CtrWrapper.mask.Given as goal
 abbrev pub invariant-loop-i : goal.invariant-loop-i
 invariant-loop-i l = record {
   block_is : ((l.self.place + l.i) % 2 ^ 64) % 16 ≢ 0 → l.block ≡ stream_block l.self.key l.self.iv (((l.self.place + l.i) % 2 ^ 64) / 16);
-  written : IsWritten (λ k. bit_xor (slice_index l.initial.bytes k) (stream_byte l.self.key l.self.iv ((l.self.place + k) % 2 ^ 64))) l.bytes l.initial.bytes l.i
+  written : IsWritten (λ k. bit_xor (slice_index l.initial.bytes k) (stream_byte l.self.key l.self.iv ((l.self.place + k) % 2 ^ 64))) l.bytes l.initial.bytes l.i;
 }
