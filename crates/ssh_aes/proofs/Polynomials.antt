@@ -3,7 +3,7 @@ use Rattle.std.proofs.Common.{◌≡◌, ℕ, zero, suc, ◌+◌, ◌*◌, ◌/�
 use Rattle.std.specs.Prelude.{bit_xor}
 use Rattle.std.specs.Int.{bit_at}
 use Rattle.std.specs.Int.Bits.{xor_self, xor_zero_l, xor_zero_r, xor_assoc}
-use Rattle.std.proofs.lemmas.Nat.{xor_comm, xor_lt, xor_block, pow_pos}
+use Rattle.std.proofs.lemmas.Nat.{xor_comm, xor_block, pow_pos}
 use Rattle.std.proofs.lemmas.Nat.Bits.{bit_at_xor, bit_at-lt, bit_at-suc, bit_at_above, bit_at-zero}
 use Rattle.std.proofs.Math.Nat.{zero-mul, one-mul, pow-suc, zero-add}
 use Rattle.ssh_aes.specs.Field.{polynomial_product, remainder, product_modulo, times_x, block_modulus}

@@ -1,11 +1,11 @@
 -- The laws of both modes.
-use Rattle.std.proofs.Common.{[], ◌∷◌, ◌++◌, ◌≡◌, ℕ, zero, suc, ◌+◌, ◌-◌, ◌*◌, ◌/◌, ◌%◌, ◌^◌, ◌<◌, ◌≤◌, List, length, take, drop, slice_index, arith, refl, sym, ap, ◌∙◌, subst, append_assoc}
+use Rattle.std.proofs.Common.{◌++◌, ◌≡◌, ℕ, zero, suc, ◌+◌, ◌-◌, ◌*◌, ◌/◌, ◌%◌, ◌^◌, ◌<◌, ◌≤◌, List, length, take, drop, slice_index, arith, refl, sym, ap, ◌∙◌, subst, append_assoc}
 use Rattle.std.specs.Prelude.{bit_xor}
 use Rattle.std.proofs.lemmas.List.{get_or-take, get_or-drop, get_or_append_left, length-append, length-drop, length-take-le, take-take, take_at, take-append-drop, take-append-le}
 use Rattle.std.proofs.Math.Seq.{drop-append_seam}
 use Rattle.std.proofs.lemmas.List.FromFn.{fill_by_all}
-use Rattle.ssh_aes.specs.Aes.{listed, block, aes, inverse_aes, inverse_cipher, expanded_key, key_words}
-use Rattle.ssh_aes.specs.Modes.{Running, Ctr, Cbc, xored, stream_byte, counted, chained_block, chained, unchained, masked, unmasked, passed, moved, least}
+use Rattle.ssh_aes.specs.Aes.{listed, block, inverse_aes, inverse_cipher, expanded_key, key_words}
+use Rattle.ssh_aes.specs.Modes.{Running, Ctr, Cbc, xored, stream_byte, counted, chained_block, chained, unchained, masked, unmasked, passed, least}
 use Rattle.ssh_aes.specs.Laws.{IsBytes, RunsWell, OpensWell, StreamsUndone}
 use Rattle.ssh_aes.proofs.Polynomials.{xor_cancel}
 use Rattle.ssh_aes.proofs.Schedules.{length-listed, listed-at, listed-same, block-same}

@@ -1,13 +1,13 @@
 -- The laws of Galois counter mode.
-use Rattle.std.proofs.Common.{[], ◌∷◌, ◌++◌, ◌≡◌, ℕ, zero, suc, ◌+◌, ◌/◌, ◌%◌, ◌-◌, ◌<◌, ◌≤◌, ◌*◌, List, length, take, drop, slice_index, arith, refl, sym, ap, ◌∙◌}
+use Rattle.std.proofs.Common.{[], ◌∷◌, ◌++◌, ◌≡◌, ℕ, zero, suc, ◌+◌, ◌/◌, ◌%◌, ◌-◌, ◌<◌, ◌≤◌, ◌*◌, List, length, take, drop, slice_index, arith, sym, ap, ◌∙◌}
 use Rattle.std.specs.Prelude.{bit_xor}
-use Rattle.std.specs.Int.{w128, from_be_bytes, sum_through, byte_worth, reverse_bits}
+use Rattle.std.specs.Int.{w128, sum_through, byte_worth, reverse_bits}
 use Rattle.std.proofs.lemmas.List.{get_or-take, get_or-drop, drop-drop}
 use Rattle.std.proofs.lemmas.List.Sums.{fold-append}
 use Rattle.std.proofs.lemmas.List.FromFn.{fill_by_all}
 use Rattle.ssh_aes.specs.Aes.{listed}
-use Rattle.ssh_aes.specs.Gcm.{nonce_stream, gcm_counted, gcm_text, gcm_plain, gcm_tag, cipher_tag, element, element_block, hashed, hash_step, hash_key, tag_blocks, blocks, padded_blocks, length_block}
-use Rattle.ssh_aes.specs.Laws.{IsBytes, GcmWell}
+use Rattle.ssh_aes.specs.Gcm.{nonce_stream, gcm_counted, cipher_tag, element, element_block, hashed, hash_step, hash_key, tag_blocks, blocks, padded_blocks, length_block}
+use Rattle.ssh_aes.specs.Laws.{GcmWell}
 use Rattle.ssh_aes.proofs.Polynomials.{xor_cancel}
 use Rattle.ssh_aes.proofs.Schedules.{length-listed, listed-at}
 use Rattle.ssh_aes.proofs.Running.{all-listed}

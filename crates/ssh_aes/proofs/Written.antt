@@ -1,5 +1,5 @@
 -- Loops that write one element after another.
-use Rattle.std.proofs.Common.{[], ◌∷◌, ◌++◌, sym, ap, ◌≡◌, ◌≢◌, ℕ, ◌+◌, ◌<◌, ◌≤◌, List, length, get_or, set, slice_index, arith, refl, below_more, get_or-set_same, get_or-set_other, ◌∙◌}
+use Rattle.std.proofs.Common.{[], ◌∷◌, ◌++◌, sym, ap, ◌≡◌, ◌≢◌, ℕ, ◌+◌, ◌<◌, ◌≤◌, List, length, set, slice_index, arith, refl, below_more, get_or-set_same, get_or-set_other, ◌∙◌}
 use Rattle.std.proofs.Math.ListN.{length-set}
 use Rattle.std.proofs.lemmas.List.FromFn.{fill_by_all}
 use Rattle.ssh_aes.specs.Aes.{listed}

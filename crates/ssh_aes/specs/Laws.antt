@@ -1,5 +1,5 @@
 -- What is true of the block cipher and of its modes.
-use Rattle.std.specs.Prelude.{◌≡◌, ℕ, ◌+◌, ◌<◌, ◌≤◌, List, ◌++◌, length, take, slice_index}
+use Rattle.std.specs.Prelude.{◌≡◌, ℕ, ◌<◌, ◌≤◌, List, ◌++◌, length, take, slice_index}
 use Rattle.ssh_aes.specs.Aes.{aes, inverse_aes}
 use Rattle.ssh_aes.specs.Modes.{Running, masked, unmasked, moved, passed, least}
 use Rattle.ssh_aes.specs.Gcm.{gcm_text, gcm_tag, gcm_plain}

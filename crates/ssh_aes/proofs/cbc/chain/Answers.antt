@@ -1,6 +1,6 @@
-use Rattle.std.proofs.Common.{◌≡◌, ◌/◌, ◌*◌, ◌-◌, length, drop, take, arith, refl, sym, ap, ◌∙◌}
+use Rattle.std.proofs.Common.{◌≡◌, ◌/◌, ◌*◌, ◌-◌, length, drop, arith, refl, sym, ap, ◌∙◌}
 use Rattle.ssh_aes.specs.Aes.{aes, block}
-use Rattle.ssh_aes.specs.Modes.{xored, chained, last_block}
+use Rattle.ssh_aes.specs.Modes.{xored, last_block}
 use Rattle.ssh_aes.proofs.Schedules.{block-same}
 use Rattle.ssh_aes.proofs.Inverses.{aes-block}
 use Rattle.ssh_aes.proofs.Chaining.{chained-more, last_block-more, chained-done}

@@ -1,6 +1,6 @@
-use Rattle.std.proofs.Common.{◌≡◌, ◌/◌, ◌*◌, ◌-◌, length, drop, take, arith, refl, sym, ap, ◌∙◌}
+use Rattle.std.proofs.Common.{◌≡◌, ◌/◌, ◌*◌, ◌-◌, length, drop, arith, refl, sym, ap, ◌∙◌}
 use Rattle.ssh_aes.specs.Aes.{inverse_aes}
-use Rattle.ssh_aes.specs.Modes.{xored, unchained, last_block}
+use Rattle.ssh_aes.specs.Modes.{xored}
 use Rattle.ssh_aes.proofs.Schedules.{block-same}
 use Rattle.ssh_aes.proofs.Inverses.{block-block}
 use Rattle.ssh_aes.proofs.Chaining.{unchained-more, last_block-rest, unchained-done, last_block-done, inverse_aes-take}

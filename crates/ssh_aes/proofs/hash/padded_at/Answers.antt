@@ -1,5 +1,5 @@
 use Rattle.std.proofs.Common.{◌≡◌, refl, arith}
-use Rattle.ssh_aes.proofs.Written.{IsWritten-none, IsWritten-more, IsWritten-all}
+use Rattle.ssh_aes.proofs.Written.{IsWritten-all}
 use Rattle.ssh_aes.proofs.hash.padded_at.Goals as goal
 
 pub returns : goal.returns

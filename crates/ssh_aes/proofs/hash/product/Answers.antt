@@ -1,6 +1,6 @@
-use Rattle.std.proofs.Common.{◌≡◌, ◌-◌, ◌+◌, ◌<◌, ◌^◌, suc, arith, refl, sym, ap, ◌∙◌, subst, ℕ}
+use Rattle.std.proofs.Common.{◌≡◌, ◌-◌, ◌+◌, ◌<◌, ◌^◌, suc, arith, sym, ap, ◌∙◌}
 use Rattle.std.specs.Prelude.{bit_xor}
-use Rattle.ssh_aes.specs.Field.{block_modulus, block_product, times_x}
+use Rattle.ssh_aes.specs.Field.{block_modulus, times_x}
 use Rattle.ssh_aes.proofs.Polynomials.{reduced, product-turn, product-start, product-end}
 use Rattle.ssh_aes.proofs.hash.product.Goals as goal
 

@@ -1,5 +1,4 @@
-use Rattle.std.proofs.Common.{◌≡◌, ap, sym, ◌∙◌, arith}
-use Rattle.std.specs.Prelude.{bit_xor}
+use Rattle.std.proofs.Common.{◌≡◌, sym, arith}
 use Rattle.std.specs.Int.{bit_at}
 use Rattle.ssh_aes.proofs.Polynomials.{no_bit, one_bit}
 use Rattle.ssh_aes.proofs.hash.with_term.Goals as goal

@@ -1,4 +1,4 @@
-use Rattle.std.proofs.Common.{◌≡◌, length, arith, refl, sym, ap, ◌∙◌}
+use Rattle.std.proofs.Common.{◌≡◌, length, arith, refl}
 use Rattle.ssh_aes.specs.Modes.{counted}
 use Rattle.ssh_aes.proofs.Written.{IsWritten-all}
 use Rattle.ssh_aes.proofs.ctr.CtrWrapper.mask.Goals as goal

@@ -1,6 +1,5 @@
-use Rattle.std.proofs.Common.{◌≡◌, ◌%◌, ◌^◌, arith, refl, sym, ap, ◌∙◌}
-use Rattle.ssh_aes.specs.Aes.{aes}
-use Rattle.ssh_aes.specs.Gcm.{nonce_stream, nonce_block}
+use Rattle.std.proofs.Common.{◌≡◌, ◌%◌, ◌^◌, arith, refl}
+use Rattle.ssh_aes.specs.Gcm.{nonce_stream}
 use Rattle.ssh_aes.proofs.gcm.Gcm.stream.Goals as goal
 
 pub returns : goal.returns

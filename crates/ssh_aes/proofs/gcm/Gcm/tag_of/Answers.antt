@@ -1,4 +1,4 @@
-use Rattle.std.proofs.Common.{sym, ap, ◌∙◌}
+use Rattle.std.proofs.Common.{ap, ◌∙◌}
 use Rattle.ssh_aes.specs.Modes.{xored}
 use Rattle.ssh_aes.specs.Gcm.{cipher_tag, element_block, hash_key, nonce_stream}
 use Rattle.ssh_aes.proofs.Sealing.{hashed-tag}
