@@ -1,12 +1,12 @@
 -- Decryption undoes encryption, step by step.
-use Rattle.std.proofs.Common.{[], ◌∷◌, ◌++◌, ◌≡◌, ℕ, zero, suc, ◌+◌, ◌-◌, ◌*◌, ◌/◌, ◌%◌, ◌<◌, ◌≤◌, ◌⊎◌, inl, inr, Bool, true, false, cond, eqb, ◌&&◌, List, length, slice_index, get_or, arith, refl, sym, ap, ◌∙◌, subst}
+use Rattle.std.proofs.Common.{[], ◌∷◌, ◌++◌, ◌≡◌, ℕ, zero, suc, ◌+◌, ◌-◌, ◌*◌, ◌/◌, ◌%◌, ◌<◌, ◌≤◌, ◌⊎◌, inl, inr, Bool, true, false, cond, eqb, ◌&&◌, List, length, slice_index, arith, refl, sym, ap, ◌∙◌, subst}
 use Rattle.std.specs.Prelude.{bit_xor}
-use Rattle.std.specs.Int.Bits.{xor_self, xor_zero_l, xor_zero_r, xor_assoc}
+use Rattle.std.specs.Int.Bits.{xor_zero_r}
 use Rattle.std.proofs.lemmas.Nat.{xor_comm, xor_of_8}
 use Rattle.std.proofs.lemmas.List.{get_or_past, length-append}
 use Rattle.ssh_aes.specs.Field.{byte_product}
-use Rattle.ssh_aes.specs.Aes.{listed, substitute, inverse_substitute, sub_bytes, inverse_sub_bytes, shift_rows, inverse_shift_rows, combined, mixed_column, unmixed_column, by_columns, mix_columns, inverse_mix_columns, add_round_key, rounds, inverse_rounds, cipher, inverse_cipher, aes, inverse_aes, expanded_key, schedule, next_word, plus_word, word_byte, block, bytes_of, key_words, round_constant}
-use Rattle.ssh_aes.specs.declared.tables.TheConstants.{SUBSTITUTION, INVERSE_SUBSTITUTION}
+use Rattle.ssh_aes.specs.Aes.{listed, substitute, inverse_substitute, sub_bytes, inverse_sub_bytes, shift_rows, inverse_shift_rows, combined, mixed_column, unmixed_column, mix_columns, inverse_mix_columns, add_round_key, rounds, inverse_rounds, cipher, inverse_cipher, aes, inverse_aes, expanded_key, schedule, next_word, plus_word, word_byte, block, bytes_of, key_words, round_constant}
+use Rattle.ssh_aes.specs.declared.tables.TheConstants.{INVERSE_SUBSTITUTION}
 use Rattle.ssh_aes.specs.Laws.{IsBytes, BlocksUndone}
 use Rattle.ssh_aes.proofs.Polynomials.{xor_across, xor_cancel, product_modulo-sum}
 use Rattle.ssh_aes.proofs.Entries.{substitution_is, inverse_substitution_is, substitution-lt, restored_is, one_is, two-lt, three-lt, crossed, first_is, second_is, third_is, fourth_is}

@@ -6,3 +6,5 @@ pub mod Schedules
 pub mod Inverses
 pub mod Worked
 pub mod Running
+pub mod Chaining
+pub mod Sealing

@@ -1,12 +1,12 @@
 -- Products of polynomials modulo another, step by step.
-use Rattle.std.proofs.Common.{◌≡◌, ℕ, zero, suc, ◌+◌, ◌*◌, ◌/◌, ◌%◌, ◌^◌, ◌<◌, ◌≤◌, ◌⊎◌, inl, inr, refl, sym, ◌∙◌, ap, arith, subst}
+use Rattle.std.proofs.Common.{◌≡◌, ℕ, zero, suc, ◌+◌, ◌*◌, ◌/◌, ◌%◌, ◌^◌, ◌<◌, ◌≤◌, ◌⊎◌, inl, inr, refl, sym, ◌∙◌, ap, arith, lit<, ◌-◌}
 use Rattle.std.specs.Prelude.{bit_xor}
 use Rattle.std.specs.Int.{bit_at}
 use Rattle.std.specs.Int.Bits.{xor_self, xor_zero_l, xor_zero_r, xor_assoc}
-use Rattle.std.proofs.lemmas.Nat.{xor_comm, xor_lt, xor_block, pow_pos}
-use Rattle.std.proofs.lemmas.Nat.Bits.{bit_at_xor, bit_at-lt, bit_at-suc, bit_at_lowest, bit_at_above}
-use Rattle.std.proofs.Math.Nat.{mul-zero, zero-mul, one-mul, mul-one, pow-suc}
-use Rattle.ssh_aes.specs.Field.{polynomial_product, remainder, product_modulo}
+use Rattle.std.proofs.lemmas.Nat.{xor_comm, xor_block, pow_pos}
+use Rattle.std.proofs.lemmas.Nat.Bits.{bit_at_xor, bit_at-lt, bit_at-suc, bit_at_above, bit_at-zero}
+use Rattle.std.proofs.Math.Nat.{zero-mul, one-mul, pow-suc, zero-add}
+use Rattle.ssh_aes.specs.Field.{polynomial_product, remainder, product_modulo, times_x, block_modulus}
 
 -- ---- sums
 
@@ -58,10 +58,6 @@ doubled_sum a b =
 
 -- ---- times x
 
--- x * z modulo m of degree n
-abbrev pub times_x : ℕ → ℕ → ℕ → ℕ
-times_x n m z = bit_xor (2 * z) (bit_at (2 * z) n * m)
-
 pub times_x-sum : (n m a b : ℕ) → times_x n m (bit_xor a b) ≡ bit_xor (times_x n m a) (times_x n m b)
 times_x-sum n m a b =
     ap (λ u. bit_xor u (bit_at u n * m)) (doubled_sum a b)
@@ -78,7 +74,10 @@ remainder-sum n m (suc k) p q =
     ∙ ap (remainder n m k) (xor_across p q (bit_at p (n + k) * (m * 2 ^ k)) (bit_at q (n + k) * (m * 2 ^ k)))
     ∙ remainder-sum n m k (bit_xor p (bit_at p (n + k) * (m * 2 ^ k))) (bit_xor q (bit_at q (n + k) * (m * 2 ^ k)))
 
-no_bit : (p c M : ℕ) → c ≡ 0 → bit_xor p (c * M) ≡ p
+pub one_bit : (p c M : ℕ) → c ≡ 1 → bit_xor p (c * M) ≡ bit_xor p M
+one_bit p c M e = rw (e, one-mul M) refl
+
+pub no_bit : (p c M : ℕ) → c ≡ 0 → bit_xor p (c * M) ≡ p
 no_bit p c M e = rw (e, zero-mul M) (xor_zero_r p)
 
 pub remainder-small : (n m k p : ℕ) → p < 2 ^ n → remainder n m k p ≡ p
@@ -118,6 +117,10 @@ reduced n m k p q = remainder n m k (polynomial_product k p q)
 bit_small : (n c q : ℕ) → c < 2 → q < 2 ^ n → c * q < 2 ^ n
 bit_small n c q h k = elim (bit_cases c h) [ inl e ↦ rw (e, zero-mul q) (pow_pos n) | inr e ↦ rw (e, one-mul q) k ]
 
+reduced-none : (n m p q : ℕ) → times_x n m q < 2 ^ n → reduced n m 0 p (times_x n m q) ≡ times_x n m (reduced n m 0 p q)
+unfolding polynomial_product remainder
+reduced-none n m p q l = let z : bit_at (2 * 0) n * m ≡ 0 = rw (bit_at-zero n) (zero-mul m) in rw z refl
+
 -- one coefficient, and x times the rest
 pub reduced-step : (n m k p q : ℕ) → q < 2 ^ n → reduced n m (suc k) p q ≡ bit_xor (bit_at p 0 * q) (times_x n m (reduced n m k (p / 2) q))
 unfolding polynomial_product
@@ -140,3 +143,53 @@ product_sum (suc k) p q r =
 pub product_modulo-sum : (n m p q r : ℕ) → product_modulo n m p (bit_xor q r) ≡ bit_xor (product_modulo n m p q) (product_modulo n m p r)
 unfolding product_modulo
 product_modulo-sum n m p q r = ap (remainder n m n) (product_sum n p q r) ∙ remainder-sum n m n (polynomial_product n p q) (polynomial_product n p r)
+
+-- ---- the product with x goes through
+
+times_x-bit : (n m c q : ℕ) → c < 2 → times_x n m (c * q) ≡ c * times_x n m q
+times_x-bit n m c q h =
+    let z : bit_at (2 * 0) n * m ≡ 0 = rw (bit_at-zero n) (zero-mul m) in
+    let t : times_x n m 0 ≡ 0 = rw z refl in
+    elim (bit_cases c h) [
+      | inl e ↦ rw (e, zero-mul q, zero-mul (times_x n m q)) t
+      | inr e ↦ rw (e, one-mul q, one-mul (times_x n m q)) refl
+    ]
+
+pub reduced-times_x : (n m k p q : ℕ) → q < 2 ^ n → times_x n m q < 2 ^ n → reduced n m k p (times_x n m q) ≡ times_x n m (reduced n m k p q)
+reduced-times_x n m zero p q h l = reduced-none n m p q l
+reduced-times_x n m (suc k) p q h l =
+    reduced-step n m k p (times_x n m q) l
+    ∙ ap (λ u. bit_xor (bit_at p 0 * times_x n m q) (times_x n m u)) (reduced-times_x n m k (p / 2) q h l)
+    ∙ ap (λ u. bit_xor u (times_x n m (times_x n m (reduced n m k (p / 2) q)))) (sym (times_x-bit n m (bit_at p 0) q (bit_at-lt p 0)))
+    ∙ sym (times_x-sum n m (bit_at p 0 * q) (times_x n m (reduced n m k (p / 2) q)))
+    ∙ ap (times_x n m) (sym (reduced-step n m k p q h))
+
+-- one turn of a loop that adds the terms up
+pub product-turn : (n m k total left term : ℕ) → term < 2 ^ n → times_x n m term < 2 ^ n
+    → bit_xor (bit_xor total (bit_at left 0 * term)) (reduced n m k (left / 2) (times_x n m term)) ≡ bit_xor total (reduced n m (suc k) left term)
+product-turn n m k total left term h l =
+    ap (bit_xor (bit_xor total (bit_at left 0 * term))) (reduced-times_x n m k (left / 2) term h l)
+    ∙ xor_assoc total (bit_at left 0 * term) (times_x n m (reduced n m k (left / 2) term))
+    ∙ ap (bit_xor total) (sym (reduced-step n m k left term h))
+
+pub product-start : (n m a b : ℕ) → bit_xor 0 (reduced n m n a b) ≡ product_modulo n m a b
+unfolding product_modulo
+product-start n m a b = xor_zero_l (reduced n m n a b)
+
+pub product-end : (n m total left term : ℕ) → bit_xor total (reduced n m 0 left term) ≡ total
+unfolding polynomial_product remainder
+product-end n m total left term = xor_zero_r total
+
+-- ---- the product with x on 128 bits
+
+pub times_x-low : (z : ℕ) → z < 2 ^ 127 → 2 * z ≡ times_x 128 block_modulus z
+times_x-low z h = sym (no_bit (2 * z) (bit_at (2 * z) 128) block_modulus (bit_at_above (2 * z) 128 128 (omega arith) (omega arith)))
+
+pub times_x-high : (z : ℕ) → 2 ^ 127 ≤ z → z < 2 ^ 128 → bit_xor (2 * (z - 2 ^ 127)) 0x87 ≡ times_x 128 block_modulus z
+times_x-high z h l =
+    let r = 2 * (z - 2 ^ 127) in
+    let d : 2 * z ≡ 1 * 2 ^ 128 + r = omega arith in
+    let b : bit_at (2 * z) 128 ≡ 1 = omega arith in
+    let m : 1 * block_modulus ≡ 1 * 2 ^ 128 + 0x87 = omega arith in
+    let e = xor_block 128 1 1 r 0x87 (omega arith) (lit< tt) in
+    sym (ap (λ u. bit_xor (2 * z) (u * block_modulus)) b ∙ ap (λ u. bit_xor u (1 * block_modulus)) d ∙ ap (bit_xor (1 * 2 ^ 128 + r)) m ∙ e ∙ zero-add (bit_xor r 0x87))

@@ -1,12 +1,12 @@
 -- The laws of both modes.
-use Rattle.std.proofs.Common.{[], ◌∷◌, ◌++◌, ◌≡◌, ℕ, zero, suc, ◌+◌, ◌-◌, ◌*◌, ◌/◌, ◌%◌, ◌^◌, ◌<◌, ◌≤◌, List, length, take, drop, slice_index, arith, refl, sym, ap, ◌∙◌, subst, append_assoc}
+use Rattle.std.proofs.Common.{◌++◌, ◌≡◌, ℕ, zero, suc, ◌+◌, ◌-◌, ◌*◌, ◌/◌, ◌%◌, ◌^◌, ◌<◌, ◌≤◌, List, length, take, drop, slice_index, arith, refl, sym, ap, ◌∙◌, subst, append_assoc}
 use Rattle.std.specs.Prelude.{bit_xor}
 use Rattle.std.proofs.lemmas.List.{get_or-take, get_or-drop, get_or_append_left, length-append, length-drop, length-take-le, take-take, take_at, take-append-drop, take-append-le}
 use Rattle.std.proofs.Math.Seq.{drop-append_seam}
 use Rattle.std.proofs.lemmas.List.FromFn.{fill_by_all}
-use Rattle.ssh_aes.specs.Aes.{listed, block, aes, inverse_aes, inverse_cipher, expanded_key, key_words}
-use Rattle.ssh_aes.specs.Modes.{Running, Ctr, Cbc, xored, stream_byte, counted, chained_block, chained, unchained, masked, unmasked, passed, moved, least}
-use Rattle.ssh_aes.specs.Laws.{IsBytes, RunsWell, OpensWell}
+use Rattle.ssh_aes.specs.Aes.{listed, block, inverse_aes, inverse_cipher, expanded_key, key_words}
+use Rattle.ssh_aes.specs.Modes.{Running, Ctr, Cbc, xored, stream_byte, counted, chained_block, chained, unchained, masked, unmasked, passed, least}
+use Rattle.ssh_aes.specs.Laws.{IsBytes, RunsWell, OpensWell, StreamsUndone}
 use Rattle.ssh_aes.proofs.Polynomials.{xor_cancel}
 use Rattle.ssh_aes.proofs.Schedules.{length-listed, listed-at, listed-same, block-same}
 use Rattle.ssh_aes.proofs.Written.{sixteen-elements}
@@ -100,7 +100,7 @@ length-chained key last (suc n) t h =
     length-append (chained_block key last t) (chained key (chained_block key last t) n (drop 16 t))
     ∙ omega (arith, c.length_is, length-drop 16 t, length-chained key (chained_block key last t) n (drop 16 t) (omega (arith, length-drop 16 t)))
 
-IsBytes-drop : (n : ℕ) (t : List ℕ) → IsBytes t → IsBytes (drop n t)
+pub IsBytes-drop : (n : ℕ) (t : List ℕ) → IsBytes t → IsBytes (drop n t)
 IsBytes-drop n t b i = subst (λ (x : ℕ). x < 256) (sym (get_or-drop n t i 0)) (b (n + i))
 
 chained-back : (key last : List ℕ) (n : ℕ) (t : List ℕ) → IsBytes t → 16 * n ≤ length t → unchained key last n (chained key last n t) ≡ t
@@ -190,8 +190,8 @@ opens_well r = record {
   early = shown-early r;
 }
 
-pub undoes : (r u : Running) (t : List ℕ) → r ≡ u → IsBytes t → unmasked u (masked r t) ≡ t
-undoes r u t e b = ap (λ v. unmasked v (masked r t)) (sym e) ∙ unmasked-masked r t b
-
-pub leaves_equal : (r u : Running) (t : List ℕ) → r ≡ u → passed u (masked r t) ≡ moved r t
-leaves_equal r u t e = ap (λ v. passed v (masked r t)) (sym e)
+pub streams_undone : {S : Type 0} (running : S → Running) → StreamsUndone running
+streams_undone running s t text e b = record {
+  text_is = ap (λ v. unmasked v (masked (running s) text)) (sym e) ∙ unmasked-masked (running s) text b;
+  state_is = ap (λ v. passed v (masked (running s) text)) (sym e);
+}

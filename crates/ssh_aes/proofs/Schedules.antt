@@ -1,13 +1,11 @@
 -- The key schedule, word by word, and what reads only its front.
-use Rattle.std.proofs.Common.{[], ◌∷◌, ◌++◌, ◌≡◌, ◌≢◌, ℕ, zero, suc, ◌+◌, ◌-◌, ◌*◌, ◌/◌, ◌%◌, ◌<◌, ◌≤◌, ◌⊎◌, ◌==◌, ◌&&◌, inl, inr, Bool, true, false, cond, eqb, List, length, take, map, slice_index, arith, refl, sym, ap, ◌∙◌, subst}
-use Rattle.std.specs.Prelude.{bit_xor, nat_le}
-use Rattle.std.specs.List.{range_with_len}
-use Rattle.std.proofs.lemmas.Bool.{eq-eqb, false≢true}
+use Rattle.std.proofs.Common.{◌++◌, ◌≡◌, ◌≢◌, ℕ, zero, suc, ◌+◌, ◌-◌, ◌*◌, ◌/◌, ◌%◌, ◌<◌, ◌≤◌, ◌&&◌, inl, inr, true, false, cond, eqb, List, length, take, slice_index, arith, refl, sym, ap, ◌∙◌}
+use Rattle.std.specs.Prelude.{bit_xor}
+use Rattle.std.proofs.lemmas.Bool.{eq-eqb}
 use Rattle.std.proofs.lemmas.Bool.Decides.{nat_tests}
 use Rattle.std.proofs.lemmas.List.{get_or-take, length-append, length-take-le, take-take, take_all, take-append-le}
 use Rattle.std.proofs.lemmas.List.FromFn.{fill_by_all, length-map-range_with_len, get_or-map-range_with_len}
-use Rattle.std.proofs.Math.Nat.{add-zero}
-use Rattle.ssh_aes.specs.Aes.{listed, bytes_of, substitute, round_constant, word_byte, plus_word, next_word, with_word, schedule, expanded_key, key_words, add_round_key, cipher, inverse_cipher, aes, inverse_aes}
+use Rattle.ssh_aes.specs.Aes.{listed, bytes_of, substitute, round_constant, word_byte, plus_word, next_word, schedule, expanded_key, key_words, add_round_key, cipher, inverse_cipher, aes, inverse_aes}
 use Rattle.ssh_aes.specs.Keys.{IsKeyLength, IsExpanded, key_in}
 use Rattle.ssh_aes.specs.Laws.{IsBytes}
 

@@ -1,5 +1,5 @@
 -- Loops that write one element after another.
-use Rattle.std.proofs.Common.{[], ◌∷◌, ◌++◌, sym, ap, ◌≡◌, ◌≢◌, ℕ, ◌+◌, ◌<◌, ◌≤◌, List, length, get_or, set, slice_index, arith, refl, below_more, get_or-set_same, get_or-set_other, ◌∙◌}
+use Rattle.std.proofs.Common.{[], ◌∷◌, ◌++◌, sym, ap, ◌≡◌, ◌≢◌, ℕ, ◌+◌, ◌<◌, ◌≤◌, List, length, set, slice_index, arith, refl, below_more, get_or-set_same, get_or-set_other, ◌∙◌}
 use Rattle.std.proofs.Math.ListN.{length-set}
 use Rattle.std.proofs.lemmas.List.FromFn.{fill_by_all}
 use Rattle.ssh_aes.specs.Aes.{listed}
@@ -40,3 +40,8 @@ four-fours p q r s hp hq hr hs =
     ∙ ap (λ x. p ++ x ++ (slice_index r 0 ∷ slice_index r 1 ∷ slice_index r 2 ∷ slice_index r 3 ∷ []) ++ (slice_index s 0 ∷ slice_index s 1 ∷ slice_index s 2 ∷ slice_index s 3 ∷ [])) (four-elements q hq)
     ∙ ap (λ x. p ++ q ++ x ++ (slice_index s 0 ∷ slice_index s 1 ∷ slice_index s 2 ∷ slice_index s 3 ∷ [])) (four-elements r hr)
     ∙ ap (λ x. p ++ q ++ r ++ x) (four-elements s hs)
+
+pub two-eights : (p q : List ℕ) → length p ≡ 8 → length q ≡ 8 → listed 8 (slice_index p) ++ listed 8 (slice_index q) ≡ p ++ q
+two-eights p q hp hq =
+    ap (λ x. x ++ listed 8 (slice_index q)) (sym (fill_by_all (slice_index p) p 8 0 hp (λ k l. refl)))
+    ∙ ap (λ x. p ++ x) (sym (fill_by_all (slice_index q) q 8 0 hq (λ k l. refl)))

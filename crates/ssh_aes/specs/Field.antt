@@ -18,10 +18,18 @@ remainder n m (suc k) p = remainder n m k (bit_xor p (bit_at p (n + k) * (m * 2 
 unfoldable pub product_modulo : ℕ → ℕ → ℕ → ℕ → ℕ
 product_modulo n m a b = remainder n m n (polynomial_product n a b)
 
+-- x * z modulo m of degree n, for z of degree below n
+abbrev pub times_x : ℕ → ℕ → ℕ → ℕ
+times_x n m z = bit_xor (2 * z) (bit_at (2 * z) n * m)
+
 -- the product of two bytes, modulo x^8 + x^4 + x^3 + x + 1 (FIPS 197 section 4.2)
 abbrev pub byte_product : ℕ → ℕ → ℕ
 byte_product a b = product_modulo 8 0x11b a b
 
--- the product of two blocks, modulo x^128 + x^7 + x^2 + x + 1 (SP 800-38D section 6.3)
+-- x^128 + x^7 + x^2 + x + 1 (SP 800-38D section 6.3)
+abbrev pub block_modulus : ℕ
+block_modulus = 2 ^ 128 + 0x87
+
+-- the product of two blocks (SP 800-38D section 6.3)
 abbrev pub block_product : ℕ → ℕ → ℕ
-block_product a b = product_modulo 128 (2 ^ 128 + 0x87) a b
+block_product a b = product_modulo 128 block_modulus a b

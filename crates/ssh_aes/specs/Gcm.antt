@@ -50,14 +50,18 @@ nonce_block nonce n = listed 12 (λ i. slice_index nonce i) ++ to_be_bytes w32 (
 unfoldable pub nonce_stream : List ℕ → List ℕ → ℕ → List ℕ
 nonce_stream key nonce n = aes key (nonce_block nonce n)
 
--- the cipher text: the text's blocks are combined with counter blocks 2, 3, .. (section 7.1)
-unfoldable pub gcm_text : (key nonce aad text : List ℕ) → List ℕ
-gcm_text key nonce aad text =
+-- a text whose blocks are combined with counter blocks 2, 3, .. (section 7.1)
+unfoldable pub gcm_counted : (key nonce text : List ℕ) → List ℕ
+gcm_counted key nonce text =
     listed (length text) (λ i. bit_xor (slice_index text i) (slice_index (nonce_stream key nonce (i / 16 + 2)) (i % 16)))
+
+-- the cipher text of a text, which doesn't depend on the additional text (section 7.1)
+abbrev pub gcm_text : (key nonce aad text : List ℕ) → List ℕ
+gcm_text key nonce aad text = gcm_counted key nonce text
 
 -- the text of a cipher text (section 7.2)
 abbrev pub gcm_plain : (key nonce aad text : List ℕ) → List ℕ
-gcm_plain key nonce aad text = gcm_text key nonce aad text
+gcm_plain key nonce aad text = gcm_counted key nonce text
 
 -- the tag of a cipher text (section 7.1)
 unfoldable pub cipher_tag : (key nonce aad text : List ℕ) → List ℕ

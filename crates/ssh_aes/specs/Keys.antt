@@ -1,5 +1,5 @@
 -- What the prepared key of AES holds.
-use Rattle.std.specs.Prelude.{◌≡◌, ℕ, ◌+◌, ◌*◌, ◌⊎◌, List, length, take}
+use Rattle.std.specs.Prelude.{◌≡◌, ℕ, ◌+◌, ◌*◌, ◌⊎◌, List, take}
 use Rattle.ssh_aes.specs.Aes.{expanded_key}
 
 -- a key has 16, 24 or 32 bytes (FIPS 197 section 5)

@@ -1,5 +1,5 @@
 -- What is true of the block cipher and of its modes.
-use Rattle.std.specs.Prelude.{◌≡◌, ℕ, ◌+◌, ◌<◌, ◌≤◌, List, ◌++◌, length, take, slice_index}
+use Rattle.std.specs.Prelude.{◌≡◌, ℕ, ◌<◌, ◌≤◌, List, ◌++◌, length, take, slice_index}
 use Rattle.ssh_aes.specs.Aes.{aes, inverse_aes}
 use Rattle.ssh_aes.specs.Modes.{Running, masked, unmasked, moved, passed, least}
 use Rattle.ssh_aes.specs.Gcm.{gcm_text, gcm_tag, gcm_plain}
@@ -30,3 +30,13 @@ pub record GcmWell (key nonce : List ℕ) : Type 0 where
   pub injective : (aad s t : List ℕ) → IsBytes s → IsBytes t → length s ≡ length t → gcm_text key nonce aad s ≡ gcm_text key nonce aad t → s ≡ t
   pub tag : (aad t : List ℕ) → length (gcm_tag key nonce aad t) ≡ 16
   pub opens : (aad t : List ℕ) → IsBytes t → gcm_plain key nonce aad (gcm_text key nonce aad t) ≡ t
+
+-- two ciphers at equal states: one decrypts what the other encrypts, whatever the length, and they
+-- are at equal states again
+pub record IsUndone {S : Type 0} (running : S → Running) (s t : S) (text : List ℕ) : Type 0 where
+  pub text_is : unmasked (running t) (masked (running s) text) ≡ text
+  pub state_is : passed (running t) (masked (running s) text) ≡ moved (running s) text
+
+-- so do all ciphers of a type
+abbrev pub StreamsUndone : {S : Type 0} → (S → Running) → Type 0
+StreamsUndone {S} running = (s t : S) (text : List ℕ) → running s ≡ running t → IsBytes text → IsUndone running s t text

@@ -6,4 +6,3 @@ pub mod States
 pub mod Gcm
 pub mod Laws
 pub mod Examples
-pub mod Proved

@@ -1,5 +1,5 @@
 -- Counter mode and chaining mode (SP 800-38A) over AES. A text is a list of bytes of any length.
-use Rattle.std.specs.Prelude.{ℕ, zero, suc, ◌+◌, ◌*◌, ◌/◌, ◌%◌, ◌^◌, List, [], ◌∷◌, ◌++◌, length, take, drop, bit_xor, slice_index}
+use Rattle.std.specs.Prelude.{ℕ, zero, suc, ◌+◌, ◌/◌, ◌%◌, ◌^◌, List, ◌++◌, length, take, drop, bit_xor, slice_index}
 use Rattle.std.specs.Int.{w128, from_be_bytes, to_be_bytes}
 use Rattle.ssh_aes.specs.Aes.{listed, block, aes, inverse_aes}
 

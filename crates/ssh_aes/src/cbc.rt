@@ -4,7 +4,6 @@ ghost use Rattle.std.specs.Prelude.{◌≡◌, ◌/◌, length};
 ghost use Rattle.ssh_aes.specs.Keys.{IsKeyLength};
 ghost use Rattle.ssh_aes.specs.Modes.{chained, unchained, last_block};
 ghost use Rattle.ssh_aes.specs.States.{chaining};
-ghost use Rattle.ssh_aes.specs.Proved.{undoes, leaves_equal, runs_well, opens_well};
 
 use crate::aes::Aes;
 use crate::blocks::{add_block, block_at, put_block};
@@ -71,14 +70,6 @@ fn unchain(aes: &Aes, last: &mut [u8; 16], bytes: &mut [u8])
 
 impl BlockStreamCipher for CbcWrapper {
     ghost running = { chaining };
-
-    ghost undoes = { λ s t. undoes (chaining s) (chaining t) };
-
-    ghost leaves_equal = { λ s t. leaves_equal (chaining s) (chaining t) };
-
-    ghost runs_well = { λ s. runs_well (chaining s) };
-
-    ghost opens_well = { λ s. opens_well (chaining s) };
 
     fn encrypt_data(&mut self, bytes: &mut [u8]) {
         chain(&self.aes, &mut self.last, bytes);

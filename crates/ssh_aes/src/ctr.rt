@@ -4,7 +4,6 @@ ghost use Rattle.std.specs.Prelude.{◌≡◌, ◌≢◌, ◌+◌, ◌/◌, ◌%
 ghost use Rattle.ssh_aes.specs.Keys.{IsKeyLength};
 ghost use Rattle.ssh_aes.specs.Modes.{stream_block, counted};
 ghost use Rattle.ssh_aes.specs.States.{counting};
-ghost use Rattle.ssh_aes.specs.Proved.{undoes, leaves_equal, runs_well, opens_well};
 
 use crate::aes::Aes;
 use crate::runs::{BlockStreamCipher, PacketLengthProbe};
@@ -87,14 +86,6 @@ impl CtrWrapper {
 
 impl BlockStreamCipher for CtrWrapper {
     ghost running = { counting };
-
-    ghost undoes = { λ s t. undoes (counting s) (counting t) };
-
-    ghost leaves_equal = { λ s t. leaves_equal (counting s) (counting t) };
-
-    ghost runs_well = { λ s. runs_well (counting s) };
-
-    ghost opens_well = { λ s. opens_well (counting s) };
 
     fn encrypt_data(&mut self, bytes: &mut [u8]) {
         self.mask(bytes);

@@ -6,6 +6,8 @@ mod aes;
 mod blocks;
 mod cbc;
 mod ctr;
+mod gcm;
+mod hash;
 mod laws;
 mod runs;
 mod steps;
@@ -14,5 +16,8 @@ mod tables;
 pub use crate::aes::Aes;
 pub use crate::cbc::CbcWrapper;
 pub use crate::ctr::CtrWrapper;
-pub use crate::laws::{blocks_undone, opens_well, runs_well, worked_examples};
+pub use crate::gcm::Gcm;
+pub use crate::laws::{
+    blocks_undone, gcm_well, opens_well, runs_well, streams_undone, worked_examples,
+};
 pub use crate::runs::{BlockStreamCipher, PacketLengthProbe};

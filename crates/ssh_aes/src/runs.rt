@@ -1,10 +1,10 @@
 //! What a sealing key asks of a cipher that runs on from packet to packet.
 
-ghost use Rattle.std.specs.Prelude.{◌≡◌, ℕ, List};
+ghost use Rattle.std.specs.Prelude.{◌≡◌};
 ghost use Rattle.ssh_aes.specs.Modes.{Running, masked, unmasked, moved, passed};
-ghost use Rattle.ssh_aes.specs.Laws.{IsBytes, RunsWell, OpensWell};
 
-/// A cipher that encrypts or decrypts a text of any length in place, and runs on behind it.
+/// A cipher that encrypts or decrypts a text of any length in place, and runs on behind it. How it
+/// runs on is a `Running`, of which `runs_well`, `opens_well` and `streams_undone` state the laws.
 pub trait BlockStreamCipher {
     // how the cipher runs on
     ghost running: { Self → Running };
@@ -18,18 +18,6 @@ pub trait BlockStreamCipher {
     fn decrypt_data(&mut self, bytes: &mut [u8])
         ensures text { bytes.new ≡ unmasked (running self.old) bytes.old }
         ensures state { running self.new ≡ passed (running self.old) bytes.old };
-
-    // at equal states decryption undoes encryption, whatever the length
-    ghost undoes: { (s t : Self) (text : List ℕ) → running s ≡ running t → IsBytes text → unmasked (running t) (masked (running s) text) ≡ text };
-
-    // and leaves equal states
-    ghost leaves_equal: { (s t : Self) (text : List ℕ) → running s ≡ running t → passed (running t) (masked (running s) text) ≡ moved (running s) text };
-
-    // the length is kept, texts are told apart, and a front shows a front
-    ghost runs_well: { (s : Self) → RunsWell (running s) };
-
-    // the first block gives the first four bytes
-    ghost opens_well: { (s : Self) → OpensWell (running s) };
 }
 
 /// A cipher of which a packet's length can be read before the packet is whole.

@@ -1,6 +1,5 @@
-use Rattle.std.proofs.Common.{◌≡◌, ◌≢◌, ◌+◌, ◌-◌, ◌*◌, ◌/◌, ◌%◌, ◌<◌, ◌⊎◌, inl, inr, refl, sym, ap, ◌∙◌, arith}
+use Rattle.std.proofs.Common.{◌≡◌, ◌≢◌, ◌-◌, ◌/◌, ◌%◌, refl}
 use Rattle.std.proofs.Math.Nat.{add-zero}
-use Rattle.ssh_aes.specs.Aes.{substitute}
 use Rattle.ssh_aes.proofs.Entries.{constants_is}
 use Rattle.ssh_aes.proofs.Schedules.{next_word-first, next_word-middle, next_word-plain, constant_index}
 use Rattle.ssh_aes.proofs.aes.word_after.Goals as goal

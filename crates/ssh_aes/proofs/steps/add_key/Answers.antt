@@ -1,4 +1,4 @@
-use Rattle.std.proofs.Common.{◌≡◌, arith, ap, ◌∙◌, slice_index, ◌+◌, ◌*◌}
+use Rattle.std.proofs.Common.{◌≡◌, arith, ap, slice_index, ◌+◌, ◌*◌}
 use Rattle.std.specs.Prelude.{bit_xor}
 use Rattle.ssh_aes.specs.Aes.{add_round_key}
 use Rattle.ssh_aes.proofs.Written.{IsWritten-none, IsWritten-more, IsWritten-all}

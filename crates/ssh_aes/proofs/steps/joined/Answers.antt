@@ -1,4 +1,4 @@
-use Rattle.std.proofs.Common.{◌≡◌, length, rules}
+use Rattle.std.proofs.Common.{rules}
 use Rattle.ssh_aes.proofs.Written.{four-fours}
 use Rattle.ssh_aes.proofs.steps.joined.Goals as goal
 

@@ -1,4 +1,4 @@
-use Rattle.std.proofs.Common.{◌≡◌, ◌<◌, refl, arith, sym}
+use Rattle.std.proofs.Common.{refl, arith}
 use Rattle.ssh_aes.specs.Aes.{mixed_column}
 use Rattle.ssh_aes.proofs.Entries.{one_is}
 use Rattle.ssh_aes.proofs.steps.mix_column.Goals as goal

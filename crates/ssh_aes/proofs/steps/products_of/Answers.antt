@@ -1,4 +1,4 @@
-use Rattle.std.proofs.Common.{◌≡◌, arith}
+use Rattle.std.proofs.Common.{arith}
 use Rattle.ssh_aes.proofs.Entries.{nine_is, eleven_is, thirteen_is, fourteen_is}
 use Rattle.ssh_aes.proofs.steps.products_of.Goals as goal
 

@@ -1,5 +1,4 @@
-use Rattle.std.proofs.Common.{◌≡◌, ◌<◌, length, arith, rules, ap, ◌∙◌, slice_index}
-use Rattle.ssh_aes.specs.declared.tables.TheConstants.{SUBSTITUTION}
+use Rattle.std.proofs.Common.{◌≡◌, ◌<◌, arith, rules, ap, ◌∙◌, slice_index}
 use Rattle.ssh_aes.specs.Aes.{substitute, sub_bytes}
 use Rattle.ssh_aes.proofs.Entries.{substitution_is}
 use Rattle.ssh_aes.proofs.Written.{IsWritten-none, IsWritten-more, IsWritten-all}

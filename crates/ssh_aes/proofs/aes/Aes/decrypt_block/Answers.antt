@@ -1,4 +1,4 @@
-use Rattle.std.proofs.Common.{suc, zero, ◌≡◌, ◌<◌, ◌≤◌, ◌+◌, ◌-◌, ◌*◌, ◌/◌, ℕ, length, take, slice_index, arith, rules, refl, sym, ap, ◌∙◌}
+use Rattle.std.proofs.Common.{suc, ◌≡◌, ◌+◌, ◌-◌, ◌*◌, arith, refl, sym, ◌∙◌}
 use Rattle.ssh_aes.specs.Aes.{inverse_rounds, inverse_cipher}
 use Rattle.ssh_aes.proofs.Schedules.{add_round_key-take, decrypted}
 use Rattle.ssh_aes.proofs.aes.Aes.decrypt_block.Goals as goal

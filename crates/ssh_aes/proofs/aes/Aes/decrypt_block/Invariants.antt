@@ -1,4 +1,4 @@
-use Rattle.std.proofs.Common.{◌≡◌, ◌*◌, ◌-◌, ◌+◌, length, take}
+use Rattle.std.proofs.Common.{◌≡◌, ◌*◌, ◌-◌, ◌+◌, take}
 use Rattle.ssh_aes.specs.Aes.{inverse_rounds, inverse_cipher}
 use Rattle.ssh_aes.proofs.aes.Aes.decrypt_block.Given as goal
 

@@ -1,5 +1,5 @@
-use Rattle.std.proofs.Common.{suc, ◌≡◌, ◌<◌, ◌≤◌, ◌+◌, ◌-◌, ◌*◌, ◌/◌, ℕ, length, take, slice_index, arith, rules, refl, sym, ap, ◌∙◌}
-use Rattle.ssh_aes.specs.Aes.{rounds, cipher, aes, key_words, expanded_key}
+use Rattle.std.proofs.Common.{suc, ◌≡◌, ◌+◌, ◌-◌, ◌*◌, arith, refl, sym, ◌∙◌}
+use Rattle.ssh_aes.specs.Aes.{rounds, cipher}
 use Rattle.ssh_aes.proofs.Schedules.{add_round_key-take, encrypted}
 use Rattle.ssh_aes.proofs.aes.Aes.encrypt_block.Goals as goal
 

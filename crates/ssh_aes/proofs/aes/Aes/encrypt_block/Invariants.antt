@@ -1,4 +1,4 @@
-use Rattle.std.proofs.Common.{◌≡◌, ◌*◌, ◌-◌, ◌+◌, length, take}
+use Rattle.std.proofs.Common.{◌≡◌, ◌*◌, ◌-◌, ◌+◌, take}
 use Rattle.ssh_aes.specs.Aes.{rounds}
 use Rattle.ssh_aes.proofs.aes.Aes.encrypt_block.Given as goal
 

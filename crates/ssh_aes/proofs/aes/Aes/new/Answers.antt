@@ -1,9 +1,7 @@
-use Rattle.std.proofs.Common.{[], ◌∷◌, ◌++◌, ◌≡◌, ◌<◌, ◌≤◌, ◌+◌, ◌-◌, ◌*◌, ◌/◌, ℕ, length, take, drop, arith, rules, refl, sym, ap, ◌∙◌}
+use Rattle.std.proofs.Common.{◌++◌, ◌≡◌, ◌+◌, ◌-◌, ◌*◌, ◌/◌, length, take, arith, rules, refl, sym, ap, ◌∙◌}
 use Rattle.std.proofs.lemmas.Slice.{take-put_mid}
-use Rattle.std.proofs.lemmas.List.{length-append, take_at}
 use borrow.Rule.Slice.PartMut.{same_len_mid}
-use Rattle.ssh_aes.specs.Aes.{schedule, expanded_key, next_word}
-use Rattle.ssh_aes.specs.Keys.{IsExpanded}
+use Rattle.ssh_aes.specs.Aes.{schedule}
 use Rattle.ssh_aes.proofs.Schedules.{schedule-more, next_word-take, length-next_word, whole_words, key_length, bytes_of-same, expanded-made, some_words}
 use Rattle.ssh_aes.proofs.aes.Aes.new.Goals as goal
 
