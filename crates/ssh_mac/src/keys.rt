@@ -1,6 +1,6 @@
 //! What authenticates packets: the trait of MACs, HMAC over packets in clear and over encrypted ones, and none.
 
-ghost use Rattle.std.specs.Prelude.{◌≡◌, ℕ, List, Bool, true, length};
+ghost use Rattle.std.specs.Prelude.{◌≡◌, ◌≤◌, ℕ, List, Bool, true, length};
 ghost use Rattle.std.specs.Str.{bytes_eq};
 
 use crate::digest::DigestKind;
@@ -25,9 +25,10 @@ pub trait Mac {
     // Whether a tag is taken for that of a packet number and a text.
     ghost accepts: { Self → ℕ → List ℕ → List ℕ → Bool };
 
-    /// The length of a tag in bytes.
+    /// The length of a tag in bytes, at most 64.
     fn mac_len(&self) -> usize
-        ensures { result ≡ size self.now };
+        ensures value { result ≡ size self.now }
+        ensures short { result ≤ 64 };
 
     /// Whether the tag is over the encrypted packet, its length in clear; else it is over the packet in clear.
     fn is_etm(&self) -> bool
@@ -41,6 +42,9 @@ pub trait Mac {
     /// Whether `mac` is the tag of the packet number and the text; always where there is no MAC.
     fn verify(&self, sequence_number: u32, payload: &[u8], mac: &[u8]) -> bool
         ensures { result ≡ accepts self.now sequence_number payload.now mac.now };
+
+    // It is at most 64.
+    ghost size_is_short: { (m : Self) → size m ≤ 64 };
 
     // Each tag has that length.
     ghost tag_has_size: { (m : Self) (number : ℕ) (text : List ℕ) → length (tag m number text) ≡ size m };
@@ -114,7 +118,7 @@ impl CryptoMac {
 
 impl Mac for CryptoMac {
     ghost use Rattle.ssh_mac.specs.Tags.{tag_length, is_encrypt_then_mac, tag_of, takes_tag, Plain};
-    ghost use Rattle.ssh_mac.specs.TagLaws.{length-tag_of, own-taken, taken-own};
+    ghost use Rattle.ssh_mac.specs.TagLaws.{tag_length-short, length-tag_of, own-taken, taken-own};
 
     ghost size = { λ m. tag_length (Plain m.digest m.key) };
 
@@ -123,6 +127,8 @@ impl Mac for CryptoMac {
     ghost tag = { λ m. tag_of (Plain m.digest m.key) };
 
     ghost accepts = { λ m. takes_tag (Plain m.digest m.key) };
+
+    ghost size_is_short = { λ m. tag_length-short (Plain m.digest m.key) };
 
     ghost tag_has_size = { λ m. length-tag_of (Plain m.digest m.key) };
 
@@ -178,7 +184,7 @@ impl CryptoEtmMac {
 
 impl Mac for CryptoEtmMac {
     ghost use Rattle.ssh_mac.specs.Tags.{tag_length, is_encrypt_then_mac, tag_of, takes_tag, Etm};
-    ghost use Rattle.ssh_mac.specs.TagLaws.{length-tag_of, own-taken, taken-own};
+    ghost use Rattle.ssh_mac.specs.TagLaws.{tag_length-short, length-tag_of, own-taken, taken-own};
 
     ghost size = { λ m. tag_length (Etm m.digest m.key) };
 
@@ -187,6 +193,8 @@ impl Mac for CryptoEtmMac {
     ghost tag = { λ m. tag_of (Etm m.digest m.key) };
 
     ghost accepts = { λ m. takes_tag (Etm m.digest m.key) };
+
+    ghost size_is_short = { λ m. tag_length-short (Etm m.digest m.key) };
 
     ghost tag_has_size = { λ m. length-tag_of (Etm m.digest m.key) };
 
@@ -218,7 +226,7 @@ pub struct NoMac;
 impl Mac for NoMac {
     ghost use Rattle.ssh_mac.specs.Tags.{tag_length, is_encrypt_then_mac, tag_of, takes_tag};
     ghost use Rattle.ssh_mac.specs.Tags as Tags;
-    ghost use Rattle.ssh_mac.specs.TagLaws.{length-tag_of, own-taken, taken-own};
+    ghost use Rattle.ssh_mac.specs.TagLaws.{tag_length-short, length-tag_of, own-taken, taken-own};
 
     ghost size = { λ _. tag_length Tags.NoMac };
 
@@ -227,6 +235,8 @@ impl Mac for NoMac {
     ghost tag = { λ _. tag_of Tags.NoMac };
 
     ghost accepts = { λ _. takes_tag Tags.NoMac };
+
+    ghost size_is_short = { λ _. tag_length-short Tags.NoMac };
 
     ghost tag_has_size = { λ _. length-tag_of Tags.NoMac };
 
@@ -263,7 +273,7 @@ pub enum MacKey {
 impl Mac for MacKey {
     ghost use Rattle.ssh_mac.specs.Keys.{mac_of};
     ghost use Rattle.ssh_mac.specs.Tags.{tag_length, is_encrypt_then_mac, tag_of, takes_tag};
-    ghost use Rattle.ssh_mac.specs.TagLaws.{length-tag_of, own-taken, taken-own};
+    ghost use Rattle.ssh_mac.specs.TagLaws.{tag_length-short, length-tag_of, own-taken, taken-own};
 
     ghost size = { λ m. tag_length (mac_of m) };
 
@@ -272,6 +282,8 @@ impl Mac for MacKey {
     ghost tag = { λ m. tag_of (mac_of m) };
 
     ghost accepts = { λ m. takes_tag (mac_of m) };
+
+    ghost size_is_short = { λ m. tag_length-short (mac_of m) };
 
     ghost tag_has_size = { λ m. length-tag_of (mac_of m) };
 

@@ -139,6 +139,33 @@ fn digests_of_the_standard(rt: HostRuntime) {
     }
 }
 
+/// The last example of the standard: a million bytes `a`, here in pieces of 64.
+#[test]
+fn digests_of_a_million_bytes(rt: HostRuntime) {
+    let rows = [
+        (DigestKind::Sha1, "34aa973cd4c4daa4f61eeb2bdbad27316534016f"),
+        (
+            DigestKind::Sha256,
+            "cdc76e5c9914fb9281a1c7e284d73e67f1809a48a497200e046d39ccc7112cd0",
+        ),
+        (
+            DigestKind::Sha384,
+            "9d0e1809716474cb086e834e310a4a1ced149e9c00f248527972cec5704c2a5b07b8b3dc38ecc4ebae97ddd87f3d8985",
+        ),
+        (
+            DigestKind::Sha512,
+            "e718483d0ce769644e2e42c7bc15b4638e1f98b13b2044285632a803afa973ebde0ff244877ea60a4cb0432ce577c31beb009c5c2c49aa2e4eadb217ad8cc09b",
+        ),
+    ];
+    for (kind, wanted) in rows {
+        let mut hasher = Hasher::new(kind);
+        for _ in 0..15625 {
+            hasher.update(&[b'a'; 64]);
+        }
+        assert!(rt; is_hex(hasher.finalize().as_bytes(), wanted), "{kind:?}");
+    }
+}
+
 /// The cases of RFC 2202 section 3.
 #[test]
 fn hmac_with_sha1(rt: HostRuntime) {
@@ -384,7 +411,6 @@ fn tags_of_a_packet(rt: HostRuntime) {
         whole[..4].copy_from_slice(b"Jefe");
         let key = name.make_mac(&whole[..name.key_len()]);
         let size = key.mac_len();
-        assert!(rt; size <= 64, "{name:?}");
         let mut room = [0; 64];
         key.compute(0x7768_6174, text, &mut room[..size]);
         let tag = &room[..size];
