@@ -14,6 +14,8 @@ use Rattle.ssh_packet.specs.declared.reader.Incoming.{Incoming}
 use Rattle.ssh_packet.specs.contracts.reader.PacketReader.{the_row}
 use Rattle.ssh_packet.specs.contracts.writer.PacketWriter.{the_row as writer_row}
 use Rattle.ssh_packet.specs.contracts.buffer.SSHBuffer.{the_row as buffer_row}
+use Rattle.ssh_packet.specs.contracts.compression.Compress.{the_row as compress_row}
+use Rattle.ssh_packet.specs.declared.compression.Compress.{Compress}
 
 -- a packet was handed out: its payload is lent, `seqn` is its number plus one
 pub record HandsOut (old : Reader) (key : Sealing) (item : Item) (incoming : Incoming) (new : Reader) (key' : Sealing) : Type 0 where
@@ -47,3 +49,6 @@ with_buffer w b = record w { output = b.output; len = b.len; count = b.count; nu
 
 abbrev pub LendsBuffer : MutBor Writer → MutBor Written → Fml
 LendsBuffer self result = Lends writer_row buffer_row self result (with_buffer self.now)
+
+abbrev pub LendsCompress : MutBor Writer → MutBor Compress → Fml
+LendsCompress self result = Lends writer_row compress_row self result (λ c. self.now)

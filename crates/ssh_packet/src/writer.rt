@@ -1,13 +1,14 @@
 //! Sealing payloads into packets.
 
-ghost use Rattle.std.specs.Prelude.{◌≡◌, ◌+◌, ◌<◌, ◌≤◌, ◌++◌, [], length, replicate, OnOk, OnErr, IfErr, Err, vec_len, vec_capacity};
+ghost use Rattle.std.specs.Prelude.{◌≡◌, ◌+◌, ◌<◌, ◌≤◌, ◌++◌, [], length, drop, replicate, OnOk, OnErr, IfErr, Err, vec_len, vec_capacity};
 ghost use Rattle.std.specs.Borrow.{sem};
 ghost use Rattle.ssh_wire.specs.declared.error.Error.TheVariants.{PacketSize, Memory};
 ghost use Rattle.ssh_packet.specs.Sealing.{Clear, IsAdmissible, framed, item_of, stream_after, longest_payload};
 ghost use Rattle.ssh_packet.specs.Writing.{sent, IsSizeOrMemory};
 
-use crate::buffer::SSHBuffer;
+use crate::buffer::{SSHBuffer, drop_front};
 use crate::clear;
+use crate::compression::Compress;
 use crate::keys::SealKey;
 use rand_core::Rng;
 use ssh_wire::{Error, put_u8, put_u32};
@@ -22,6 +23,7 @@ const LONGEST_PAYLOAD: usize = 262157;
 pub struct PacketWriter {
     buffer: SSHBuffer,
     cipher: SealKey,
+    compress: Compress,
 }
 
 impl Model for PacketWriter {
@@ -34,16 +36,25 @@ impl Model for PacketWriter {
 }
 
 impl PacketWriter {
-    ghost use Rattle.ssh_packet.specs.Lending.{LendsBuffer};
+    ghost use Rattle.ssh_packet.specs.Keys.{sealing_of};
+    ghost use Rattle.ssh_packet.specs.Lending.{LendsBuffer, LendsCompress};
+
+    /// A writer under a key, before packet 0.
+    pub fn new(cipher: SealKey, compress: Compress, alloc: Global) -> PacketWriter
+        ensures { result ≡ record { output = []; len = 0; count = 0; number = 0; sealing = sealing_of cipher } }
+    {
+        PacketWriter {
+            buffer: SSHBuffer::new(alloc),
+            cipher,
+            compress,
+        }
+    }
 
     /// A writer under the clear key, before packet 0.
     pub fn clear(alloc: Global) -> PacketWriter
         ensures { result ≡ record { output = []; len = 0; count = 0; number = 0; sealing = Clear } }
     {
-        PacketWriter {
-            buffer: SSHBuffer::new(alloc),
-            cipher: SealKey::Clear(clear::Key),
-        }
+        PacketWriter::new(SealKey::Clear(clear::Key), Compress::None, alloc)
     }
 
     /// Appends one packet of the payload. A payload of no bytes sends nothing. PacketSize where it is
@@ -77,6 +88,43 @@ impl PacketWriter {
         ensures { result.now ≡ self.now.output }
     {
         self.buffer.buffer.as_slice()
+    }
+
+    /// Drops the first n bytes of the output.
+    pub fn consume_output(&mut self, n: usize)
+        requires { n ≤ length self.old.output }
+        ensures { self.new ≡ record self.old { output = drop n self.old.output } }
+    {
+        drop_front(&mut self.buffer.buffer, n);
+    }
+
+    /// How many bytes of payload were written under the key; the count stands still at its end.
+    pub fn bytes_written(&self) -> usize
+        ensures { result ≡ self.now.count }
+    {
+        self.buffer.bytes
+    }
+
+    /// Goes on under another key: the count begins again, the packet number doesn't.
+    pub fn set_cipher(&mut self, cipher: SealKey)
+        ensures { self.new ≡ record self.old { sealing = sealing_of cipher; count = 0 } }
+    {
+        self.cipher = cipher;
+        self.buffer.bytes = 0;
+    }
+
+    /// The next packet has the number 0, as under strict key exchange.
+    pub fn reset_seqn(&mut self)
+        ensures { self.new ≡ record self.old { number = 0 } }
+    {
+        self.buffer.seqn = 0;
+    }
+
+    /// What compresses payloads, lent. It has one value, so the writer stays as it is.
+    pub fn compress(&mut self) -> &mut Compress
+        ensures* after_borrow { sem 𝓛 (LendsCompress self.entry result) }
+    {
+        &mut self.compress
     }
 
     /// The buffer, lent.
