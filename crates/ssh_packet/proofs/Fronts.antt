@@ -8,13 +8,13 @@ use Rattle.std.proofs.Math.Seq.{take-append_seam, drop-append_seam}
 use Rattle.std.specs.Int.{w32, from_be_bytes}
 use Rattle.std.specs.Str.{bytes_eq}
 use Rattle.ssh_aes.specs.Gcm.{gcm_text, gcm_tag, gcm_plain, cipher_tag}
-use Rattle.ssh_aes.specs.Modes.{Running, masked, unmasked}
+use Rattle.ssh_aes.specs.Modes.{Running, masked, unmasked, moved, passed}
 use Rattle.ssh_mac.specs.TagLaws.{length-tag_of}
 use Rattle.ssh_mac.specs.Tags.{MacOf, tag_of, tag_length, is_encrypt_then_mac}
 use Rattle.ssh_packet.proofs.Ciphers.{runs_well, opens_well, gcm_well}
 use Rattle.ssh_packet.proofs.Shapes.{front_framed, length_framed, framed_bytes, bytes_drop, length_take4, item_alike}
-use Rattle.ssh_packet.specs.Front.{Fault, PacketSize, IndexOutOfBounds, Front, Whole, Unfinished, Refused, probed, length_in, is_bad_length, decrypted, text_in, covered, tag_for, tag_fault, parted, parted_by, checked, opened, measured, front_of}
-use Rattle.ssh_packet.specs.Sealing.{Item, Sealing, Clear, Block, Gcm, framed, packet_length, closed, enclosed, sealed, probe, shown_by, shortest, tag_size, IsAdmissible, IsBytes}
+use Rattle.ssh_packet.specs.Front.{Fault, PacketSize, IndexOutOfBounds, Front, Whole, Unfinished, Refused, probed, length_in, is_bad_length, decrypted, text_in, opened_past, covered, tag_for, tag_fault, parted, parted_by, checked, opened, measured, front_of}
+use Rattle.ssh_packet.specs.Sealing.{Item, Sealing, Clear, Block, Gcm, framed, packet_length, hidden, moved_past, closed, enclosed, sealed, probe, shown_by, shortest, tag_size, IsAdmissible, IsBytes}
 
 pub not_below : (a b : ℕ) → b ≤ a → nat_lt a b ≡ false
 not_below a b h = grind (arith, nat_tests)
@@ -37,7 +37,7 @@ over : Bool → Running → List ℕ → List ℕ
 over true r t = take 4 t ++ masked r (drop 4 t)
 over false r t = t
 
-body : Sealing → List ℕ → List ℕ
+pub body : Sealing → List ℕ → List ℕ
 body Clear t = t
 body (Block r mac) t = body_by (is_encrypt_then_mac mac) r t
 body (Gcm key nonce) t = take 4 t ++ gcm_text key nonce (take 4 t) (drop 4 t)
@@ -119,6 +119,18 @@ tag_back (Gcm key nonce) number t b h =
     let hidden = gcm_text key nonce (take 4 t) (drop 4 t) in
     ap (λ a. cipher_tag key nonce a (drop 4 (take 4 t ++ hidden))) (take_headed t hidden h)
     ∙ ap (cipher_tag key nonce (take 4 t)) (drop_headed t hidden h)
+
+-- opened, it leaves what sealing it did
+passed_back : (etm : Bool) (r : Running) (t : List ℕ) → 4 ≤ length t → passed r (hidden etm (body_by etm r t)) ≡ moved r (hidden etm t)
+unfolding body_by
+passed_back true r t h = ap (passed r) (drop_headed t (masked r (drop 4 t)) h) ∙ (opens_well r).leaves (drop 4 t)
+passed_back false r t h = (opens_well r).leaves t
+
+pub opened_back : (s : Sealing) (t : List ℕ) → 4 ≤ length t → opened_past s (body s t) ≡ moved_past s t
+unfolding body
+opened_back Clear t h = refl
+opened_back (Block r mac) t h = ap (λ q. Block q mac) (passed_back (is_encrypt_then_mac mac) r t h)
+opened_back (Gcm key nonce) t h = refl
 
 -- ---- a packet at the front
 

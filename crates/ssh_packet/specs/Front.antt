@@ -3,9 +3,9 @@ use Rattle.std.specs.Prelude.{◌≡◌, ℕ, ◌+◌, ◌-◌, nat_lt, ◌||◌
 use Rattle.std.specs.Int.{w32, from_be_bytes}
 use Rattle.std.specs.Str.{bytes_eq}
 use Rattle.ssh_aes.specs.Gcm.{gcm_plain, cipher_tag}
-use Rattle.ssh_aes.specs.Modes.{Running, unmasked}
+use Rattle.ssh_aes.specs.Modes.{Running, unmasked, passed}
 use Rattle.ssh_mac.specs.Tags.{tag_of, is_encrypt_then_mac}
-use Rattle.ssh_packet.specs.Sealing.{Item, Sealing, Clear, Block, Gcm, tag_size, probe, shortest, longest_packet}
+use Rattle.ssh_packet.specs.Sealing.{Item, Sealing, Clear, Block, Gcm, hidden, next_nonce, tag_size, probe, shortest, longest_packet}
 
 pub data Fault : Type 0 where
   PacketSize : (n : ℕ) → Fault
@@ -41,6 +41,12 @@ abbrev pub text_in : Sealing → List ℕ → List ℕ
 text_in Clear packet = packet
 text_in (Block running mac) packet = decrypted (is_encrypt_then_mac mac) running packet
 text_in (Gcm key nonce) packet = take 4 packet ++ gcm_plain key nonce (take 4 packet) (drop 4 packet)
+
+-- what a direction is opened with after a packet without its tag
+abbrev pub opened_past : Sealing → List ℕ → Sealing
+opened_past Clear packet = Clear
+opened_past (Block running mac) packet = Block (passed running (hidden (is_encrypt_then_mac mac) packet)) mac
+opened_past (Gcm key nonce) packet = Gcm key (next_nonce nonce)
 
 -- what the tag of a packet is over
 abbrev pub covered : Bool → Running → List ℕ → List ℕ

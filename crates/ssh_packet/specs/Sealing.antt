@@ -62,11 +62,16 @@ hidden false text = text
 unfoldable pub next_nonce : List ℕ → List ℕ
 next_nonce nonce = drop 4 (to_be_bytes w128 ((from_be_bytes w128 (replicate 4 0 ++ nonce) + 1) % 2 ^ 96))
 
--- what the direction is sealed under after a packet: block ciphers run on over all packets (RFC 4253 section 6.3)
+-- what the direction is sealed under after a framed text: block ciphers run on over all packets (RFC 4253
+-- section 6.3)
+abbrev pub moved_past : Sealing → List ℕ → Sealing
+moved_past Clear text = Clear
+moved_past (Block running mac) text = Block (moved running (hidden (is_encrypt_then_mac mac) text)) mac
+moved_past (Gcm key nonce) text = Gcm key (next_nonce nonce)
+
+-- what it is sealed under after a packet
 abbrev pub moved_on : Sealing → Item → Sealing
-moved_on Clear item = Clear
-moved_on (Block running mac) item = Block (moved running (hidden (is_encrypt_then_mac mac) (framed item))) mac
-moved_on (Gcm key nonce) item = Gcm key (next_nonce nonce)
+moved_on sealing item = moved_past sealing (framed item)
 
 -- the number of the next packet (RFC 4253 section 6.4)
 abbrev pub next_number : ℕ → ℕ
@@ -129,12 +134,16 @@ padding_length Clear n = at_least_four 8 (8 - (5 + n) % 8)
 padding_length (Block running mac) n = block_padding (is_encrypt_then_mac mac) n
 padding_length (Gcm key nonce) n = block_padding true n
 
--- the padding of a payload of n bytes, and what is left of the stream that it is drawn from: a packet in
--- clear is padded with zeros and draws nothing
+-- n bytes of padding, and what is left of the stream that they are drawn from: a packet in clear is padded
+-- with zeros and draws nothing
+abbrev pub filling : Sealing → ℕ → Stream → List ℕ × Stream
+filling Clear n stream = (replicate n 0, stream)
+filling (Block running mac) n stream = fill_bytes n stream
+filling (Gcm key nonce) n stream = fill_bytes n stream
+
+-- the padding of a payload of n bytes, and what is left of the stream
 abbrev pub padding_from : Sealing → ℕ → Stream → List ℕ × Stream
-padding_from Clear n stream = (replicate (padding_length Clear n) 0, stream)
-padding_from (Block running mac) n stream = fill_bytes (padding_length (Block running mac) n) stream
-padding_from (Gcm key nonce) n stream = fill_bytes (padding_length (Gcm key nonce) n) stream
+padding_from sealing n stream = filling sealing (padding_length sealing n) stream
 
 -- the packet of a payload
 abbrev pub item_of : Sealing → List ℕ → Stream → Item
