@@ -1,6 +1,7 @@
 pub mod Built
 pub mod Ciphers
 pub mod Finding
+pub mod Framing
 pub mod Fronts
 pub mod KeyKinds
 pub mod Lent

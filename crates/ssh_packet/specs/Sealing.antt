@@ -145,6 +145,10 @@ filling (Gcm key nonce) n stream = fill_bytes n stream
 abbrev pub padding_from : Sealing → ℕ → Stream → List ℕ × Stream
 padding_from sealing n stream = filling sealing (padding_length sealing n) stream
 
+-- a payload with so many bytes of padding
+abbrev pub framing : Sealing → ℕ → List ℕ → Stream → Item
+framing sealing padding payload stream = record { payload = payload; padding = (filling sealing padding stream).0 }
+
 -- the packet of a payload
 abbrev pub item_of : Sealing → List ℕ → Stream → Item
 item_of sealing payload stream = record { payload = payload; padding = (padding_from sealing (length payload) stream).0 }

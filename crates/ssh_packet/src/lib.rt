@@ -10,6 +10,7 @@ mod front;
 mod keys;
 mod laws;
 mod reader;
+pub mod sealing;
 #[cfg(test)]
 mod tests;
 mod writer;
