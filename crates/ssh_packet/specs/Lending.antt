@@ -2,7 +2,7 @@
 use Rattle.std.specs.Prelude.{◌≡◌, ◌<◌, true, false, length, Option, Some, None, Result, Ok, Err}
 use Rattle.std.specs.Borrow.{MutBor, Lends, Fml}
 use Rattle.std.specs.Io.BufRead.{Rests}
-use Rattle.ssh_packet.specs.Front.{PacketSize, IndexOutOfBounds, Whole, Unfinished, Refused, front_of}
+use Rattle.ssh_packet.specs.Front.{PacketSize, IndexOutOfBounds, PacketAuth, DecryptionError, Whole, Unfinished, Refused, front_of}
 use Rattle.ssh_packet.specs.Keys.{opening_of}
 use Rattle.ssh_packet.specs.Reading.{Reader}
 use Rattle.ssh_packet.specs.Sealing.{Item, Sealing, moved_on, next_number}
@@ -33,6 +33,8 @@ pub record HandsOut (old : Reader) (key : Sealing) (item : Item) (incoming : Inc
 abbrev pub Refuses : Reader → Sealing → OpenError → Type 0
 Refuses old key (errors.PacketSize n) = (old.failed ≡ false) × (front_of key old.number old.waiting ≡ Refused (PacketSize n))
 Refuses old key errors.IndexOutOfBounds = (old.failed ≡ false) × (front_of key old.number old.waiting ≡ Refused IndexOutOfBounds)
+Refuses old key errors.PacketAuth = (old.failed ≡ false) × (front_of key old.number old.waiting ≡ Refused PacketAuth)
+Refuses old key errors.DecryptionError = (old.failed ≡ false) × (front_of key old.number old.waiting ≡ Refused DecryptionError)
 Refuses old key errors.Disconnect = old.failed ≡ true
 
 -- what `next` leaves

@@ -1,6 +1,76 @@
-//! The names of ciphers (RFC 4253 section 6.3, RFC 4344 section 4, RFC 5647 section 6).
+//! What seals and opens packets, and the names of ciphers (RFC 4253 section 6.3, RFC 4344 section 4,
+//! RFC 5647 section 6).
 
-ghost use Rattle.std.specs.Prelude.{◌≡◌, ◌↔◌};
+ghost use Rattle.std.specs.Prelude.{◌≡◌, ◌↔◌, ◌+◌, ◌<◌, ◌≤◌, ◌^◌, ◌++◌, length, IsOk, OnOk, IfErr};
+ghost use Rattle.std.specs.Int.{w32, from_be_bytes};
+ghost use Rattle.ssh_packet.specs.Errors.{open_error};
+ghost use Rattle.ssh_packet.specs.Front.{length_in, opened_past, tag_fault, tag_for, text_in};
+ghost use Rattle.ssh_packet.specs.Sealing.{Sealing, closed, filling, longest_payload, moved_past, padding_length, probe, tag_size};
+
+use crate::error::OpenError;
+use rand_core::Rng;
+
+/// What a writer seals packets with.
+pub trait SealingKey {
+    // What the direction is sealed under.
+    ghost sealing: { Self → Sealing };
+
+    /// How many bytes of padding stand behind a payload.
+    fn padding_length(&self, payload: &[u8]) -> usize
+        requires { length payload.now ≤ longest_payload }
+        ensures value { result ≡ padding_length (sealing self.now) (length payload.now) }
+        ensures short { result ≤ 19 };
+
+    /// Writes padding: zeros under the clear key, which draws nothing, and else drawn bytes.
+    fn fill_padding<R: Rng>(&self, rng: &mut R, padding_out: &mut [u8])
+        ensures { (padding_out.new, R.stream rng.new) ≡ filling (sealing self.now) (length padding_out.old) (R.stream rng.old) };
+
+    /// The length of a tag in bytes.
+    fn tag_len(&self) -> usize
+        ensures value { result ≡ tag_size (sealing self.now) }
+        ensures short { result ≤ 64 };
+
+    /// Seals a packet in place: packet length, padding length, payload and padding. Writes its tag.
+    fn seal(&mut self, seqn: u32, plaintext_in_ciphertext_out: &mut [u8], tag_out: &mut [u8])
+        requires headed { 4 ≤ length plaintext_in_ciphertext_out.old }
+        requires short { length plaintext_in_ciphertext_out.old < 2 ^ 32 + 4 }
+        requires tag { length tag_out.old ≡ tag_size (sealing self.old) }
+        ensures text { plaintext_in_ciphertext_out.new ++ tag_out.new
+            ≡ closed (sealing self.old) seqn plaintext_in_ciphertext_out.old }
+        ensures size { length plaintext_in_ciphertext_out.new ≡ length plaintext_in_ciphertext_out.old }
+        ensures state { sealing self.new ≡ moved_past (sealing self.old) plaintext_in_ciphertext_out.old };
+}
+
+/// What a reader opens packets with.
+pub trait OpeningKey {
+    // What the direction is opened with.
+    ghost opening: { Self → Sealing };
+
+    /// How many bytes show the packet length: 4, or 16 where a block cipher encrypts it.
+    fn packet_length_to_read_for_block_length(&self) -> usize
+        ensures { result ≡ probe (opening self.now) };
+
+    /// The packet length, four bytes high byte first, of the first bytes of a packet.
+    fn decrypt_packet_length(&self, seqn: u32, encrypted_packet_length: &[u8]) -> [u8; 4]
+        requires { length encrypted_packet_length.now ≡ probe (opening self.now) }
+        ensures { from_be_bytes w32 result ≡ length_in (opening self.now) encrypted_packet_length.now };
+
+    /// The length of a tag in bytes.
+    fn tag_len(&self) -> usize
+        ensures value { result ≡ tag_size (opening self.now) }
+        ensures short { result ≤ 64 };
+
+    /// Opens a packet in place, its tag beside it. PacketAuth where the tag of an HMAC is another,
+    /// DecryptionError where that of Galois counter mode is.
+    fn open_in_place(&mut self, seqn: u32, packet: &mut [u8], tag: &[u8]) -> Result<(), OpenError>
+        requires headed { 4 ≤ length packet.old }
+        requires short { length packet.old < 2 ^ 32 + 4 }
+        requires tag { length tag.now ≡ tag_size (opening self.old) }
+        ensures right { IsOk result ↔ tag.now ≡ tag_for (opening self.old) seqn packet.old }
+        ensures causes { IfErr result (λ e. e ≡ open_error (tag_fault (opening self.old))) }
+        ensures text { OnOk result (packet.new ≡ text_in (opening self.old) packet.old) }
+        ensures state { OnOk result (opening self.new ≡ opened_past (opening self.old) packet.old) };
+}
 
 /// The name of a cipher.
 #[derive(Clone, Copy, Debug, PartialEq, Eq, Hash)]
