@@ -10,10 +10,10 @@ use Rattle.std.specs.Str.{bytes_eq}
 use Rattle.ssh_aes.specs.Gcm.{gcm_text, gcm_tag, gcm_plain, cipher_tag}
 use Rattle.ssh_aes.specs.Modes.{Running, masked, unmasked, moved, passed}
 use Rattle.ssh_mac.specs.TagLaws.{length-tag_of}
-use Rattle.ssh_mac.specs.Tags.{MacOf, tag_of, tag_length, is_encrypt_then_mac}
+use Rattle.ssh_mac.specs.Tags.{MacOf, tag_of, is_encrypt_then_mac}
 use Rattle.ssh_packet.proofs.Ciphers.{runs_well, opens_well, gcm_well}
 use Rattle.ssh_packet.proofs.Shapes.{front_framed, length_framed, framed_bytes, bytes_drop, length_take4, item_alike}
-use Rattle.ssh_packet.specs.Front.{Fault, PacketSize, IndexOutOfBounds, Front, Whole, Unfinished, Refused, probed, length_in, is_bad_length, decrypted, text_in, opened_past, covered, tag_for, tag_fault, parted, parted_by, checked, opened, measured, front_of}
+use Rattle.ssh_packet.specs.Front.{Fault, Front, Whole, Unfinished, Refused, probed, length_in, is_bad_length, decrypted, text_in, opened_past, covered, tag_for, tag_fault, parted, parted_by, checked, opened, measured, front_of}
 use Rattle.ssh_packet.specs.Sealing.{Item, Sealing, Clear, Block, Gcm, framed, packet_length, hidden, moved_past, closed, enclosed, sealed, probe, shown_by, shortest, tag_size, IsAdmissible, IsBytes}
 
 pub not_below : (a b : ℕ) → b ≤ a → nat_lt a b ≡ false

@@ -1,11 +1,11 @@
 -- State, number and bytes determine a packet.
-use Rattle.std.proofs.Common.{◌≡◌, ℕ, zero, suc, ◌+◌, ◌/◌, ◌%◌, ◌^◌, ◌<◌, ◌≤◌, Bool, true, false, List, [], ◌∷◌, ◌++◌, length, take, drop, slice_index, refl, sym, ◌∙◌, ap, subst, arith, append_assoc, length-append, length-drop, lit<}
+use Rattle.std.proofs.Common.{◌≡◌, ℕ, zero, suc, ◌+◌, ◌/◌, ◌%◌, ◌^◌, ◌<◌, ◌≤◌, Bool, true, false, List, [], ◌∷◌, ◌++◌, length, take, drop, slice_index, refl, sym, ◌∙◌, ap, arith, append_assoc, length-append, length-drop, lit<}
 use Rattle.std.proofs.lemmas.Grind.{common_steps}
 use Rattle.std.proofs.lemmas.List.{take-append-le, take-append-drop}
 use Rattle.std.proofs.lemmas.Nat.{from_be_bytes-to_be_bytes_4}
 use Rattle.std.specs.Int.{w32, to_be_bytes, from_be_bytes}
 use Rattle.ssh_aes.specs.Gcm.{gcm_text, gcm_tag}
-use Rattle.ssh_aes.specs.Laws.{RunsWell, GcmWell}
+use Rattle.ssh_aes.specs.Laws.{RunsWell}
 use Rattle.ssh_aes.specs.Modes.{Running, masked, least}
 use Rattle.ssh_mac.specs.TagLaws.{length-tag_of}
 use Rattle.ssh_mac.specs.Tags.{MacOf, tag_of, is_encrypt_then_mac}

@@ -1,9 +1,9 @@
 -- Streams of packets: one reading, more bytes, more openings, and what an honest carrier brings.
-use Rattle.std.proofs.Common.{◌≡◌, ℕ, zero, suc, ◌<◌, ◌≤◌, List, [], ◌∷◌, ◌++◌, length, refl, sym, ◌∙◌, ap, subst, arith, append_assoc, Option, Some, None, Bool, true, false, if◌then◌else◌}
+use Rattle.std.proofs.Common.{◌≡◌, ℕ, zero, suc, List, [], ◌∷◌, ◌++◌, length, refl, sym, ◌∙◌, ap, subst, arith, append_assoc, Option, Some, None, Bool, true, false, if◌then◌else◌}
 use Rattle.ssh_packet.proofs.Shapes.{one_packet, length_sealed}
 use Rattle.ssh_packet.specs.Carried.{AgreeFor, SamePlace, PlacesAgree, used, SameFor}
-use Rattle.ssh_packet.specs.Sealing.{Item, Sealing, IsAdmissible, sealed, moved_on, next_number}
-use Rattle.ssh_packet.specs.Stream.{Opening, Place, first_place, Reads, place_after, place_behind, bytes_at, IsEnd, Entries, is_newkeys, opened, kept_number, place_by, ReadsBy, behind_by, EntriesBy, IsPlain}
+use Rattle.ssh_packet.specs.Sealing.{Item, IsAdmissible, sealed, moved_on, next_number}
+use Rattle.ssh_packet.specs.Stream.{Opening, Place, Reads, place_after, place_behind, bytes_at, IsEnd, is_newkeys, opened, kept_number, place_by, ReadsBy, behind_by, IsPlain}
 
 -- packets and then packets are packets
 pub reads_append : (at : Option Place) (a b : List Item) (x y z : List ℕ) → Reads at a x y → Reads (place_behind at a) b y z → Reads at (a ++ b) x z

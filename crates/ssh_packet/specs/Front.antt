@@ -59,6 +59,13 @@ tag_for Clear number packet = []
 tag_for (Block running mac) number packet = tag_of mac number (covered (is_encrypt_then_mac mac) running packet)
 tag_for (Gcm key nonce) number packet = cipher_tag key nonce (take 4 packet) (drop 4 packet)
 
+-- a packet and its tag, parted
+abbrev pub packet_of : Sealing → List ℕ → List ℕ
+packet_of sealing bytes = take (length bytes - tag_size sealing) bytes
+
+abbrev pub tag_behind : Sealing → List ℕ → List ℕ
+tag_behind sealing bytes = drop (length bytes - tag_size sealing) bytes
+
 -- what a wrong tag is called
 abbrev pub tag_fault : Sealing → Fault
 tag_fault Clear = PacketAuth

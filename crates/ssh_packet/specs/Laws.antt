@@ -1,5 +1,5 @@
 -- What is true of every packet and of every stream of packets.
-use Rattle.std.specs.Prelude.{◌≡◌, ℕ, ◌+◌, ◌%◌, ◌≤◌, if◌then◌else◌, Bool, Option, Some, List, [], ◌++◌}
+use Rattle.std.specs.Prelude.{◌≡◌, ℕ, ◌+◌, ◌%◌, ◌≤◌, if◌then◌else◌, Bool, Some, List, [], ◌++◌}
 use Rattle.ssh_mac.specs.Tags.{is_encrypt_then_mac}
 use Rattle.ssh_packet.specs.Sealing.{Item, Sealing, Clear, Block, Gcm, IsAdmissible, sealed, padding_length}
 use Rattle.ssh_packet.specs.Stream.{Opening, Entries, EntriesBy, IsPlain, Reads, ReadsBy, first_place}

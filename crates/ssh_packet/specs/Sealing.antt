@@ -1,11 +1,11 @@
 -- One binary packet: what a direction is sealed under, the bytes of a packet, and what comes after it
 -- (RFC 4253 section 6).
-use Rattle.std.specs.Prelude.{◌≡◌, ℕ, ◌+◌, ◌-◌, ◌%◌, ◌^◌, ◌<◌, ◌≤◌, Bool, true, false, nat_lt, if◌then◌else◌, List, [], ◌∷◌, ◌++◌, length, take, drop, slice_index, replicate, refl}
+use Rattle.std.specs.Prelude.{◌≡◌, ℕ, ◌+◌, ◌-◌, ◌%◌, ◌^◌, ◌<◌, ◌≤◌, Bool, true, false, nat_lt, if◌then◌else◌, List, [], ◌∷◌, ◌++◌, length, take, drop, replicate, refl}
 use Rattle.std.specs.Int.{w128, from_be_bytes, to_be_bytes}
 use Rattle.rand_core.specs.Stream.{Stream, fill_bytes}
 use Rattle.ssh_aes.specs.Gcm.{gcm_text, gcm_tag}
 use Rattle.ssh_aes.specs.Laws as aes
-use Rattle.ssh_aes.specs.Modes.{Running, Ctr, Cbc, masked, moved, least}
+use Rattle.ssh_aes.specs.Modes.{Running, masked, moved, least}
 use Rattle.ssh_mac.specs.Tags.{MacOf, tag_of, tag_length, is_encrypt_then_mac}
 use Rattle.ssh_wire.specs.Forms.{u32be}
 

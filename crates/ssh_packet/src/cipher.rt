@@ -1,10 +1,10 @@
 //! What seals and opens packets, and the names of ciphers (RFC 4253 section 6.3, RFC 4344 section 4,
 //! RFC 5647 section 6).
 
-ghost use Rattle.std.specs.Prelude.{◌≡◌, ◌↔◌, ◌+◌, ◌<◌, ◌≤◌, ◌^◌, ◌++◌, length, IsOk, OnOk, IfErr};
+ghost use Rattle.std.specs.Prelude.{◌≡◌, ◌↔◌, ◌+◌, ◌<◌, ◌≤◌, ◌^◌, ◌++◌, drop, length, IsOk, IfOk, OnOk, IfErr};
 ghost use Rattle.std.specs.Int.{w32, from_be_bytes};
 ghost use Rattle.ssh_packet.specs.Errors.{open_error};
-ghost use Rattle.ssh_packet.specs.Front.{length_in, opened_past, tag_fault, tag_for, text_in};
+ghost use Rattle.ssh_packet.specs.Front.{length_in, opened_past, packet_of, tag_behind, tag_fault, tag_for, text_in};
 ghost use Rattle.ssh_packet.specs.Sealing.{Sealing, closed, filling, longest_payload, moved_past, padding_length, probe, tag_size};
 
 use crate::error::OpenError;
@@ -70,6 +70,25 @@ pub trait OpeningKey {
         ensures causes { IfErr result (λ e. e ≡ open_error (tag_fault (opening self.old))) }
         ensures text { OnOk result (packet.new ≡ text_in (opening self.old) packet.old) }
         ensures state { OnOk result (opening self.new ≡ opened_past (opening self.old) packet.old) };
+
+    /// Opens a packet that its tag stands behind, and answers what follows its length: padding length,
+    /// payload and padding. The errors are those of `open_in_place`.
+    fn open<'a>(&mut self, seqn: u32, ciphertext_and_tag: &'a mut [u8]) -> Result<&'a [u8], OpenError>
+        requires headed { 4 + tag_size (opening self.old) ≤ length ciphertext_and_tag.old }
+        requires short { length ciphertext_and_tag.old < 2 ^ 32 + 4 + tag_size (opening self.old) }
+        ensures right { IsOk result ↔ tag_behind (opening self.old) ciphertext_and_tag.old
+            ≡ tag_for (opening self.old) seqn (packet_of (opening self.old) ciphertext_and_tag.old) }
+        ensures causes { IfErr result (λ e. e ≡ open_error (tag_fault (opening self.old))) }
+        ensures text { IfOk result (λ body. body.now
+            ≡ drop 4 (text_in (opening self.old) (packet_of (opening self.old) ciphertext_and_tag.old))) }
+        ensures state { OnOk result (opening self.new
+            ≡ opened_past (opening self.old) (packet_of (opening self.old) ciphertext_and_tag.old)) }
+    {
+        let end = ciphertext_and_tag.len() - self.tag_len();
+        let (packet, tag) = ciphertext_and_tag.split_at_mut(end);
+        self.open_in_place(seqn, packet, tag)?;
+        Ok(&packet[4..])
+    }
 }
 
 /// The name of a cipher.

@@ -1,12 +1,14 @@
 //! Binary packets (RFC 4253 section 6): keys, a writer that seals, a reader that opens.
 #![tactic(auto)]
 
+pub mod block;
 pub mod buffer;
 pub mod cipher;
 pub mod clear;
 pub mod compression;
 mod error;
 mod front;
+pub mod gcm;
 mod keys;
 mod laws;
 mod reader;
@@ -16,6 +18,7 @@ mod tests;
 mod writer;
 
 pub use crate::buffer::SSHBuffer;
+pub use crate::cipher::{OpeningKey, SealingKey};
 pub use crate::error::OpenError;
 pub use crate::keys::{OpenKey, SealKey};
 pub use crate::laws::{carried, front_stays, front_whole, one_packet, one_reading, padded, plain_reading};

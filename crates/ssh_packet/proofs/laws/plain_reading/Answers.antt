@@ -1,5 +1,5 @@
-use Rattle.std.proofs.Common.{◌≡◌, [], Some, sym, subst}
-use Rattle.ssh_packet.specs.Stream.{Place, first_place, IsEnd}
+use Rattle.std.proofs.Common.{[], Some, subst}
+use Rattle.ssh_packet.specs.Stream.{first_place, IsEnd}
 use Rattle.ssh_packet.proofs.Streams.{plain_reads, plain_behind}
 use Rattle.ssh_packet.proofs.laws.plain_reading.Goals as goal
 
