@@ -12,7 +12,7 @@ pub mod gcm;
 mod keys;
 mod laws;
 mod reader;
-pub mod sealing;
+mod sealing;
 #[cfg(test)]
 mod tests;
 mod writer;

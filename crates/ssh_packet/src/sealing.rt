@@ -1,37 +1,13 @@
 //! Sealing in place, under any key.
 
-ghost use Rattle.std.specs.Prelude.{◌≡◌, ◌+◌, ◌-◌, ◌<◌, ◌≤◌, ◌++◌, ◌∷◌, length, take, drop, OnOk, OnErr, IfErr, vec_len};
+ghost use Rattle.std.specs.Prelude.{◌≡◌, ◌+◌, ◌-◌, ◌<◌, ◌≤◌, ◌++◌, length, take, drop, OnOk, OnErr, IfErr, vec_len};
 ghost use Rattle.ssh_wire.specs.declared.error.Error.TheVariants.{Memory};
-ghost use Rattle.ssh_wire.specs.Forms.{u32be};
-ghost use Rattle.ssh_packet.specs.Sealing.{Sealing, Item, IsAdmissible, closed, framed, sealed, moved_past, moved_on, item_of, padding_length, padding_from, filling, framing, tag_size, longest_payload};
+ghost use Rattle.ssh_packet.specs.Sealing.{IsAdmissible, IsBytes, framed, sealed, moved_on, item_of, padding_from, filling, framing, tag_size, longest_payload};
 
+use crate::cipher::SealingKey;
 use crate::front::HEAD;
 use rand_core::Rng;
 use ssh_wire::Error;
-
-pub trait SealingKey {
-    ghost sealing: { Self → Sealing };
-
-    fn padding_length(&self, payload: &[u8]) -> usize
-        requires { length payload.now ≤ longest_payload }
-        ensures length { result ≡ padding_length (sealing self.now) (length payload.now) }
-        ensures within { result ≤ 19 };
-
-    fn fill_padding<R: Rng>(&self, rng: &mut R, padding_out: &mut [u8])
-        ensures padding { padding_out.new ≡ (filling (sealing self.now) (length padding_out.old) (R.stream rng.old)).0 }
-        ensures stream { R.stream rng.new ≡ (filling (sealing self.now) (length padding_out.old) (R.stream rng.old)).1 };
-
-    fn tag_len(&self) -> usize
-        ensures size { result ≡ tag_size (sealing self.now) }
-        ensures within { result ≤ 64 };
-
-    fn seal(&mut self, seqn: u32, plaintext_in_ciphertext_out: &mut [u8], tag_out: &mut [u8])
-        requires text { 4 ≤ length plaintext_in_ciphertext_out.old }
-        requires short { length plaintext_in_ciphertext_out.old ≤ 4294967299 }
-        requires tag { length tag_out.old ≡ tag_size (sealing self.old) }
-        ensures packet { plaintext_in_ciphertext_out.new ++ tag_out.new ≡ closed (sealing self.old) seqn plaintext_in_ciphertext_out.old }
-        ensures moved { sealing self.new ≡ moved_past (sealing self.old) plaintext_in_ciphertext_out.old };
-}
 
 /// Writes the packet length and the padding's length before a payload, and draws the padding behind it.
 fn frame<K: SealingKey, R: Rng>(text: &mut [u8], padding: usize, key: &K, rng: &mut R)
@@ -40,6 +16,8 @@ fn frame<K: SealingKey, R: Rng>(text: &mut [u8], padding: usize, key: &K, rng: &
     requires byte { padding < 256 }
     ensures text { text.new ≡ framed (record { payload = take (length text.old - 5 - padding) (drop 5 text.old); padding = (filling (K.sealing key.now) padding (R.stream rng.old)).0 }) }
     ensures stream { R.stream rng.new ≡ (filling (K.sealing key.now) padding (R.stream rng.old)).1 }
+    ensures size { length (filling (K.sealing key.now) padding (R.stream rng.old)).0 ≡ padding }
+    ensures bytes { IsBytes (filling (K.sealing key.now) padding (R.stream rng.old)).0 }
 {
     let payload_end = text.len() - padding;
     let length = ((text.len() - 4) as u32).to_be_bytes();
@@ -56,6 +34,8 @@ fn seal_in_place<K: SealingKey, R: Rng>(packet: &mut [u8], padding: usize, tag_l
     ensures packet { packet.new ≡ sealed (K.sealing key.old) seqn (framing (K.sealing key.old) padding (take (length packet.old - 5 - padding - tag_len) (drop 5 packet.old)) (R.stream rng.old)) }
     ensures moved { K.sealing key.new ≡ moved_on (K.sealing key.old) (framing (K.sealing key.old) padding (take (length packet.old - 5 - padding - tag_len) (drop 5 packet.old)) (R.stream rng.old)) }
     ensures stream { R.stream rng.new ≡ (filling (K.sealing key.old) padding (R.stream rng.old)).1 }
+    ensures size { length (filling (K.sealing key.old) padding (R.stream rng.old)).0 ≡ padding }
+    ensures bytes { IsBytes (filling (K.sealing key.old) padding (R.stream rng.old)).0 }
 {
     let text_len = packet.len() - tag_len;
     let (text, tag) = packet.split_at_mut(text_len);
@@ -64,7 +44,7 @@ fn seal_in_place<K: SealingKey, R: Rng>(packet: &mut [u8], padding: usize, tag_l
 }
 
 /// Makes a packet of what stands behind `start`: five bytes of room, and a payload. Memory leaves all as it was.
-pub fn seal_behind<K: SealingKey, R: Rng>(
+pub(crate) fn seal_behind<K: SealingKey, R: Rng>(
     out: &mut Vec<u8>,
     start: usize,
     seqn: u32,
@@ -79,6 +59,8 @@ pub fn seal_behind<K: SealingKey, R: Rng>(
         ≡ moved_on (K.sealing key.old) (item_of (K.sealing key.old) (drop (start + 5) out.old.items) (R.stream rng.old))) }
     ensures stream { OnOk result (R.stream rng.new
         ≡ (padding_from (K.sealing key.old) (vec_len out.old - (start + 5)) (R.stream rng.old)).1) }
+    ensures admissible { OnOk result (start + 5 < vec_len out.old
+        → IsAdmissible (K.sealing key.old) (item_of (K.sealing key.old) (drop (start + 5) out.old.items) (R.stream rng.old))) }
     ensures unchanged { OnErr result (out.new.items ≡ out.old.items) }
     ensures key { OnErr result (key.new ≡ key.old) }
     ensures undrawn { OnErr result (rng.new ≡ rng.old) }

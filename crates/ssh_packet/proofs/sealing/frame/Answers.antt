@@ -1,10 +1,17 @@
-use Rattle.std.proofs.Common.{rules, ◌≡◌, ◌-◌, ◌∙◌, ap, length, take, drop}
+use Rattle.std.proofs.Common.{rules, ◌≡◌, ◌-◌, ◌<◌, ◌∙◌, ℕ, List, ap, subst, length, take, drop, slice_index}
 use Rattle.ssh_packet.specs.Sealing.{framed, filling}
 use Rattle.ssh_packet.proofs.Framing.{framed_made}
 use Rattle.ssh_packet.proofs.sealing.frame.Goals as goal
 
 pub returns-clause-text : goal.returns-clause-text
 returns-clause-text g c =
+    let part : length c.fill_padding.new.padding_out ≡ c.args.padding = search rules in
     let drawn : c.fill_padding.new.padding_out ≡ (filling (g.K.SealingKey.sealing c.args.key.now) c.args.padding (g.R.Rng.stream c.args.rng.now)).0 = search rules in
-    framed_made c.args.text.now c.copy_from_slice.new.self c.fill_padding.new.padding_out c.to_be_bytes-length.result c.args.padding c.requires.room (search rules) c.to_be_bytes-length.ensures c.copy_from_slice.ensures.after
+    framed_made c.args.text.now c.copy_from_slice.new.self c.fill_padding.new.padding_out c.to_be_bytes-length.result c.args.padding c.requires.room part c.to_be_bytes-length.ensures c.copy_from_slice.ensures.after
     ∙ ap (λ p. framed (record { payload = take (length c.args.text.now - 5 - c.args.padding) (drop 5 c.args.text.now); padding = p })) drawn
+
+pub returns-clause-bytes : goal.returns-clause-bytes
+returns-clause-bytes g c =
+    let drawn : c.fill_padding.new.padding_out ≡ (filling (g.K.SealingKey.sealing c.args.key.now) c.args.padding (g.R.Rng.stream c.args.rng.now)).0 = search rules in
+    let y : Unit {0} = c.fill_padding.type_inv in
+    ?
