@@ -1,11 +1,12 @@
 -- A packet's text in its place: the packet length and the padding's length before a payload, the padding behind it.
-use Rattle.std.proofs.Common.{◌≡◌, ℕ, ◌+◌, ◌-◌, ◌≤◌, List, [], ◌∷◌, ◌++◌, length, take, drop, slice_index, replicate, refl, sym, ◌∙◌, ap, arith, append-nil, append_assoc, length-append, length-drop}
+use Rattle.std.proofs.Common.{◌≡◌, ℕ, ◌+◌, ◌-◌, ◌≤◌, List, [], ◌∷◌, ◌++◌, length, take, drop, slice_index, replicate, refl, sym, ◌∙◌, ap, subst, arith, append-nil, append_assoc, length-append, length-drop}
 use Rattle.std.proofs.lemmas.Grind.{common_steps}
 use Rattle.std.proofs.lemmas.List.{length-take-le, drop-drop, drop-append-le, take-append-le}
-use Rattle.std.proofs.Math.Seq.{take-append-add, take-append_seam}
+use Rattle.std.proofs.Math.Seq.{take-append-add, take-append_seam, drop-append_seam}
 use Rattle.rand_core.specs.Stream.{Stream}
 use Rattle.ssh_wire.specs.Forms.{u32be}
-use Rattle.ssh_packet.specs.Sealing.{Sealing, framed, framing, item_of, padding_length}
+use Rattle.ssh_packet.proofs.Shapes.{bytes_drop}
+use Rattle.ssh_packet.specs.Sealing.{Sealing, IsBytes, framed, framing, item_of, padding_length}
 use borrow.Rule.Slice.PartMut.{put_mid}
 
 pub none_left : (n : ℕ) (xs : List ℕ) → length xs ≤ n → drop n xs ≡ []
@@ -93,3 +94,9 @@ item_behind sealing old now zeros part start padding tag stream there size room 
 
 pub part_behind : (old now : List ℕ) (n : ℕ) → now ≡ old → take (length now - n) (drop n now) ≡ drop n old
 part_behind old now n same = rest_from now n ∙ ap (drop n) same
+
+-- what was written to the end is bytes where all is
+pub bytes_behind : (a : ℕ) (xs ys : List ℕ) → IsBytes (put_mid a (length xs - a) xs ys) → IsBytes ys
+bytes_behind a xs ys h =
+    let joined : IsBytes (take a xs ++ ys) = subst IsBytes (put_behind a (length xs - a) xs ys (omega arith)) h in
+    subst IsBytes (drop-append_seam (take a xs) ys) (bytes_drop (take a xs ++ ys) (length (take a xs)) joined)
