@@ -1,7 +1,8 @@
 //! What authenticates packets: the trait of MACs, HMAC over packets in clear and over encrypted ones, and none.
 
-ghost use Rattle.std.specs.Prelude.{◌≡◌, ◌≤◌, ℕ, List, Bool, true, length};
+ghost use Rattle.std.specs.Prelude.{◌≡◌, ◌≤◌, ℕ, List, true, length};
 ghost use Rattle.std.specs.Str.{bytes_eq};
+ghost use Rattle.ssh_mac.specs.Tags.{MacOf, tag_length, is_encrypt_then_mac, tag_of, takes_tag};
 
 use crate::digest::DigestKind;
 use crate::hash_value::HashValue;
@@ -13,47 +14,42 @@ const LONGEST_KEY: usize = 64;
 
 /// A message authentication code under its key.
 pub trait Mac {
-    // The length of a tag in bytes.
-    ghost size: { Self → ℕ };
-
-    // Whether the tag is over the encrypted packet.
-    ghost covers_ciphertext: { Self → Bool };
-
-    // The tag of a packet number and a text.
-    ghost tag: { Self → ℕ → List ℕ → List ℕ };
-
-    // Whether a tag is taken for that of a packet number and a text.
-    ghost accepts: { Self → ℕ → List ℕ → List ℕ → Bool };
+    // What packets are authenticated under.
+    ghost meaning: { Self → MacOf };
 
     /// The length of a tag in bytes, at most 64.
     fn mac_len(&self) -> usize
-        ensures value { result ≡ size self.now }
+        ensures value { result ≡ tag_length (meaning self.now) }
         ensures short { result ≤ 64 };
 
     /// Whether the tag is over the encrypted packet, its length in clear; else it is over the packet in clear.
     fn is_etm(&self) -> bool
-        ensures { result ≡ covers_ciphertext self.now };
+        ensures { result ≡ is_encrypt_then_mac (meaning self.now) };
 
     /// Writes the tag over the packet number, four bytes high byte first, and the text.
     fn compute(&self, sequence_number: u32, payload: &[u8], output: &mut [u8])
-        requires { length output.old ≡ size self.now }
-        ensures { output.new ≡ tag self.now sequence_number payload.now };
+        requires { length output.old ≡ tag_length (meaning self.now) }
+        ensures { output.new ≡ tag_of (meaning self.now) sequence_number payload.now };
 
     /// Whether `mac` is the tag of the packet number and the text; always where there is no MAC.
     fn verify(&self, sequence_number: u32, payload: &[u8], mac: &[u8]) -> bool
-        ensures { result ≡ accepts self.now sequence_number payload.now mac.now };
+        ensures { result ≡ takes_tag (meaning self.now) sequence_number payload.now mac.now };
 
-    // It is at most 64.
-    ghost size_is_short: { (m : Self) → size m ≤ 64 };
+    // A tag is at most 64 bytes.
+    ghost size_is_short: { (m : Self) → tag_length (meaning m) ≤ 64 };
 
-    // Each tag has that length.
-    ghost tag_has_size: { (m : Self) (number : ℕ) (text : List ℕ) → length (tag m number text) ≡ size m };
+    // Each tag has its MAC's length.
+    ghost tag_has_size: { (m : Self) (number : ℕ) (text : List ℕ)
+        → length (tag_of (meaning m) number text) ≡ tag_length (meaning m) };
 
     // The tag that was computed is accepted.
-    ghost own_tag_accepted: { (m : Self) (number : ℕ) (text : List ℕ) → accepts m number text (tag m number text) ≡ true };
+    ghost own_tag_accepted: { (m : Self) (number : ℕ) (text : List ℕ)
+        → takes_tag (meaning m) number text (tag_of (meaning m) number text) ≡ true };
 
     // Of the texts of that length no other is.
-    ghost accepted_is_tag: { (m : Self) (number : ℕ) (text given : List ℕ) → accepts m number text given ≡ true → length given ≡ size m → given ≡ tag m number text };
+    ghost accepted_is_tag: { (m : Self) (number : ℕ) (text given : List ℕ)
+        → takes_tag (meaning m) number text given ≡ true → length given ≡ tag_length (meaning m)
+        → given ≡ tag_of (meaning m) number text };
 }
 
 // Whether two texts are equal. Every byte of texts of one length is looked at, whatever the bytes are.
@@ -90,7 +86,7 @@ impl Model for CryptoMac {
 
 impl CryptoMac {
     ghost use Rattle.ssh_mac.specs.Digests.{digest_length};
-    ghost use Rattle.ssh_mac.specs.Tags.{tag_of, Plain};
+    ghost use Rattle.ssh_mac.specs.Tags.{Plain};
 
     pub(crate) fn new(kind: DigestKind, key: &[u8]) -> CryptoMac
         requires { length key.now ≡ digest_length kind }
@@ -117,16 +113,10 @@ impl CryptoMac {
 }
 
 impl Mac for CryptoMac {
-    ghost use Rattle.ssh_mac.specs.Tags.{tag_length, is_encrypt_then_mac, tag_of, takes_tag, Plain};
+    ghost use Rattle.ssh_mac.specs.Tags.{Plain};
     ghost use Rattle.ssh_mac.specs.TagLaws.{tag_length-short, length-tag_of, own-taken, taken-own};
 
-    ghost size = { λ m. tag_length (Plain m.digest m.key) };
-
-    ghost covers_ciphertext = { λ m. is_encrypt_then_mac (Plain m.digest m.key) };
-
-    ghost tag = { λ m. tag_of (Plain m.digest m.key) };
-
-    ghost accepts = { λ m. takes_tag (Plain m.digest m.key) };
+    ghost meaning = { λ m. Plain m.digest m.key };
 
     ghost size_is_short = { λ m. tag_length-short (Plain m.digest m.key) };
 
@@ -183,16 +173,10 @@ impl CryptoEtmMac {
 }
 
 impl Mac for CryptoEtmMac {
-    ghost use Rattle.ssh_mac.specs.Tags.{tag_length, is_encrypt_then_mac, tag_of, takes_tag, Etm};
+    ghost use Rattle.ssh_mac.specs.Tags.{Etm};
     ghost use Rattle.ssh_mac.specs.TagLaws.{tag_length-short, length-tag_of, own-taken, taken-own};
 
-    ghost size = { λ m. tag_length (Etm m.digest m.key) };
-
-    ghost covers_ciphertext = { λ m. is_encrypt_then_mac (Etm m.digest m.key) };
-
-    ghost tag = { λ m. tag_of (Etm m.digest m.key) };
-
-    ghost accepts = { λ m. takes_tag (Etm m.digest m.key) };
+    ghost meaning = { λ m. Etm m.digest m.key };
 
     ghost size_is_short = { λ m. tag_length-short (Etm m.digest m.key) };
 
@@ -224,17 +208,10 @@ impl Mac for CryptoEtmMac {
 pub struct NoMac;
 
 impl Mac for NoMac {
-    ghost use Rattle.ssh_mac.specs.Tags.{tag_length, is_encrypt_then_mac, tag_of, takes_tag};
     ghost use Rattle.ssh_mac.specs.Tags as Tags;
     ghost use Rattle.ssh_mac.specs.TagLaws.{tag_length-short, length-tag_of, own-taken, taken-own};
 
-    ghost size = { λ _. tag_length Tags.NoMac };
-
-    ghost covers_ciphertext = { λ _. is_encrypt_then_mac Tags.NoMac };
-
-    ghost tag = { λ _. tag_of Tags.NoMac };
-
-    ghost accepts = { λ _. takes_tag Tags.NoMac };
+    ghost meaning = { λ _. Tags.NoMac };
 
     ghost size_is_short = { λ _. tag_length-short Tags.NoMac };
 
@@ -272,16 +249,9 @@ pub enum MacKey {
 
 impl Mac for MacKey {
     ghost use Rattle.ssh_mac.specs.Keys.{mac_of};
-    ghost use Rattle.ssh_mac.specs.Tags.{tag_length, is_encrypt_then_mac, tag_of, takes_tag};
     ghost use Rattle.ssh_mac.specs.TagLaws.{tag_length-short, length-tag_of, own-taken, taken-own};
 
-    ghost size = { λ m. tag_length (mac_of m) };
-
-    ghost covers_ciphertext = { λ m. is_encrypt_then_mac (mac_of m) };
-
-    ghost tag = { λ m. tag_of (mac_of m) };
-
-    ghost accepts = { λ m. takes_tag (mac_of m) };
+    ghost meaning = { mac_of };
 
     ghost size_is_short = { λ m. tag_length-short (mac_of m) };
 

@@ -1,13 +1,20 @@
 -- What a reader finds at the front: a packet that stands there, and the same when bytes come behind.
-use Rattle.std.proofs.Common.{◌≡◌, ℕ, ◌+◌, ◌-◌, ◌<◌, ◌≤◌, List, ◌++◌, length, take, drop, refl, sym, ◌∙◌, ap, subst, arith, Bool, true, false, if◌then◌else◌, ◌||◌, nat_lt, length-append}
+use Rattle.std.proofs.Common.{◌≡◌, ℕ, ◌+◌, ◌-◌, ◌<◌, ◌≤◌, List, [], ◌++◌, length, take, drop, refl, sym, ◌∙◌, ap, subst, arith, Bool, true, false, if◌then◌else◌, ◌||◌, nat_lt, append_assoc, append-nil, length-append, length-drop}
 use Rattle.std.proofs.lemmas.Bool.Decides.{nat_tests}
-use Rattle.std.proofs.lemmas.List.{take-append-le, drop-append-le}
+use Rattle.std.proofs.lemmas.List.{take-append-le, drop-append-le, take-append-drop}
 use Rattle.std.proofs.lemmas.Nat.{from_be_bytes-to_be_bytes_4}
+use Rattle.std.proofs.lemmas.Slice.Eq.{bytes_eq-Decides}
 use Rattle.std.proofs.Math.Seq.{take-append_seam, drop-append_seam}
 use Rattle.std.specs.Int.{w32, from_be_bytes}
-use Rattle.ssh_packet.specs.Sealing.{Item, Sealing, Clear, framed, packet_length, sealed, IsAdmissible}
-use Rattle.ssh_packet.specs.Front.{Fault, Front, Whole, Unfinished, Refused, length_in, is_bad_length, parted, parted_by, opened, measured, front_of}
-use Rattle.ssh_packet.proofs.Shapes.{front_framed, length_framed, item_alike}
+use Rattle.std.specs.Str.{bytes_eq}
+use Rattle.ssh_aes.specs.Gcm.{gcm_text, gcm_tag, gcm_plain, cipher_tag}
+use Rattle.ssh_aes.specs.Modes.{Running, masked, unmasked, moved, passed}
+use Rattle.ssh_mac.specs.TagLaws.{length-tag_of}
+use Rattle.ssh_mac.specs.Tags.{MacOf, tag_of, is_encrypt_then_mac}
+use Rattle.ssh_packet.proofs.Ciphers.{runs_well, opens_well, gcm_well}
+use Rattle.ssh_packet.proofs.Shapes.{front_framed, length_framed, framed_bytes, bytes_drop, length_take4, item_alike}
+use Rattle.ssh_packet.specs.Front.{Fault, Front, Whole, Unfinished, Refused, probed, length_in, is_bad_length, decrypted, text_in, opened_past, covered, tag_for, tag_fault, parted, parted_by, checked, opened, measured, front_of}
+use Rattle.ssh_packet.specs.Sealing.{Item, Sealing, Clear, Block, Gcm, framed, packet_length, hidden, moved_past, closed, enclosed, sealed, probe, shown_by, shortest, tag_size, IsAdmissible, IsBytes}
 
 pub not_below : (a b : ℕ) → b ≤ a → nat_lt a b ≡ false
 not_below a b h = grind (arith, nat_tests)
@@ -15,6 +22,117 @@ not_below a b h = grind (arith, nat_tests)
 -- a choice whose test is known
 pub left_out : {A : Type 0} (b : Bool) (x y : A) → b ≡ false → (if b then x else y) ≡ y
 left_out b x y h = ap (λ t. if t then x else y) h
+
+pub taken_in : {A : Type 0} (b : Bool) (x y : A) → b ≡ true → (if b then x else y) ≡ x
+taken_in b x y h = ap (λ t. if t then x else y) h
+
+-- ---- a packet in its parts
+
+-- a text encrypted, without its tag
+body_by : Bool → Running → List ℕ → List ℕ
+body_by true r t = take 4 t ++ masked r (drop 4 t)
+body_by false r t = masked r t
+
+over : Bool → Running → List ℕ → List ℕ
+over true r t = take 4 t ++ masked r (drop 4 t)
+over false r t = t
+
+pub body : Sealing → List ℕ → List ℕ
+body Clear t = t
+body (Block r mac) t = body_by (is_encrypt_then_mac mac) r t
+body (Gcm key nonce) t = take 4 t ++ gcm_text key nonce (take 4 t) (drop 4 t)
+
+tag_behind : Sealing → ℕ → List ℕ → List ℕ
+tag_behind Clear number t = []
+tag_behind (Block r mac) number t = tag_of mac number (over (is_encrypt_then_mac mac) r t)
+tag_behind (Gcm key nonce) number t = gcm_tag key nonce (take 4 t) (drop 4 t)
+
+enclosed_parts : (etm : Bool) (r : Running) (mac : MacOf) (number : ℕ) (t : List ℕ) → enclosed etm (masked r) (tag_of mac number) t ≡ body_by etm r t ++ tag_of mac number (over etm r t)
+unfolding body_by over
+enclosed_parts true r mac number t = sym (append_assoc (take 4 t) (masked r (drop 4 t)) _)
+enclosed_parts false r mac number t = refl
+
+closed_parts : (s : Sealing) (number : ℕ) (t : List ℕ) → closed s number t ≡ body s t ++ tag_behind s number t
+unfolding body tag_behind
+closed_parts Clear number t = sym (append-nil t)
+closed_parts (Block r mac) number t = enclosed_parts (is_encrypt_then_mac mac) r mac number t
+closed_parts (Gcm key nonce) number t = sym (append_assoc (take 4 t) (gcm_text key nonce (take 4 t) (drop 4 t)) _)
+
+length_headed : (t u : List ℕ) → 4 ≤ length t → length u ≡ length (drop 4 t) → length (take 4 t ++ u) ≡ length t
+length_headed t u h e = omega (arith, length-append (take 4 t) u, length_take4 t h, e, length-drop 4 t)
+
+length_body_by : (etm : Bool) (r : Running) (t : List ℕ) → 4 ≤ length t → length (body_by etm r t) ≡ length t
+unfolding body_by
+length_body_by true r t h = length_headed t _ h ((runs_well r).same_length (drop 4 t))
+length_body_by false r t h = (runs_well r).same_length t
+
+length_body : (s : Sealing) (t : List ℕ) → 4 ≤ length t → length (body s t) ≡ length t
+unfolding body
+length_body Clear t h = refl
+length_body (Block r mac) t h = length_body_by (is_encrypt_then_mac mac) r t h
+length_body (Gcm key nonce) t h = length_headed t _ h ((gcm_well key nonce).same_length (take 4 t) (drop 4 t))
+
+length_tag : (s : Sealing) (number : ℕ) (t : List ℕ) → length (tag_behind s number t) ≡ tag_size s
+unfolding tag_behind
+length_tag Clear number t = refl
+length_tag (Block r mac) number t = length-tag_of mac number _
+length_tag (Gcm key nonce) number t = (gcm_well key nonce).tag _ _
+
+-- the first four bytes of something headed by the first four of t are those
+take_headed : (t u : List ℕ) → 4 ≤ length t → take 4 (take 4 t ++ u) ≡ take 4 t
+take_headed t u h = subst (λ n. take n (take 4 t ++ u) ≡ take 4 t) (length_take4 t h) (take-append_seam (take 4 t) u)
+
+drop_headed : (t u : List ℕ) → 4 ≤ length t → drop 4 (take 4 t ++ u) ≡ u
+drop_headed t u h = subst (λ n. drop n (take 4 t ++ u) ≡ u) (length_take4 t h) (drop-append_seam (take 4 t) u)
+
+rejoined : (t u v : List ℕ) → 4 ≤ length t → u ≡ take 4 t → v ≡ drop 4 t → u ++ v ≡ t
+rejoined t u v h e f = ap (λ x. x ++ v) e ∙ (ap (λ x. take 4 t ++ x) f ∙ take-append-drop 4 t)
+
+-- decrypted, a text is what it was
+decrypted_back : (etm : Bool) (r : Running) (t : List ℕ) → IsBytes t → 4 ≤ length t → decrypted etm r (body_by etm r t) ≡ t
+unfolding body_by
+decrypted_back true r t b h =
+    rejoined t _ _ h (take_headed t _ h) (ap (unmasked r) (drop_headed t _ h) ∙ (opens_well r).opens (drop 4 t) (bytes_drop t 4 b))
+decrypted_back false r t b h = (opens_well r).opens t b
+
+text_back : (s : Sealing) (t : List ℕ) → IsBytes t → 4 ≤ length t → text_in s (body s t) ≡ t
+unfolding body
+text_back Clear t b h = refl
+text_back (Block r mac) t b h = decrypted_back (is_encrypt_then_mac mac) r t b h
+text_back (Gcm key nonce) t b h =
+    let hidden = gcm_text key nonce (take 4 t) (drop 4 t) in
+    rejoined t _ _ h (take_headed t hidden h)
+    (ap (λ a. gcm_plain key nonce a (drop 4 (take 4 t ++ hidden))) (take_headed t hidden h)
+    ∙ (ap (gcm_plain key nonce (take 4 t)) (drop_headed t hidden h) ∙ (gcm_well key nonce).opens (take 4 t) (drop 4 t) (bytes_drop t 4 b)))
+
+-- the tag that belongs to it is the one behind it
+covered_back : (etm : Bool) (r : Running) (t : List ℕ) → IsBytes t → covered etm r (body_by etm r t) ≡ over etm r t
+unfolding body_by over
+covered_back true r t b = refl
+covered_back false r t b = (opens_well r).opens t b
+
+tag_back : (s : Sealing) (number : ℕ) (t : List ℕ) → IsBytes t → 4 ≤ length t → tag_for s number (body s t) ≡ tag_behind s number t
+unfolding body tag_behind
+tag_back Clear number t b h = refl
+tag_back (Block r mac) number t b h = ap (tag_of mac number) (covered_back (is_encrypt_then_mac mac) r t b)
+tag_back (Gcm key nonce) number t b h =
+    let hidden = gcm_text key nonce (take 4 t) (drop 4 t) in
+    ap (λ a. cipher_tag key nonce a (drop 4 (take 4 t ++ hidden))) (take_headed t hidden h)
+    ∙ ap (cipher_tag key nonce (take 4 t)) (drop_headed t hidden h)
+
+-- opened, it leaves what sealing it did
+passed_back : (etm : Bool) (r : Running) (t : List ℕ) → 4 ≤ length t → passed r (hidden etm (body_by etm r t)) ≡ moved r (hidden etm t)
+unfolding body_by
+passed_back true r t h = ap (passed r) (drop_headed t (masked r (drop 4 t)) h) ∙ (opens_well r).leaves (drop 4 t)
+passed_back false r t h = (opens_well r).leaves t
+
+pub opened_back : (s : Sealing) (t : List ℕ) → 4 ≤ length t → opened_past s (body s t) ≡ moved_past s t
+unfolding body
+opened_back Clear t h = refl
+opened_back (Block r mac) t h = ap (λ q. Block q mac) (passed_back (is_encrypt_then_mac mac) r t h)
+opened_back (Gcm key nonce) t h = refl
+
+-- ---- a packet at the front
 
 whole_is : (item : Item) (rest p q : List ℕ) → p ≡ item.payload → q ≡ item.padding → Whole (record { payload = p; padding = q }) rest ≡ Whole item rest
 whole_is item rest p q e f = ap (λ i. Whole i rest) (item_alike (record { payload = p; padding = q }) item e f)
@@ -29,36 +147,81 @@ parted_framed item rest h =
     ∙ (ap (λ n. Whole (record { payload = take n (item.payload ++ item.padding); padding = drop n (item.payload ++ item.padding) }) rest) cut
     ∙ whole_is item rest _ _ (take-append_seam item.payload item.padding) (drop-append_seam item.payload item.padding)))
 
-length_shown : (item : Item) (rest : List ℕ) → packet_length item ≤ 262177 → from_be_bytes w32 (take 4 (framed item ++ rest)) ≡ packet_length item
-length_shown item rest h =
-    ap (from_be_bytes w32) (take-append-le 4 (framed item) rest (omega (arith, length_framed item)) ∙ front_framed item) ∙ from_be_bytes-to_be_bytes_4 (packet_length item) (omega arith)
+length_at : (t : List ℕ) (item : Item) → packet_length item ≤ 262177 → t ≡ take 4 (framed item) → from_be_bytes w32 t ≡ packet_length item
+length_at t item h e = ap (from_be_bytes w32) (e ∙ front_framed item) ∙ from_be_bytes-to_be_bytes_4 (packet_length item) (omega arith)
 
-both_false : (a b : Bool) → a ≡ false → b ≡ false → (a || b) ≡ false
-both_false a b e f = ap (λ x. x || b) e ∙ f
+-- behind a body, anything
+probed_front : (etm : Bool) (r : Running) (t x : List ℕ) → IsBytes t → 4 ≤ length t → shown_by etm r ≤ length t → 16 ≤ length (body_by etm r t ++ x) → take 4 (probed etm r (body_by etm r t ++ x)) ≡ take 4 t
+unfolding body_by
+probed_front true r t x b four h long = ap (take 4) (append_assoc (take 4 t) (masked r (drop 4 t)) x) ∙ take_headed t _ four
+probed_front false r t x b four h long = (opens_well r).early t x b h long
 
-pub good_length : (n : ℕ) → n ≤ 262177 → is_bad_length Clear n ≡ false
-good_length n h = both_false _ _ (not_below 262177 n h) (not_below (n + 4 + 0) 4 (omega arith))
+length_behind : (s : Sealing) (number : ℕ) (item : Item) (rest : List ℕ) → length (body s (framed item) ++ (tag_behind s number (framed item) ++ rest)) ≡ 4 + packet_length item + tag_size s + length rest
+length_behind s number item rest =
+    omega (arith, length-append (body s (framed item)) (tag_behind s number (framed item) ++ rest), length-append (tag_behind s number (framed item)) rest, length_body s (framed item) (omega (arith, length_framed item)), length_tag s number (framed item), length_framed item)
 
--- a packet of length n that stands whole before the rest
-opened_whole : (item : Item) (rest : List ℕ) → 0 < length item.payload → opened Clear (packet_length item) (framed item ++ rest) ≡ Whole item rest
-opened_whole item rest h =
-    let size : length (framed item ++ rest) ≡ 4 + packet_length item + length rest = omega (arith, length-append (framed item) rest, length_framed item) in
-    let long : 4 + packet_length item ≡ length (framed item) = sym (length_framed item) in
-    let longer : 4 + packet_length item + 0 ≡ length (framed item) = omega (arith, long) in
-    let front : take (4 + packet_length item) (framed item ++ rest) ≡ framed item = ap (λ k. take k (framed item ++ rest)) long ∙ take-append_seam (framed item) rest in
-    let behind : drop (4 + packet_length item + 0) (framed item ++ rest) ≡ rest = ap (λ k. drop k (framed item ++ rest)) longer ∙ drop-append_seam (framed item) rest in
-    left_out (nat_lt (length (framed item ++ rest)) (4 + packet_length item + 0)) _ _ (not_below _ _ (omega arith))
-    ∙ (ap (λ t. parted (packet_length item) t (drop (4 + packet_length item + 0) (framed item ++ rest))) front
-    ∙ (ap (parted (packet_length item) (framed item)) behind ∙ parted_framed item rest h))
+shown_at : (s : Sealing) (number : ℕ) (item : Item) (rest : List ℕ) → IsAdmissible s item → length_in s (body s (framed item) ++ (tag_behind s number (framed item) ++ rest)) ≡ packet_length item
+unfolding body
+shown_at Clear number item rest h = length_at _ item h.short (take-append-le 4 (framed item) _ (omega (arith, length_framed item)))
+shown_at (Block r mac) number item rest h =
+    let long = length_behind (Block r mac) number item rest in
+    let probe_fits = h.probed in
+    let shown_fits = h.shown in
+    length_at _ item h.short
+    (probed_front (is_encrypt_then_mac mac) r (framed item) _ (framed_bytes (Block r mac) item h) (omega (arith, length_framed item)) (omega (arith, length_framed item, shown_fits)) (omega (arith, long, probe_fits)))
+shown_at (Gcm key nonce) number item rest h =
+    length_at _ item h.short (ap (take 4) (append_assoc (take 4 (framed item)) (gcm_text key nonce (take 4 (framed item)) (drop 4 (framed item))) _) ∙ take_headed (framed item) _ (omega (arith, length_framed item)))
 
-pub front_whole : (sealing : Sealing) (number : ℕ) (item : Item) (rest : List ℕ) → IsAdmissible sealing item → front_of sealing number (sealed sealing number item ++ rest) ≡ Whole item rest
+pub three_false : (a b c : Bool) → a ≡ false → b ≡ false → c ≡ false → (a || (b || c)) ≡ false
+three_false a b c e f g = ap (λ x. x || (b || c)) e ∙ (ap (λ x. x || c) f ∙ g)
+
+good_length : (s : Sealing) (item : Item) → IsAdmissible s item → is_bad_length s (packet_length item) ≡ false
+good_length s item h =
+    three_false (nat_lt 262177 (packet_length item)) (nat_lt (packet_length item + 4 + tag_size s) (probe s)) (nat_lt (packet_length item + 4) (shortest s))
+    (not_below 262177 (packet_length item) h.short) (not_below _ _ h.probed) (not_below _ _ h.shown)
+
+-- what its tag belongs to is decrypted
+checked_whole : (s : Sealing) (number : ℕ) (item : Item) (rest : List ℕ) → IsAdmissible s item → checked s number (packet_length item) (body s (framed item)) (tag_behind s number (framed item) ++ rest) ≡ Whole item rest
+checked_whole s number item rest h =
+    let t = framed item in
+    let tag = tag_behind s number t in
+    let bytes = framed_bytes s item h in
+    let four : 4 ≤ length t = omega (arith, length_framed item) in
+    let given : take (tag_size s) (tag ++ rest) ≡ tag = subst (λ n. take n (tag ++ rest) ≡ tag) (length_tag s number t) (take-append_seam tag rest) in
+    let behind : drop (tag_size s) (tag ++ rest) ≡ rest = subst (λ n. drop n (tag ++ rest) ≡ rest) (length_tag s number t) (drop-append_seam tag rest) in
+    let right = (bytes_eq-Decides (tag_for s number (body s t)) (take (tag_size s) (tag ++ rest))).1 (tag_back s number t bytes four ∙ sym given) in
+    taken_in _ _ _ right
+    ∙ (ap (λ u. parted (packet_length item) u (drop (tag_size s) (tag ++ rest))) (text_back s t bytes four)
+    ∙ (ap (parted (packet_length item) t) behind ∙ parted_framed item rest h.payload))
+
+opened_whole : (s : Sealing) (number : ℕ) (item : Item) (rest : List ℕ) → IsAdmissible s item → opened s number (packet_length item) (body s (framed item) ++ (tag_behind s number (framed item) ++ rest)) ≡ Whole item rest
+opened_whole s number item rest h =
+    let b = body s (framed item) in
+    let x = tag_behind s number (framed item) ++ rest in
+    let size : length b ≡ 4 + packet_length item = length_body s (framed item) (omega (arith, length_framed item)) ∙ length_framed item in
+    let all = length_behind s number item rest in
+    let front : take (4 + packet_length item) (b ++ x) ≡ b = subst (λ n. take n (b ++ x) ≡ b) size (take-append_seam b x) in
+    let behind : drop (4 + packet_length item) (b ++ x) ≡ x = subst (λ n. drop n (b ++ x) ≡ x) size (drop-append_seam b x) in
+    left_out (nat_lt (length (b ++ x)) (4 + packet_length item + tag_size s)) _ _ (not_below _ _ (omega (arith, all)))
+    ∙ (ap (λ p. checked s number (packet_length item) p (drop (4 + packet_length item) (b ++ x))) front
+    ∙ (ap (checked s number (packet_length item) b) behind ∙ checked_whole s number item rest h))
+
+front_of_parts : (s : Sealing) (number : ℕ) (item : Item) (rest : List ℕ) → IsAdmissible s item → front_of s number (body s (framed item) ++ (tag_behind s number (framed item) ++ rest)) ≡ Whole item rest
 unfolding front_of
-front_whole Clear number item rest h =
-    let size : length (framed item ++ rest) ≡ 4 + packet_length item + length rest = omega (arith, length-append (framed item) rest, length_framed item) in
-    left_out (nat_lt (length (framed item ++ rest)) 4) _ _ (not_below _ _ (omega arith))
-    ∙ (ap (λ k. measured Clear k (framed item ++ rest)) (length_shown item rest h.short)
-    ∙ (left_out (is_bad_length Clear (packet_length item)) _ _ (good_length _ h.short)
-    ∙ opened_whole item rest h.payload))
+front_of_parts s number item rest h =
+    let w = body s (framed item) ++ (tag_behind s number (framed item) ++ rest) in
+    let all = length_behind s number item rest in
+    let probe_fits = h.probed in
+    left_out (nat_lt (length w) (probe s)) _ _ (not_below _ _ (omega (arith, all, probe_fits)))
+    ∙ (ap (λ n. measured s number n w) (shown_at s number item rest h)
+    ∙ (left_out (is_bad_length s (packet_length item)) _ _ (good_length s item h) ∙ opened_whole s number item rest h))
+
+pub front_whole : (s : Sealing) (number : ℕ) (item : Item) (rest : List ℕ) → IsAdmissible s item → front_of s number (sealed s number item ++ rest) ≡ Whole item rest
+front_whole s number item rest h =
+    ap (λ t. front_of s number (t ++ rest)) (closed_parts s number (framed item))
+    ∙ (ap (front_of s number) (append_assoc (body s (framed item)) (tag_behind s number (framed item)) rest) ∙ front_of_parts s number item rest h)
+
+-- ---- bytes that come behind
 
 -- How what is found goes on: a packet or a fault stays, where more bytes come behind.
 abbrev Stays : Front → Front → List ℕ → Type 0
@@ -84,23 +247,41 @@ short_or_stays a b limit y y' more h k = by_test (nat_lt a limit) refl where
       let P : Front → Type 0 = λ f. Stays y f more in
       subst P (sym (left_out (nat_lt b limit) Unfinished y' (not_below b limit (omega arith)))) (k above)
 
-opened_stays : (n : ℕ) (bytes more : List ℕ) → Stays (opened Clear n bytes) (opened Clear n (bytes ++ more)) more
-opened_stays n bytes more =
-    short_or_stays (length bytes) (length (bytes ++ more)) (4 + n + 0) _ _ more (omega (arith, length-append bytes more)) (λ h.
-    let front : take (4 + n) (bytes ++ more) ≡ take (4 + n) bytes = take-append-le (4 + n) bytes more (omega arith) in
-    let behind : drop (4 + n + 0) (bytes ++ more) ≡ drop (4 + n + 0) bytes ++ more = drop-append-le (4 + n + 0) bytes more h in
-    let P : Front → Type 0 = λ f. Stays (parted n (take (4 + n) bytes) (drop (4 + n + 0) bytes)) f more in
-    subst P (sym (ap (λ t. parted n t (drop (4 + n + 0) (bytes ++ more))) front ∙ ap (parted n (take (4 + n) bytes)) behind))
-    (parted_stays _ n _ (drop (4 + n + 0) bytes) more))
+checked_stays : (s : Sealing) (number n : ℕ) (packet behind more : List ℕ) → tag_size s ≤ length behind → Stays (checked s number n packet behind) (checked s number n packet (behind ++ more)) more
+checked_stays s number n packet behind more h =
+    let given = take-append-le (tag_size s) behind more h in
+    let rest = drop-append-le (tag_size s) behind more h in
+    let P : Front → Type 0 = λ f. Stays (checked s number n packet behind) f more in
+    let later : checked s number n packet (behind ++ more) ≡ (if bytes_eq (tag_for s number packet) (take (tag_size s) behind) then parted n (text_in s packet) (drop (tag_size s) behind ++ more) else Refused (tag_fault s)) =
+        ap (λ g. if bytes_eq (tag_for s number packet) g then parted n (text_in s packet) (drop (tag_size s) (behind ++ more)) else Refused (tag_fault s)) given
+        ∙ ap (λ r. if bytes_eq (tag_for s number packet) (take (tag_size s) behind) then parted n (text_in s packet) r else Refused (tag_fault s)) rest in
+    subst P (sym later) (stays_by (bytes_eq (tag_for s number packet) (take (tag_size s) behind)) _ _ _ _ more (parted_stays _ n _ (drop (tag_size s) behind) more) refl)
 
-front_goes_on : (sealing : Sealing) (number : ℕ) (bytes more : List ℕ) → Stays (front_of sealing number bytes) (front_of sealing number (bytes ++ more)) more
+opened_stays : (s : Sealing) (number n : ℕ) (bytes more : List ℕ) → Stays (opened s number n bytes) (opened s number n (bytes ++ more)) more
+opened_stays s number n bytes more =
+    short_or_stays (length bytes) (length (bytes ++ more)) (4 + n + tag_size s) _ _ more (omega (arith, length-append bytes more)) (λ h.
+    let front : take (4 + n) (bytes ++ more) ≡ take (4 + n) bytes = take-append-le (4 + n) bytes more (omega (arith, h)) in
+    let behind : drop (4 + n) (bytes ++ more) ≡ drop (4 + n) bytes ++ more = drop-append-le (4 + n) bytes more (omega (arith, h)) in
+    let P : Front → Type 0 = λ f. Stays (checked s number n (take (4 + n) bytes) (drop (4 + n) bytes)) f more in
+    subst P (sym (ap (λ p. checked s number n p (drop (4 + n) (bytes ++ more))) front ∙ ap (checked s number n (take (4 + n) bytes)) behind))
+    (checked_stays s number n (take (4 + n) bytes) (drop (4 + n) bytes) more (omega (arith, h, length-drop (4 + n) bytes))))
+
+probed_stays : (etm : Bool) (r : Running) (bytes more : List ℕ) → 16 ≤ length bytes → take 4 (probed etm r (bytes ++ more)) ≡ take 4 (probed etm r bytes)
+probed_stays true r bytes more h = take-append-le 4 bytes more (omega (arith, h))
+probed_stays false r bytes more h = ap (λ b. take 4 (unmasked r b)) (take-append-le 16 bytes more h)
+
+length_stays : (s : Sealing) (bytes more : List ℕ) → probe s ≤ length bytes → length_in s (bytes ++ more) ≡ length_in s bytes
+length_stays Clear bytes more h = ap (from_be_bytes w32) (take-append-le 4 bytes more h)
+length_stays (Block r mac) bytes more h = ap (from_be_bytes w32) (probed_stays (is_encrypt_then_mac mac) r bytes more h)
+length_stays (Gcm key nonce) bytes more h = ap (from_be_bytes w32) (take-append-le 4 bytes more h)
+
+front_goes_on : (s : Sealing) (number : ℕ) (bytes more : List ℕ) → Stays (front_of s number bytes) (front_of s number (bytes ++ more)) more
 unfolding front_of
-front_goes_on Clear number bytes more =
-    short_or_stays (length bytes) (length (bytes ++ more)) 4 _ _ more (omega (arith, length-append bytes more)) (λ h.
-    let same : length_in Clear (bytes ++ more) ≡ length_in Clear bytes = ap (from_be_bytes w32) (take-append-le 4 bytes more h) in
-    let P : Front → Type 0 = λ f. Stays (measured Clear (length_in Clear bytes) bytes) f more in
-    subst P (sym (ap (λ k. measured Clear k (bytes ++ more)) same))
-    (stays_by (is_bad_length Clear (length_in Clear bytes)) _ _ _ _ more refl (opened_stays (length_in Clear bytes) bytes more)))
+front_goes_on s number bytes more =
+    short_or_stays (length bytes) (length (bytes ++ more)) (probe s) _ _ more (omega (arith, length-append bytes more)) (λ h.
+    let P : Front → Type 0 = λ f. Stays (measured s number (length_in s bytes) bytes) f more in
+    subst P (sym (ap (λ k. measured s number k (bytes ++ more)) (length_stays s bytes more h)))
+    (stays_by (is_bad_length s (length_in s bytes)) _ _ _ _ more refl (opened_stays s number (length_in s bytes) bytes more)))
 
 pub front_stays_whole : (sealing : Sealing) (number : ℕ) (bytes more rest : List ℕ) (item : Item) → front_of sealing number bytes ≡ Whole item rest → front_of sealing number (bytes ++ more) ≡ Whole item (rest ++ more)
 front_stays_whole sealing number bytes more rest item h =

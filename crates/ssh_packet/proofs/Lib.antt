@@ -1,7 +1,10 @@
 pub mod Built
+pub mod Ciphers
 pub mod Finding
+pub mod Framing
 pub mod Fronts
 pub mod KeyKinds
 pub mod Lent
+pub mod Padding
 pub mod Shapes
 pub mod Streams

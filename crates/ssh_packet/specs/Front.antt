@@ -1,10 +1,16 @@
 -- What a reader finds at the front of the bytes that wait.
-use Rattle.std.specs.Prelude.{◌≡◌, ℕ, ◌+◌, ◌-◌, nat_lt, ◌||◌, Bool, if◌then◌else◌, List, [], ◌∷◌, length, take, drop, slice_index, replicate, refl}
+use Rattle.std.specs.Prelude.{◌≡◌, ℕ, ◌+◌, ◌-◌, nat_lt, ◌||◌, Bool, true, false, if◌then◌else◌, List, [], ◌∷◌, ◌++◌, length, take, drop, slice_index, replicate, refl}
 use Rattle.std.specs.Int.{w32, from_be_bytes}
-use Rattle.ssh_packet.specs.Sealing.{Item, Sealing, Clear, tag_size, longest_packet}
+use Rattle.std.specs.Str.{bytes_eq}
+use Rattle.ssh_aes.specs.Gcm.{gcm_plain, cipher_tag}
+use Rattle.ssh_aes.specs.Modes.{Running, unmasked, passed}
+use Rattle.ssh_mac.specs.Tags.{tag_of, is_encrypt_then_mac}
+use Rattle.ssh_packet.specs.Sealing.{Item, Sealing, Clear, Block, Gcm, hidden, next_nonce, tag_size, probe, shortest, longest_packet}
 
 pub data Fault : Type 0 where
   PacketSize : (n : ℕ) → Fault
+  PacketAuth : Fault
+  DecryptionError : Fault
   IndexOutOfBounds : Fault
 
 pub data Front : Type 0 where
@@ -12,20 +18,59 @@ pub data Front : Type 0 where
   Unfinished : Front
   Refused : (fault : Fault) → Front
 
--- how many bytes show the packet length
-abbrev pub probe : Sealing → ℕ
-probe Clear = 4
+-- the first bytes, decrypted where the packet length is encrypted
+abbrev pub probed : Bool → Running → List ℕ → List ℕ
+probed true running bytes = bytes
+probed false running bytes = unmasked running (take 16 bytes)
 
 -- the packet length that they show
 abbrev pub length_in : Sealing → List ℕ → ℕ
 length_in Clear bytes = from_be_bytes w32 (take 4 bytes)
+length_in (Block running mac) bytes = from_be_bytes w32 (take 4 (probed (is_encrypt_then_mac mac) running bytes))
+length_in (Gcm key nonce) bytes = from_be_bytes w32 (take 4 bytes)
 
 abbrev pub is_bad_length : Sealing → ℕ → Bool
-is_bad_length sealing n = nat_lt longest_packet n || nat_lt (n + 4 + tag_size sealing) (probe sealing)
+is_bad_length sealing n = nat_lt longest_packet n || (nat_lt (n + 4 + tag_size sealing) (probe sealing) || nat_lt (n + 4) (shortest sealing))
 
--- the framed text of a closed packet without its tag
+-- the framed text of a packet without its tag
+abbrev pub decrypted : Bool → Running → List ℕ → List ℕ
+decrypted true running packet = take 4 packet ++ unmasked running (drop 4 packet)
+decrypted false running packet = unmasked running packet
+
 abbrev pub text_in : Sealing → List ℕ → List ℕ
-text_in Clear bytes = bytes
+text_in Clear packet = packet
+text_in (Block running mac) packet = decrypted (is_encrypt_then_mac mac) running packet
+text_in (Gcm key nonce) packet = take 4 packet ++ gcm_plain key nonce (take 4 packet) (drop 4 packet)
+
+-- what a direction is opened with after a packet without its tag
+abbrev pub opened_past : Sealing → List ℕ → Sealing
+opened_past Clear packet = Clear
+opened_past (Block running mac) packet = Block (passed running (hidden (is_encrypt_then_mac mac) packet)) mac
+opened_past (Gcm key nonce) packet = Gcm key (next_nonce nonce)
+
+-- what the tag of a packet is over
+abbrev pub covered : Bool → Running → List ℕ → List ℕ
+covered true running packet = packet
+covered false running packet = unmasked running packet
+
+-- the tag that belongs to a packet without its tag
+abbrev pub tag_for : Sealing → ℕ → List ℕ → List ℕ
+tag_for Clear number packet = []
+tag_for (Block running mac) number packet = tag_of mac number (covered (is_encrypt_then_mac mac) running packet)
+tag_for (Gcm key nonce) number packet = cipher_tag key nonce (take 4 packet) (drop 4 packet)
+
+-- a packet and its tag, parted
+abbrev pub packet_of : Sealing → List ℕ → List ℕ
+packet_of sealing bytes = take (length bytes - tag_size sealing) bytes
+
+abbrev pub tag_behind : Sealing → List ℕ → List ℕ
+tag_behind sealing bytes = drop (length bytes - tag_size sealing) bytes
+
+-- what a wrong tag is called
+abbrev pub tag_fault : Sealing → Fault
+tag_fault Clear = PacketAuth
+tag_fault (Block running mac) = PacketAuth
+tag_fault (Gcm key nonce) = DecryptionError
 
 -- a framed text of packet length n, taken apart by its padding length
 abbrev pub parted_by : ℕ → ℕ → List ℕ → List ℕ → Front
@@ -37,17 +82,27 @@ parted_by padding n behind rest =
 abbrev pub parted : ℕ → List ℕ → List ℕ → Front
 parted n text rest = parted_by (slice_index text 4) n (drop 5 text) rest
 
--- a packet of length n, where it stands whole
-abbrev pub opened : Sealing → ℕ → List ℕ → Front
-opened sealing n bytes =
-    if nat_lt (length bytes) (4 + n + tag_size sealing) then Unfinished
-    else parted n (text_in sealing (take (4 + n) bytes)) (drop (4 + n + tag_size sealing) bytes)
+-- a packet of length n without its tag, and what is behind: the tag first
+abbrev pub checked : Sealing → ℕ → ℕ → List ℕ → List ℕ → Front
+checked sealing number n packet behind =
+    if bytes_eq (tag_for sealing number packet) (take (tag_size sealing) behind)
+    then parted n (text_in sealing packet) (drop (tag_size sealing) behind)
+    else Refused (tag_fault sealing)
 
-abbrev pub measured : Sealing → ℕ → List ℕ → Front
-measured sealing n bytes = if is_bad_length sealing n then Refused (PacketSize n) else opened sealing n bytes
+-- a packet of length n, where it stands whole
+abbrev pub opened : Sealing → ℕ → ℕ → List ℕ → Front
+opened sealing number n bytes =
+    if nat_lt (length bytes) (4 + n + tag_size sealing) then Unfinished
+    else checked sealing number n (take (4 + n) bytes) (drop (4 + n) bytes)
+
+abbrev pub measured : Sealing → ℕ → ℕ → List ℕ → Front
+measured sealing number n bytes =
+    if is_bad_length sealing n then Refused (PacketSize n) else opened sealing number n bytes
 
 unfoldable pub front_of : Sealing → ℕ → List ℕ → Front
-front_of sealing number bytes = if nat_lt (length bytes) (probe sealing) then Unfinished else measured sealing (length_in sealing bytes) bytes
+front_of sealing number bytes =
+    if nat_lt (length bytes) (probe sealing) then Unfinished
+    else measured sealing number (length_in sealing bytes) bytes
 
 -- eleven bytes of payload, no padding
 whole-example : front_of Clear 0 (0 ∷ 0 ∷ 0 ∷ 12 ∷ 0 ∷ replicate 11 97) ≡ Whole (record { payload = replicate 11 97; padding = [] }) []

@@ -1,7 +1,9 @@
 -- What is true of every packet and of every stream of packets.
-use Rattle.std.specs.Prelude.{◌≡◌, ℕ, ◌+◌, ◌%◌, ◌≤◌, List, ◌++◌}
-use Rattle.ssh_packet.specs.Sealing.{Item, Sealing, Clear, IsAdmissible, sealed, padding_length}
-use Rattle.ssh_packet.specs.Stream.{Entries}
+use Rattle.std.specs.Prelude.{◌≡◌, ℕ, ◌+◌, ◌%◌, ◌≤◌, if◌then◌else◌, Bool, Some, List, [], ◌++◌}
+use Rattle.ssh_mac.specs.Tags.{is_encrypt_then_mac}
+use Rattle.ssh_packet.specs.Sealing.{Item, Sealing, Clear, Block, Gcm, IsAdmissible, sealed, padding_length}
+use Rattle.ssh_packet.specs.Stream.{Opening, Entries, EntriesBy, IsPlain, Reads, ReadsBy, first_place}
+use Rattle.ssh_packet.specs.Carried.{AgreeFor, SameFor}
 use Rattle.ssh_packet.specs.Front.{Whole, Fault, Refused, front_of}
 
 -- state, number and bytes determine the packet, whatever follows it
@@ -17,10 +19,34 @@ abbrev pub FrontStays : Type 0
 FrontStays = ((sealing : Sealing) (number : ℕ) (bytes more rest : List ℕ) (item : Item) → front_of sealing number bytes ≡ Whole item rest → front_of sealing number (bytes ++ more) ≡ Whole item (rest ++ more))
     × ((sealing : Sealing) (number : ℕ) (bytes more : List ℕ) (fault : Fault) → front_of sealing number bytes ≡ Refused fault → front_of sealing number (bytes ++ more) ≡ Refused fault)
 
--- two readings of the same bytes are one
+-- two readings of the same bytes are one, wherever a test says that epochs end
 abbrev pub OneReading : Type 0
-OneReading = (sealing : Sealing) (number : ℕ) (bytes x y : List ℕ) (a b : List Item) → Entries sealing number bytes a x → Entries sealing number bytes b y → (a ≡ b) × (x ≡ y)
+OneReading = (ends_by : List Item → Item → Bool) (openings : List Opening) (bytes x y : List ℕ) (a b : List Item) → EntriesBy ends_by openings bytes a x → EntriesBy ends_by openings bytes b y → (a ≡ b) × (x ≡ y)
 
--- padding is 4 to 19 bytes, and a whole clear packet is a multiple of 8
+-- where the test says of each packet what its type says, this is the reading by types
+abbrev pub PlainReading : Type 0
+PlainReading = (ends_by : List Item → Item → Bool) (openings : List Opening) (bytes x : List ℕ) (a : List Item) → IsPlain ends_by [] a → EntriesBy ends_by openings bytes a x → Entries openings bytes a x
+
+-- What a reader takes off a front of what was written is what was written, through the epochs whose openings
+-- agree. The reader tells ends of epochs by a test that is plain on what was written.
+abbrev pub Carried : Type 0
+Carried = (ends_by : List Item → Item → Bool) (k : ℕ) (read written : List Opening) (a b : List Item) (fed rest wire more : List ℕ) → IsPlain ends_by [] b → AgreeFor k read written → ReadsBy ends_by [] (Some (first_place read)) a fed rest → Reads (Some (first_place written)) b wire [] → fed ++ more ≡ wire → SameFor (Some k) a b
+
+-- what of a packet is filled up: all of a packet in clear, all that is encrypted of the others
+abbrev pub filled : Sealing → ℕ → ℕ → ℕ
+filled Clear n padding = 5 + n + padding
+filled (Block running mac) n padding = if is_encrypt_then_mac mac then 1 + n + padding else 5 + n + padding
+filled (Gcm key nonce) n padding = 1 + n + padding
+
+-- of how many bytes it is a multiple
+abbrev pub unit_of : Sealing → ℕ
+unit_of Clear = 8
+unit_of (Block running mac) = 16
+unit_of (Gcm key nonce) = 16
+
+-- padding is 4 to 19 bytes, and fills up to whole units
+abbrev pub IsPadding : ℕ → ℕ → ℕ → Type 0
+IsPadding padding filled unit = (4 ≤ padding) × (padding ≤ 19) × (filled % unit ≡ 0)
+
 abbrev pub Padded : Type 0
-Padded = (n : ℕ) → (4 ≤ padding_length Clear n) × (padding_length Clear n ≤ 19) × ((5 + n + padding_length Clear n) % 8 ≡ 0)
+Padded = (sealing : Sealing) (n : ℕ) → IsPadding (padding_length sealing n) (filled sealing n (padding_length sealing n)) (unit_of sealing)

@@ -2,7 +2,7 @@
 use Rattle.std.specs.Prelude.{◌≡◌, ◌<◌, true, false, length, Option, Some, None, Result, Ok, Err}
 use Rattle.std.specs.Borrow.{MutBor, Lends, Fml}
 use Rattle.std.specs.Io.BufRead.{Rests}
-use Rattle.ssh_packet.specs.Front.{PacketSize, IndexOutOfBounds, Whole, Unfinished, Refused, front_of}
+use Rattle.ssh_packet.specs.Front.{PacketSize, IndexOutOfBounds, PacketAuth, DecryptionError, Whole, Unfinished, Refused, front_of}
 use Rattle.ssh_packet.specs.Keys.{opening_of}
 use Rattle.ssh_packet.specs.Reading.{Reader}
 use Rattle.ssh_packet.specs.Sealing.{Item, Sealing, moved_on, next_number}
@@ -14,6 +14,8 @@ use Rattle.ssh_packet.specs.declared.reader.Incoming.{Incoming}
 use Rattle.ssh_packet.specs.contracts.reader.PacketReader.{the_row}
 use Rattle.ssh_packet.specs.contracts.writer.PacketWriter.{the_row as writer_row}
 use Rattle.ssh_packet.specs.contracts.buffer.SSHBuffer.{the_row as buffer_row}
+use Rattle.ssh_packet.specs.contracts.compression.Compress.{the_row as compress_row}
+use Rattle.ssh_packet.specs.declared.compression.Compress.{Compress}
 
 -- a packet was handed out: its payload is lent, `seqn` is its number plus one
 pub record HandsOut (old : Reader) (key : Sealing) (item : Item) (incoming : Incoming) (new : Reader) (key' : Sealing) : Type 0 where
@@ -31,6 +33,8 @@ pub record HandsOut (old : Reader) (key : Sealing) (item : Item) (incoming : Inc
 abbrev pub Refuses : Reader → Sealing → OpenError → Type 0
 Refuses old key (errors.PacketSize n) = (old.failed ≡ false) × (front_of key old.number old.waiting ≡ Refused (PacketSize n))
 Refuses old key errors.IndexOutOfBounds = (old.failed ≡ false) × (front_of key old.number old.waiting ≡ Refused IndexOutOfBounds)
+Refuses old key errors.PacketAuth = (old.failed ≡ false) × (front_of key old.number old.waiting ≡ Refused PacketAuth)
+Refuses old key errors.DecryptionError = (old.failed ≡ false) × (front_of key old.number old.waiting ≡ Refused DecryptionError)
 Refuses old key errors.Disconnect = old.failed ≡ true
 
 -- what `next` leaves
@@ -47,3 +51,6 @@ with_buffer w b = record w { output = b.output; len = b.len; count = b.count; nu
 
 abbrev pub LendsBuffer : MutBor Writer → MutBor Written → Fml
 LendsBuffer self result = Lends writer_row buffer_row self result (with_buffer self.now)
+
+abbrev pub LendsCompress : MutBor Writer → MutBor Compress → Fml
+LendsCompress self result = Lends writer_row compress_row self result (λ c. self.now)

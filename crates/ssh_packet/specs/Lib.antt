@@ -4,7 +4,9 @@ pub mod Front
 pub mod Keys
 pub mod Laws
 pub mod Lending
+pub mod Names
 pub mod Reading
 pub mod Sealing
 pub mod Stream
+pub mod Carried
 pub mod Writing

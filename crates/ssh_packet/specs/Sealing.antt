@@ -1,6 +1,12 @@
--- One binary packet: what a direction is sealed under, the bytes of a packet, and what comes after it (RFC 4253 section 6).
-use Rattle.std.specs.Prelude.{◌≡◌, ℕ, ◌+◌, ◌-◌, ◌%◌, ◌^◌, ◌<◌, ◌≤◌, nat_lt, if◌then◌else◌, List, [], ◌∷◌, ◌++◌, length, slice_index, replicate, refl}
-use Rattle.rand_core.specs.Stream.{Stream}
+-- One binary packet: what a direction is sealed under, the bytes of a packet, and what comes after it
+-- (RFC 4253 section 6).
+use Rattle.std.specs.Prelude.{◌≡◌, ℕ, ◌+◌, ◌-◌, ◌%◌, ◌^◌, ◌<◌, ◌≤◌, Bool, true, false, nat_lt, if◌then◌else◌, List, [], ◌∷◌, ◌++◌, length, take, drop, replicate, refl}
+use Rattle.std.specs.Int.{w128, from_be_bytes, to_be_bytes}
+use Rattle.rand_core.specs.Stream.{Stream, fill_bytes}
+use Rattle.ssh_aes.specs.Gcm.{gcm_text, gcm_tag}
+use Rattle.ssh_aes.specs.Laws as aes
+use Rattle.ssh_aes.specs.Modes.{Running, masked, moved, least}
+use Rattle.ssh_mac.specs.Tags.{MacOf, tag_of, tag_length, is_encrypt_then_mac}
 use Rattle.ssh_wire.specs.Forms.{u32be}
 
 -- a payload, and the padding behind it
@@ -8,12 +14,16 @@ pub record Item : Type 0 where
   pub payload : List ℕ
   pub padding : List ℕ
 
--- What a direction is sealed under. A further kind of key is one constructor more.
+-- What a direction is sealed under: nothing, a block cipher with a MAC, or Galois counter mode.
 pub data Sealing : Type 0 where
   Clear : Sealing
+  Block : (running : Running) (mac : MacOf) → Sealing
+  Gcm : (key nonce : List ℕ) → Sealing
 
 abbrev pub IsBytes : List ℕ → Type 0
-IsBytes bytes = (i : ℕ) → slice_index bytes i < 256
+IsBytes bytes = aes.IsBytes bytes
+
+-- ---- the bytes of a packet
 
 -- the packet length: the padding length's byte, payload and padding
 abbrev pub packet_length : Item → ℕ
@@ -23,57 +33,134 @@ packet_length item = 1 + length item.payload + length item.padding
 unfoldable pub framed : Item → List ℕ
 framed item = u32be (packet_length item) ++ length item.padding ∷ (item.payload ++ item.padding)
 
--- a framed text as it is sealed, with its tag
+-- a text encrypted, its tag behind it: a tag over what was encrypted, the packet length before it in clear
+-- (encrypt-then-MAC), or over the text (RFC 4253 section 6.4)
+abbrev pub enclosed : Bool → (List ℕ → List ℕ) → (List ℕ → List ℕ) → List ℕ → List ℕ
+enclosed true mask tag text = take 4 text ++ (mask (drop 4 text) ++ tag (take 4 text ++ mask (drop 4 text)))
+enclosed false mask tag text = mask text ++ tag text
+
+-- a framed text as it is sealed, with its tag. In Galois counter mode the packet length is the additional
+-- text (RFC 5647 section 7.3).
 abbrev pub closed : Sealing → ℕ → List ℕ → List ℕ
 closed Clear number text = text
+closed (Block running mac) number text = enclosed (is_encrypt_then_mac mac) (masked running) (tag_of mac number) text
+closed (Gcm key nonce) number text =
+    take 4 text ++ (gcm_text key nonce (take 4 text) (drop 4 text) ++ gcm_tag key nonce (take 4 text) (drop 4 text))
 
 -- the bytes of a packet
 abbrev pub sealed : Sealing → ℕ → Item → List ℕ
 sealed sealing number item = closed sealing number (framed item)
 
--- what the direction is sealed under after a packet
-abbrev pub moved_on : Sealing → Item → Sealing
-moved_on Clear item = Clear
+-- ---- what comes after it
 
-abbrev pub tag_size : Sealing → ℕ
-tag_size Clear = 0
+-- what of a text is encrypted
+abbrev pub hidden : Bool → List ℕ → List ℕ
+hidden true text = drop 4 text
+hidden false text = text
+
+-- the next nonce: one more, as a number of 12 bytes, the highest first
+unfoldable pub next_nonce : List ℕ → List ℕ
+next_nonce nonce = drop 4 (to_be_bytes w128 ((from_be_bytes w128 (replicate 4 0 ++ nonce) + 1) % 2 ^ 96))
+
+-- what the direction is sealed under after a framed text: block ciphers run on over all packets (RFC 4253
+-- section 6.3)
+abbrev pub moved_past : Sealing → List ℕ → Sealing
+moved_past Clear text = Clear
+moved_past (Block running mac) text = Block (moved running (hidden (is_encrypt_then_mac mac) text)) mac
+moved_past (Gcm key nonce) text = Gcm key (next_nonce nonce)
+
+-- what it is sealed under after a packet
+abbrev pub moved_on : Sealing → Item → Sealing
+moved_on sealing item = moved_past sealing (framed item)
 
 -- the number of the next packet (RFC 4253 section 6.4)
 abbrev pub next_number : ℕ → ℕ
 next_number number = (number + 1) % 2 ^ 32
 
--- the longest packet length that is read, and the longest payload that is sent, in bytes
+-- ---- sizes, in bytes
+
+abbrev pub tag_size : Sealing → ℕ
+tag_size Clear = 0
+tag_size (Block running mac) = tag_length mac
+tag_size (Gcm key nonce) = 16
+
+-- how many bytes a reader asks for before it looks at the packet length
+abbrev pub probe : Sealing → ℕ
+probe Clear = 4
+probe (Block running mac) = 16
+probe (Gcm key nonce) = 4
+
+-- how many bytes of an encrypted packet, without its tag, show the packet length
+abbrev pub shown_by : Bool → Running → ℕ
+shown_by true running = 4
+shown_by false running = least running
+
+abbrev pub shortest : Sealing → ℕ
+shortest Clear = 4
+shortest (Block running mac) = shown_by (is_encrypt_then_mac mac) running
+shortest (Gcm key nonce) = 4
+
+-- the longest packet length that is read, and the longest payload that is sent
 abbrev pub longest_packet : ℕ
 longest_packet = 262177
 
 abbrev pub longest_payload : ℕ
 longest_payload = 262157
 
--- what may stand in a stream: a payload, and a length within the limit
+-- what may stand in a stream: a payload, and a length within the limits
 pub record IsAdmissible (sealing : Sealing) (item : Item) : Type 0 where
   pub payload : 0 < length item.payload
   pub padding : length item.padding < 256
   pub short : packet_length item ≤ longest_packet
+  pub probed : probe sealing ≤ packet_length item + 4 + tag_size sealing
+  pub shown : shortest sealing ≤ packet_length item + 4
   pub payload_bytes : IsBytes item.payload
   pub padding_bytes : IsBytes item.padding
+
+-- ---- padding
 
 -- padding is at least four bytes
 abbrev pub at_least_four : ℕ → ℕ → ℕ
 at_least_four unit size = if nat_lt size 4 then size + unit else size
 
--- so much that the packet of a payload of n bytes is a multiple of the unit
+-- so much that what is encrypted is a multiple of 16 bytes
+abbrev pub block_padding : Bool → ℕ → ℕ
+block_padding true n = at_least_four 16 (16 - (1 + n) % 16)
+block_padding false n = at_least_four 16 (16 - (5 + n) % 16)
+
+-- so much that the packet of a payload of n bytes is a multiple of 8 bytes, and what is encrypted of 16
 abbrev pub padding_length : Sealing → ℕ → ℕ
 padding_length Clear n = at_least_four 8 (8 - (5 + n) % 8)
+padding_length (Block running mac) n = block_padding (is_encrypt_then_mac mac) n
+padding_length (Gcm key nonce) n = block_padding true n
 
--- the packet of a payload, its padding drawn from a stream where the kind draws any
+-- n bytes of padding, and what is left of the stream that they are drawn from: a packet in clear is padded
+-- with zeros and draws nothing
+abbrev pub filling : Sealing → ℕ → Stream → List ℕ × Stream
+filling Clear n stream = (replicate n 0, stream)
+filling (Block running mac) n stream = fill_bytes n stream
+filling (Gcm key nonce) n stream = fill_bytes n stream
+
+-- the padding of a payload of n bytes, and what is left of the stream
+abbrev pub padding_from : Sealing → ℕ → Stream → List ℕ × Stream
+padding_from sealing n stream = filling sealing (padding_length sealing n) stream
+
+-- a payload with so many bytes of padding
+abbrev pub framing : Sealing → ℕ → List ℕ → Stream → Item
+framing sealing padding payload stream = record { payload = payload; padding = (filling sealing padding stream).0 }
+
+-- the packet of a payload
 abbrev pub item_of : Sealing → List ℕ → Stream → Item
-item_of Clear payload stream = record { payload = payload; padding = replicate (padding_length Clear (length payload)) 0 }
+item_of sealing payload stream = record { payload = payload; padding = (padding_from sealing (length payload) stream).0 }
 
--- what is left of the stream
+-- what is left of the stream behind a payload: one of no bytes sends nothing
 abbrev pub stream_after : Sealing → List ℕ → Stream → Stream
-stream_after Clear payload stream = stream
+stream_after sealing [] stream = stream
+stream_after sealing (b ∷ rest) stream = (padding_from sealing (1 + length rest) stream).1
 
--- three bytes of payload, ten of padding
+-- ---- examples
+
+-- three bytes of payload, eight of padding
 framed-example : framed (record { payload = 97 ∷ 98 ∷ 99 ∷ []; padding = replicate 8 0 }) ≡ 0 ∷ 0 ∷ 0 ∷ 12 ∷ 8 ∷ 97 ∷ 98 ∷ 99 ∷ 0 ∷ 0 ∷ 0 ∷ 0 ∷ 0 ∷ 0 ∷ 0 ∷ 0 ∷ []
 unfolding framed
 framed-example = refl
@@ -84,3 +171,15 @@ padding-example = refl
 -- one byte less than four is a unit more
 short-example : padding_length Clear 8 ≡ 11
 short-example = refl
+
+block_padding-example : (block_padding true 3 ≡ 12) × (block_padding false 3 ≡ 8)
+block_padding-example = (refl, refl)
+
+-- the nonce carries over all its bytes
+nonce-example : next_nonce (0 ∷ 0 ∷ 0 ∷ 0 ∷ replicate 8 255) ≡ 0 ∷ 0 ∷ 0 ∷ 1 ∷ replicate 8 0
+unfolding next_nonce
+nonce-example = refl
+
+last_nonce-example : next_nonce (replicate 12 255) ≡ replicate 12 0
+unfolding next_nonce
+last_nonce-example = refl

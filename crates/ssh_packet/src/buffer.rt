@@ -1,6 +1,6 @@
 //! The buffer that a writer fills.
 
-ghost use Rattle.std.specs.Prelude.{◌≡◌, []};
+ghost use Rattle.std.specs.Prelude.{◌≡◌, ◌≤◌, [], drop, vec_len};
 
 use std::alloc::Global;
 use std::marker::Model;
@@ -38,4 +38,14 @@ impl SSHBuffer {
             seqn: 0,
         }
     }
+}
+
+/// Drops the first n bytes.
+pub(crate) fn drop_front(bytes: &mut Vec<u8>, n: usize)
+    requires { n ≤ vec_len bytes.old }
+    ensures { bytes.new.items ≡ drop n bytes.old.items }
+{
+    let len = bytes.len();
+    bytes.copy_within(n..len, 0);
+    bytes.truncate(len - n);
 }

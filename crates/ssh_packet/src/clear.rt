@@ -1,5 +1,51 @@
 //! The key of a direction before any exchange: packets stand in clear.
 
+ghost use Rattle.ssh_packet.specs.Sealing.{Clear};
+
+use crate::cipher::{OpeningKey, SealingKey};
+use crate::error::OpenError;
+use rand_core::Rng;
+
 /// The clear key.
 #[derive(Clone, Copy, Debug, PartialEq, Eq)]
 pub struct Key;
+
+impl SealingKey for Key {
+    ghost sealing = { λ _. Clear };
+
+    fn padding_length(&self, payload: &[u8]) -> usize {
+        let size = 8 - (5 + payload.len()) % 8;
+        if size < 4 { size + 8 } else { size }
+    }
+
+    fn fill_padding<R: Rng>(&self, _rng: &mut R, padding_out: &mut [u8]) {
+        padding_out.fill(0);
+    }
+
+    fn tag_len(&self) -> usize {
+        0
+    }
+
+    fn seal(&mut self, _seqn: u32, _plaintext_in_ciphertext_out: &mut [u8], _tag_out: &mut [u8]) {}
+}
+
+impl OpeningKey for Key {
+    ghost opening = { λ _. Clear };
+
+    fn packet_length_to_read_for_block_length(&self) -> usize {
+        4
+    }
+
+    fn decrypt_packet_length(&self, _seqn: u32, encrypted_packet_length: &[u8]) -> [u8; 4] {
+        let shown = encrypted_packet_length;
+        [shown[0], shown[1], shown[2], shown[3]]
+    }
+
+    fn tag_len(&self) -> usize {
+        0
+    }
+
+    fn open_in_place(&mut self, _seqn: u32, _packet: &mut [u8], _tag: &[u8]) -> Result<(), OpenError> {
+        Ok(())
+    }
+}

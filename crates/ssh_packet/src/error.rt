@@ -9,6 +9,10 @@ pub enum OpenError {
     PacketSize(usize),
     /// The padding is longer than its packet.
     IndexOutOfBounds,
+    /// The tag of an HMAC is not the packet's.
+    PacketAuth,
+    /// The tag of Galois counter mode is not the packet's.
+    DecryptionError,
     /// An earlier packet was refused.
     Disconnect,
 }
@@ -23,6 +27,8 @@ impl From<OpenError> for Error {
         match error {
             OpenError::PacketSize(n) => Error::PacketSize(n),
             OpenError::IndexOutOfBounds => Error::IndexOutOfBounds,
+            OpenError::PacketAuth => Error::PacketAuth,
+            OpenError::DecryptionError => Error::DecryptionError,
             OpenError::Disconnect => Error::Disconnect,
         }
     }

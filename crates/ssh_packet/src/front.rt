@@ -75,7 +75,7 @@ fn padding_at(size: usize, bytes: &[u8]) -> usize
 fn part(size: usize, bytes: &[u8]) -> Found
     requires short { size ≤ longest_packet }
     requires whole { 4 + size ≤ length bytes.now }
-    ensures front { Finds (opened Clear size bytes.now) bytes.now result }
+    ensures front { (number : ℕ) → Finds (opened Clear number size bytes.now) bytes.now result }
     ensures within { LiesWithin (length bytes.now) result }
 {
     let padding = padding_at(size, bytes);

@@ -1,9 +1,8 @@
 //! The keys of a direction, by kind.
 
-ghost use Rattle.std.specs.Prelude.{◌≡◌, ◌+◌, ◌≤◌};
-ghost use Rattle.ssh_packet.specs.Sealing.{padding_length, tag_size};
-
+use crate::cipher::SealingKey;
 use crate::clear;
+use rand_core::Rng;
 
 /// What a writer seals under.
 #[derive(Clone, Copy, Debug, PartialEq, Eq)]
@@ -17,21 +16,32 @@ pub enum OpenKey {
     Clear(clear::Key),
 }
 
-impl SealKey {
+impl SealingKey for SealKey {
     ghost use Rattle.ssh_packet.specs.Keys.{sealing_of};
 
-    /// How many bytes of padding stand behind a payload of so many bytes: so many that the packet is a
-    /// multiple of 8, and at least four.
-    pub fn padding_length(&self, payload: usize) -> usize
-        requires { payload ≤ 262157 }
-        ensures length { result ≡ padding_length (sealing_of self.now) payload }
-        ensures within { result ≤ 19 }
-    {
+    ghost sealing = { sealing_of };
+
+    fn padding_length(&self, payload: &[u8]) -> usize {
         match self {
-            SealKey::Clear(_) => {
-                let size = 8 - (5 + payload) % 8;
-                if size < 4 { size + 8 } else { size }
-            }
+            SealKey::Clear(key) => key.padding_length(payload),
+        }
+    }
+
+    fn fill_padding<R: Rng>(&self, rng: &mut R, padding_out: &mut [u8]) {
+        match self {
+            SealKey::Clear(key) => key.fill_padding(rng, padding_out),
+        }
+    }
+
+    fn tag_len(&self) -> usize {
+        match self {
+            SealKey::Clear(key) => SealingKey::tag_len(key),
+        }
+    }
+
+    fn seal(&mut self, seqn: u32, plaintext_in_ciphertext_out: &mut [u8], tag_out: &mut [u8]) {
+        match self {
+            SealKey::Clear(key) => key.seal(seqn, plaintext_in_ciphertext_out, tag_out),
         }
     }
 }

@@ -1,6 +1,6 @@
 //! Laws of packets and of streams of packets, for proofs above to cite.
 
-ghost use Rattle.ssh_packet.specs.Laws.{OnePacket, FrontWhole, FrontStays, OneReading, Padded};
+ghost use Rattle.ssh_packet.specs.Laws.{OnePacket, FrontWhole, FrontStays, OneReading, PlainReading, Carried, Padded};
 
 /// State, number and bytes determine a packet, whatever follows it.
 pub fn one_packet()
@@ -17,12 +17,23 @@ pub fn front_stays()
     ensures { FrontStays }
 {}
 
-/// Two readings of the same bytes are one.
+/// Two readings of the same bytes are one, whatever test says where epochs end.
 pub fn one_reading()
     ensures { OneReading }
 {}
 
-/// Padding is 4 to 19 bytes, and a whole clear packet is a multiple of 8.
+/// Where the test says of each packet what its type says, a reading is the one by types.
+pub fn plain_reading()
+    ensures { PlainReading }
+{}
+
+/// What a reader takes off a front of what was written is what was written, through the epochs whose openings agree.
+pub fn carried()
+    ensures { Carried }
+{}
+
+/// Padding is 4 to 19 bytes. With it a packet in clear is a multiple of 8 bytes, and what is encrypted of the
+/// others a multiple of 16.
 pub fn padded()
     ensures { Padded }
 {}

@@ -1,20 +1,26 @@
 //! Binary packets (RFC 4253 section 6): keys, a writer that seals, a reader that opens.
 #![tactic(auto)]
 
+pub mod block;
 pub mod buffer;
+pub mod cipher;
 pub mod clear;
+pub mod compression;
 mod error;
 mod front;
+pub mod gcm;
 mod keys;
 mod laws;
 mod reader;
+mod sealing;
 #[cfg(test)]
 mod tests;
 mod writer;
 
 pub use crate::buffer::SSHBuffer;
+pub use crate::cipher::{OpeningKey, SealingKey};
 pub use crate::error::OpenError;
 pub use crate::keys::{OpenKey, SealKey};
-pub use crate::laws::{front_stays, front_whole, one_packet, one_reading, padded};
+pub use crate::laws::{carried, front_stays, front_whole, one_packet, one_reading, padded, plain_reading};
 pub use crate::reader::{Incoming, PacketReader};
 pub use crate::writer::PacketWriter;

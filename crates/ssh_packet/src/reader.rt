@@ -1,9 +1,10 @@
 //! Opening the packets of what was received.
 
-ghost use Rattle.std.specs.Prelude.{◌≡◌, ◌+◌, ◌≤◌, ◌++◌, [], false, OnOk, OnErr, IfErr, drop, vec_len};
+ghost use Rattle.std.specs.Prelude.{◌≡◌, ◌+◌, ◌≤◌, ◌++◌, [], false, OnOk, OnErr, IfErr, length};
 ghost use Rattle.std.specs.Borrow.{sem};
 ghost use Rattle.ssh_wire.specs.declared.error.Error.TheVariants.{Memory};
 
+use crate::buffer::drop_front;
 use crate::error::OpenError;
 use crate::front::{Found, find};
 use crate::keys::OpenKey;
@@ -71,6 +72,34 @@ impl PacketReader {
         Ok(())
     }
 
+    /// How many bytes wait.
+    pub fn waiting(&self) -> usize
+        ensures { result ≡ length self.now.waiting }
+    {
+        self.bytes.len() - self.start
+    }
+
+    /// How many bytes of payload were handed out since the count began; it stands still at its end.
+    pub fn bytes(&self) -> usize
+        ensures { result ≡ self.now.count }
+    {
+        self.count
+    }
+
+    /// The count begins again.
+    pub fn reset_bytes(&mut self)
+        ensures { self.new ≡ record self.old { count = 0 } }
+    {
+        self.count = 0;
+    }
+
+    /// The next packet has the number 0, as under strict key exchange.
+    pub fn reset_seqn(&mut self)
+        ensures { self.new ≡ record self.old { number = 0 } }
+    {
+        self.number = 0;
+    }
+
     /// The next packet. None where less than a packet waits. PacketSize where the packet length is over
     /// 262177 or leaves no payload; IndexOutOfBounds where the padding is longer than the packet;
     /// Disconnect after a refusal. Padding below four bytes is accepted.
@@ -102,14 +131,4 @@ impl PacketReader {
             }
         }
     }
-}
-
-/// Drops the first n bytes.
-fn drop_front(bytes: &mut Vec<u8>, n: usize)
-    requires { n ≤ vec_len bytes.old }
-    ensures { bytes.new.items ≡ drop n bytes.old.items }
-{
-    let len = bytes.len();
-    bytes.copy_within(n..len, 0);
-    bytes.truncate(len - n);
 }

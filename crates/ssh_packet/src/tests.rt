@@ -200,5 +200,12 @@ fn refusals_of_the_transport(rt: HostRuntime) {
             Error::IndexOutOfBounds
         )
     );
+    assert!(rt; matches!(Error::from(OpenError::PacketAuth), Error::PacketAuth));
+    assert!(rt;
+        matches!(
+            Error::from(OpenError::DecryptionError),
+            Error::DecryptionError
+        )
+    );
     assert!(rt; matches!(Error::from(OpenError::Disconnect), Error::Disconnect));
 }

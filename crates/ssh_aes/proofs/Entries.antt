@@ -1,0 +1,156 @@
+-- The tables and the small products against the field, computed for all bytes.
+use Rattle.std.proofs.Common.{◌≡◌, ℕ, ◌+◌, ◌*◌, ◌-◌, ◌<◌, true, ◌&&◌, eqb, ltb, cond, refl}
+use Rattle.std.specs.Prelude.{bit_xor, slice_index}
+use Rattle.std.proofs.lemmas.Bool.{eqb-true, ltb-true}
+use Rattle.ssh_aes.specs.declared.tables.TheConstants.{SUBSTITUTION, INVERSE_SUBSTITUTION, ROUND_CONSTANTS}
+use Rattle.ssh_aes.specs.Field.{byte_product, product_modulo, polynomial_product, remainder}
+use Rattle.ssh_aes.specs.Aes.{substitute, inverse_substitute, round_constant, inverse, times_squares, combined}
+use Rattle.ssh_aes.proofs.Below.{all_below, all_below-at, and_left, and_right}
+
+-- ---- the inverse is one
+
+inverse_test : all_below 255 (λ b. eqb (byte_product (b + 1) (inverse (b + 1))) 1) ≡ true
+unfolding times_squares product_modulo polynomial_product remainder
+inverse_test = refl
+
+pub inverse_is : (b : ℕ) → b < 255 → byte_product (b + 1) (inverse (b + 1)) ≡ 1
+inverse_is b h = eqb-true _ _ (all_below-at 255 (λ b. eqb (byte_product (b + 1) (inverse (b + 1))) 1) inverse_test b h)
+
+-- ---- the tables
+
+substitution_test : all_below 256 (λ b. eqb (slice_index SUBSTITUTION b) (substitute b)) ≡ true
+unfolding substitute times_squares product_modulo polynomial_product remainder
+substitution_test = refl
+
+pub substitution_is : (b : ℕ) → b < 256 → slice_index SUBSTITUTION b ≡ substitute b
+substitution_is b h = eqb-true _ _ (all_below-at 256 (λ b. eqb (slice_index SUBSTITUTION b) (substitute b)) substitution_test b h)
+
+inverse_substitution_test : all_below 256 (λ b. eqb (slice_index INVERSE_SUBSTITUTION b) (inverse_substitute b)) ≡ true
+unfolding inverse_substitute times_squares product_modulo polynomial_product remainder
+inverse_substitution_test = refl
+
+pub inverse_substitution_is : (b : ℕ) → b < 256 → slice_index INVERSE_SUBSTITUTION b ≡ inverse_substitute b
+inverse_substitution_is b h = eqb-true _ _ (all_below-at 256 (λ b. eqb (slice_index INVERSE_SUBSTITUTION b) (inverse_substitute b)) inverse_substitution_test b h)
+
+bytes_test : all_below 256 (λ b. ltb (slice_index SUBSTITUTION b) 256) ≡ true
+bytes_test = refl
+
+pub substitution-lt : (b : ℕ) → b < 256 → slice_index SUBSTITUTION b < 256
+substitution-lt b h = ltb-true _ _ (all_below-at 256 (λ b. ltb (slice_index SUBSTITUTION b) 256) bytes_test b h)
+
+restored_test : all_below 256 (λ b. eqb (slice_index INVERSE_SUBSTITUTION (slice_index SUBSTITUTION b)) b) ≡ true
+restored_test = refl
+
+pub restored_is : (b : ℕ) → b < 256 → slice_index INVERSE_SUBSTITUTION (slice_index SUBSTITUTION b) ≡ b
+restored_is b h = eqb-true _ _ (all_below-at 256 (λ b. eqb (slice_index INVERSE_SUBSTITUTION (slice_index SUBSTITUTION b)) b) restored_test b h)
+
+constants_test : all_below 10 (λ n. eqb (slice_index ROUND_CONSTANTS n) (round_constant n)) ≡ true
+unfolding round_constant product_modulo polynomial_product remainder
+constants_test = refl
+
+pub constants_is : (n : ℕ) → n < 10 → slice_index ROUND_CONSTANTS n ≡ round_constant n
+constants_is n h = eqb-true _ _ (all_below-at 10 (λ n. eqb (slice_index ROUND_CONSTANTS n) (round_constant n)) constants_test n h)
+
+-- ---- small products
+
+doubling_test : all_below 256 (λ b. eqb (cond (ltb b 128) (2 * b) (bit_xor (2 * (b - 128)) 0x1b)) (byte_product 2 b)) ≡ true
+unfolding product_modulo polynomial_product remainder
+doubling_test = refl
+
+pub doubling_is : (b : ℕ) → b < 256 → cond (ltb b 128) (2 * b) (bit_xor (2 * (b - 128)) 0x1b) ≡ byte_product 2 b
+doubling_is b h = eqb-true _ _ (all_below-at 256 (λ b. eqb (cond (ltb b 128) (2 * b) (bit_xor (2 * (b - 128)) 0x1b)) (byte_product 2 b)) doubling_test b h)
+
+one_test : all_below 256 (λ b. eqb (byte_product 1 b) b) ≡ true
+unfolding product_modulo polynomial_product remainder
+one_test = refl
+
+pub one_is : (b : ℕ) → b < 256 → byte_product 1 b ≡ b
+one_is b h = eqb-true _ _ (all_below-at 256 (λ b. eqb (byte_product 1 b) b) one_test b h)
+
+three_test : all_below 256 (λ b. eqb (bit_xor (byte_product 2 b) b) (byte_product 3 b)) ≡ true
+unfolding product_modulo polynomial_product remainder
+three_test = refl
+
+pub three_is : (b : ℕ) → b < 256 → bit_xor (byte_product 2 b) b ≡ byte_product 3 b
+three_is b h = eqb-true _ _ (all_below-at 256 (λ b. eqb (bit_xor (byte_product 2 b) b) (byte_product 3 b)) three_test b h)
+
+abbrev pub times_four : ℕ → ℕ
+times_four b = byte_product 2 (byte_product 2 b)
+
+abbrev pub times_eight : ℕ → ℕ
+times_eight b = byte_product 2 (byte_product 2 (byte_product 2 b))
+
+nine_test : all_below 256 (λ b. eqb (bit_xor (times_eight b) b) (byte_product 9 b)) ≡ true
+unfolding product_modulo polynomial_product remainder
+nine_test = refl
+
+pub nine_is : (b : ℕ) → b < 256 → bit_xor (times_eight b) b ≡ byte_product 9 b
+nine_is b h = eqb-true _ _ (all_below-at 256 (λ b. eqb (bit_xor (times_eight b) b) (byte_product 9 b)) nine_test b h)
+
+eleven_test : all_below 256 (λ b. eqb (bit_xor (bit_xor (times_eight b) (byte_product 2 b)) b) (byte_product 11 b)) ≡ true
+unfolding product_modulo polynomial_product remainder
+eleven_test = refl
+
+pub eleven_is : (b : ℕ) → b < 256 → bit_xor (bit_xor (times_eight b) (byte_product 2 b)) b ≡ byte_product 11 b
+eleven_is b h = eqb-true _ _ (all_below-at 256 (λ b. eqb (bit_xor (bit_xor (times_eight b) (byte_product 2 b)) b) (byte_product 11 b)) eleven_test b h)
+
+thirteen_test : all_below 256 (λ b. eqb (bit_xor (bit_xor (times_eight b) (times_four b)) b) (byte_product 13 b)) ≡ true
+unfolding product_modulo polynomial_product remainder
+thirteen_test = refl
+
+pub thirteen_is : (b : ℕ) → b < 256 → bit_xor (bit_xor (times_eight b) (times_four b)) b ≡ byte_product 13 b
+thirteen_is b h = eqb-true _ _ (all_below-at 256 (λ b. eqb (bit_xor (bit_xor (times_eight b) (times_four b)) b) (byte_product 13 b)) thirteen_test b h)
+
+fourteen_test : all_below 256 (λ b. eqb (bit_xor (bit_xor (times_eight b) (times_four b)) (byte_product 2 b)) (byte_product 14 b)) ≡ true
+unfolding product_modulo polynomial_product remainder
+fourteen_test = refl
+
+pub fourteen_is : (b : ℕ) → b < 256 → bit_xor (bit_xor (times_eight b) (times_four b)) (byte_product 2 b) ≡ byte_product 14 b
+fourteen_is b h = eqb-true _ _ (all_below-at 256 (λ b. eqb (bit_xor (bit_xor (times_eight b) (times_four b)) (byte_product 2 b)) (byte_product 14 b)) fourteen_test b h)
+
+small_test : all_below 256 (λ b. ltb (byte_product 2 b) 256 && ltb (byte_product 3 b) 256) ≡ true
+unfolding product_modulo polynomial_product remainder
+small_test = refl
+
+pub small : (b : ℕ) → b < 256 → (ltb (byte_product 2 b) 256 && ltb (byte_product 3 b) 256) ≡ true
+small b h = all_below-at 256 (λ b. ltb (byte_product 2 b) 256 && ltb (byte_product 3 b) 256) small_test b h
+
+pub two-lt : (b : ℕ) → b < 256 → byte_product 2 b < 256
+two-lt b h = ltb-true _ _ (and_left _ _ (small b h))
+
+pub three-lt : (b : ℕ) → b < 256 → byte_product 3 b < 256
+three-lt b h = ltb-true _ _ (and_right _ _ (small b h))
+
+-- ---- a column of InvMixColumns and MixColumns together
+
+-- what row 14, 11, 13, 9 makes of four products of a byte
+abbrev pub crossed : (p q r s b : ℕ) → ℕ
+crossed p q r s b = combined 14 11 13 9 (byte_product p b) (byte_product q b) (byte_product r b) (byte_product s b)
+
+first_test : all_below 256 (λ b. eqb (crossed 2 1 1 3 b) b) ≡ true
+unfolding product_modulo polynomial_product remainder
+first_test = refl
+
+pub first_is : (b : ℕ) → b < 256 → crossed 2 1 1 3 b ≡ b
+first_is b h = eqb-true _ _ (all_below-at 256 (λ b. eqb (crossed 2 1 1 3 b) b) first_test b h)
+
+second_test : all_below 256 (λ b. eqb (crossed 3 2 1 1 b) 0) ≡ true
+unfolding product_modulo polynomial_product remainder
+second_test = refl
+
+pub second_is : (b : ℕ) → b < 256 → crossed 3 2 1 1 b ≡ 0
+second_is b h = eqb-true _ _ (all_below-at 256 (λ b. eqb (crossed 3 2 1 1 b) 0) second_test b h)
+
+third_test : all_below 256 (λ b. eqb (crossed 1 3 2 1 b) 0) ≡ true
+unfolding product_modulo polynomial_product remainder
+third_test = refl
+
+pub third_is : (b : ℕ) → b < 256 → crossed 1 3 2 1 b ≡ 0
+third_is b h = eqb-true _ _ (all_below-at 256 (λ b. eqb (crossed 1 3 2 1 b) 0) third_test b h)
+
+fourth_test : all_below 256 (λ b. eqb (crossed 1 1 3 2 b) 0) ≡ true
+unfolding product_modulo polynomial_product remainder
+fourth_test = refl
+
+pub fourth_is : (b : ℕ) → b < 256 → crossed 1 1 3 2 b ≡ 0
+fourth_is b h = eqb-true _ _ (all_below-at 256 (λ b. eqb (crossed 1 1 3 2 b) 0) fourth_test b h)

@@ -1,0 +1,298 @@
+-- Decryption undoes encryption, step by step.
+use Rattle.std.proofs.Common.{[], ◌∷◌, ◌++◌, ◌≡◌, ℕ, zero, suc, ◌+◌, ◌-◌, ◌*◌, ◌/◌, ◌%◌, ◌<◌, ◌≤◌, ◌⊎◌, inl, inr, Bool, true, false, cond, eqb, ◌&&◌, List, length, slice_index, arith, refl, sym, ap, ◌∙◌, subst}
+use Rattle.std.specs.Prelude.{bit_xor}
+use Rattle.std.specs.Int.Bits.{xor_zero_r}
+use Rattle.std.proofs.lemmas.Nat.{xor_comm, xor_of_8}
+use Rattle.std.proofs.lemmas.List.{get_or_past, length-append}
+use Rattle.ssh_aes.specs.Field.{byte_product}
+use Rattle.ssh_aes.specs.Aes.{listed, substitute, inverse_substitute, sub_bytes, inverse_sub_bytes, shift_rows, inverse_shift_rows, combined, mixed_column, unmixed_column, mix_columns, inverse_mix_columns, add_round_key, rounds, inverse_rounds, cipher, inverse_cipher, aes, inverse_aes, expanded_key, schedule, next_word, plus_word, word_byte, block, bytes_of, key_words, round_constant}
+use Rattle.ssh_aes.specs.declared.tables.TheConstants.{INVERSE_SUBSTITUTION}
+use Rattle.ssh_aes.specs.Laws.{IsBytes, BlocksUndone}
+use Rattle.ssh_aes.proofs.Polynomials.{xor_across, xor_cancel, product_modulo-sum}
+use Rattle.ssh_aes.proofs.Entries.{substitution_is, inverse_substitution_is, substitution-lt, restored_is, one_is, two-lt, three-lt, crossed, first_is, second_is, third_is, fourth_is}
+use Rattle.ssh_aes.proofs.Schedules.{length-listed, listed-at, listed-same, block-same}
+use Rattle.ssh_aes.proofs.Written.{sixteen-elements}
+
+le_or_gt : (n i : ℕ) → (n ≤ i) ⊎ (i < n)
+le_or_gt n i = grind arith
+
+-- 16 bytes
+pub record IsBlock (s : List ℕ) : Type 0 where
+  pub length_is : length s ≡ 16
+  pub bytes : IsBytes s
+
+pub IsBytes-listed : (n : ℕ) (f : ℕ → ℕ) → ((i : ℕ) → i < n → f i < 256) → IsBytes (listed n f)
+IsBytes-listed n f h i = elim (le_or_gt n i) [
+  | inl l ↦ let e = get_or_past (listed n f) i 0 (omega (arith, length-listed n f)) in rw e (omega arith)
+  | inr l ↦ rw (listed-at n f i l) (h i l)
+]
+
+pub IsBlock-listed : (f : ℕ → ℕ) → ((i : ℕ) → i < 16 → f i < 256) → IsBlock (listed 16 f)
+IsBlock-listed f h = record { length_is = length-listed 16 f; bytes = IsBytes-listed 16 f h }
+
+pub xor-lt : (a b : ℕ) → a < 256 → b < 256 → bit_xor a b < 256
+xor-lt a b h k = xor_of_8 a b h k
+
+-- ---- bytes
+
+pub IsBytes-nil : IsBytes []
+IsBytes-nil zero = omega arith
+IsBytes-nil (suc i) = omega arith
+
+pub IsBytes-cons : (x : ℕ) (xs : List ℕ) → x < 256 → IsBytes xs → IsBytes (x ∷ xs)
+IsBytes-cons x xs h b zero = h
+IsBytes-cons x xs h b (suc i) = b i
+
+pub IsBytes-append : (xs ys : List ℕ) → IsBytes xs → IsBytes ys → IsBytes (xs ++ ys)
+IsBytes-append [] ys a b = b
+IsBytes-append (x ∷ xs) ys a b = IsBytes-cons x (xs ++ ys) (a 0) (IsBytes-append xs ys (λ i. a (suc i)) b)
+
+IsBytes-four : (a b c d : ℕ) → a < 256 → b < 256 → c < 256 → d < 256 → IsBytes (a ∷ b ∷ c ∷ d ∷ [])
+IsBytes-four a b c d h i j k =
+    IsBytes-cons a (b ∷ c ∷ d ∷ []) h (IsBytes-cons b (c ∷ d ∷ []) i (IsBytes-cons c (d ∷ []) j (IsBytes-cons d [] k IsBytes-nil)))
+
+-- ---- each step
+
+pub add_round_key-block : (w : List ℕ) (r : ℕ) (s : List ℕ) → IsBytes w → IsBlock s → IsBlock (add_round_key w r s)
+unfolding add_round_key
+add_round_key-block w r s h b = IsBlock-listed (λ i. bit_xor (slice_index s i) (slice_index w (16 * r + i))) (λ i l. xor-lt _ _ (b.bytes i) (h (16 * r + i)))
+
+pub add_round_key-twice : (w : List ℕ) (r : ℕ) (s : List ℕ) → IsBlock s → add_round_key w r (add_round_key w r s) ≡ s
+unfolding add_round_key
+add_round_key-twice w r s b =
+    listed-same 16 _ (slice_index s) (λ i l. ap (λ x. bit_xor x (slice_index w (16 * r + i))) (listed-at 16 (λ j. bit_xor (slice_index s j) (slice_index w (16 * r + j))) i l) ∙ xor_cancel (slice_index s i) (slice_index w (16 * r + i)))
+    ∙ sixteen-elements s b.length_is
+
+pub substitute-lt : (b : ℕ) → b < 256 → substitute b < 256
+substitute-lt b h = subst (λ (x : ℕ). x < 256) (substitution_is b h) (substitution-lt b h)
+
+pub substitute-back : (b : ℕ) → b < 256 → inverse_substitute (substitute b) ≡ b
+substitute-back b h =
+    sym (inverse_substitution_is (substitute b) (substitute-lt b h))
+    ∙ ap (slice_index INVERSE_SUBSTITUTION) (sym (substitution_is b h)) ∙ restored_is b h
+
+pub sub_bytes-block : (s : List ℕ) → IsBlock s → IsBlock (sub_bytes s)
+unfolding sub_bytes
+sub_bytes-block s b = IsBlock-listed (λ i. substitute (slice_index s i)) (λ i l. substitute-lt _ (b.bytes i))
+
+pub sub_bytes-back : (s : List ℕ) → IsBlock s → inverse_sub_bytes (sub_bytes s) ≡ s
+unfolding sub_bytes inverse_sub_bytes
+sub_bytes-back s b =
+    listed-same 16 _ (slice_index s) (λ i l. ap inverse_substitute (listed-at 16 (λ j. substitute (slice_index s j)) i l) ∙ substitute-back _ (b.bytes i))
+    ∙ sixteen-elements s b.length_is
+
+pub shift_rows-block : (s : List ℕ) → IsBlock s → IsBlock (shift_rows s)
+unfolding shift_rows
+shift_rows-block s b = IsBlock-listed (λ i. slice_index s ((i + 4 * (i % 4)) % 16)) (λ i l. b.bytes _)
+
+pub shift_rows-back : (s : List ℕ) → IsBlock s → inverse_shift_rows (shift_rows s) ≡ s
+unfolding shift_rows inverse_shift_rows
+shift_rows-back s b = sixteen-elements s b.length_is
+
+-- ---- the columns
+
+turned : (j k l m a b c d : ℕ) → combined j k l m a b c d ≡ combined k l m j b c d a
+turned j k l m a b c d =
+    ap (λ x. bit_xor x (bit_xor (byte_product l c) (byte_product m d))) (xor_comm (byte_product j a) (byte_product k b))
+    ∙ xor_across (byte_product k b) (byte_product j a) (byte_product l c) (byte_product m d)
+    ∙ ap (bit_xor (bit_xor (byte_product k b) (byte_product l c))) (xor_comm (byte_product j a) (byte_product m d))
+
+spread : (j p q r s a b c d : ℕ) → byte_product j (combined p q r s a b c d) ≡ bit_xor (bit_xor (byte_product j (byte_product p a)) (byte_product j (byte_product q b))) (bit_xor (byte_product j (byte_product r c)) (byte_product j (byte_product s d)))
+spread j p q r s a b c d =
+    product_modulo-sum 8 0x11b j (bit_xor (byte_product p a) (byte_product q b)) (bit_xor (byte_product r c) (byte_product s d))
+    ∙ ap (λ x. bit_xor x (byte_product j (bit_xor (byte_product r c) (byte_product s d)))) (product_modulo-sum 8 0x11b j (byte_product p a) (byte_product q b))
+    ∙ ap (bit_xor (bit_xor (byte_product j (byte_product p a)) (byte_product j (byte_product q b)))) (product_modulo-sum 8 0x11b j (byte_product r c) (byte_product s d))
+
+four_across : (a b c d e f g h : ℕ) → bit_xor (bit_xor (bit_xor a b) (bit_xor c d)) (bit_xor (bit_xor e f) (bit_xor g h)) ≡ bit_xor (bit_xor (bit_xor a e) (bit_xor b f)) (bit_xor (bit_xor c g) (bit_xor d h))
+four_across a b c d e f g h =
+    xor_across (bit_xor a b) (bit_xor c d) (bit_xor e f) (bit_xor g h)
+    ∙ ap (λ x. bit_xor x (bit_xor (bit_xor c d) (bit_xor g h))) (xor_across a b e f)
+    ∙ ap (bit_xor (bit_xor (bit_xor a e) (bit_xor b f))) (xor_across c d g h)
+
+abbrev row0 : (a b c d : ℕ) → ℕ
+row0 a b c d = combined 2 3 1 1 a b c d
+
+abbrev row1 : (a b c d : ℕ) → ℕ
+row1 a b c d = combined 1 2 3 1 a b c d
+
+abbrev row2 : (a b c d : ℕ) → ℕ
+row2 a b c d = combined 1 1 2 3 a b c d
+
+abbrev row3 : (a b c d : ℕ) → ℕ
+row3 a b c d = combined 3 1 1 2 a b c d
+
+abbrev unmix : (j k l m a b c d : ℕ) → ℕ
+unmix j k l m a b c d = combined j k l m (row0 a b c d) (row1 a b c d) (row2 a b c d) (row3 a b c d)
+
+abbrev four : (a b c d : ℕ) → ℕ
+four a b c d = bit_xor (bit_xor a b) (bit_xor c d)
+
+transposed : (a1 b1 c1 d1 a2 b2 c2 d2 a3 b3 c3 d3 a4 b4 c4 d4 : ℕ) → four (four a1 b1 c1 d1) (four a2 b2 c2 d2) (four a3 b3 c3 d3) (four a4 b4 c4 d4) ≡ four (four a1 a2 a3 a4) (four b1 b2 b3 b4) (four c1 c2 c3 c4) (four d1 d2 d3 d4)
+transposed a1 b1 c1 d1 a2 b2 c2 d2 a3 b3 c3 d3 a4 b4 c4 d4 =
+    ap (λ x. bit_xor x (bit_xor (four a3 b3 c3 d3) (four a4 b4 c4 d4))) (four_across a1 b1 c1 d1 a2 b2 c2 d2)
+    ∙ ap (bit_xor (four (bit_xor a1 a2) (bit_xor b1 b2) (bit_xor c1 c2) (bit_xor d1 d2))) (four_across a3 b3 c3 d3 a4 b4 c4 d4)
+    ∙ four_across (bit_xor a1 a2) (bit_xor b1 b2) (bit_xor c1 c2) (bit_xor d1 d2) (bit_xor a3 a4) (bit_xor b3 b4) (bit_xor c3 c4) (bit_xor d3 d4)
+
+gathered : (a b c d : ℕ) → unmix 14 11 13 9 a b c d ≡ four (crossed 2 1 1 3 a) (crossed 3 2 1 1 b) (crossed 1 3 2 1 c) (crossed 1 1 3 2 d)
+gathered a b c d =
+    let P : ℕ → ℕ → ℕ = byte_product in
+    rw (spread 14 2 3 1 1 a b c d, spread 11 1 2 3 1 a b c d, spread 13 1 1 2 3 a b c d, spread 9 3 1 1 2 a b c d)
+    (transposed (P 14 (P 2 a)) (P 14 (P 3 b)) (P 14 (P 1 c)) (P 14 (P 1 d)) (P 11 (P 1 a)) (P 11 (P 2 b)) (P 11 (P 3 c)) (P 11 (P 1 d)) (P 13 (P 1 a)) (P 13 (P 1 b)) (P 13 (P 2 c)) (P 13 (P 3 d)) (P 9 (P 3 a)) (P 9 (P 1 b)) (P 9 (P 1 c)) (P 9 (P 2 d)))
+
+first : (a b c d : ℕ) → a < 256 → b < 256 → c < 256 → d < 256 → unmix 14 11 13 9 a b c d ≡ a
+first a b c d h i j k =
+    let z : bit_xor (bit_xor a 0) (bit_xor 0 0) ≡ a = xor_zero_r (bit_xor a 0) ∙ xor_zero_r a in
+    rw (gathered a b c d, first_is a h, second_is b i, third_is c j, fourth_is d k) z
+
+-- a column and the rows, turned by one
+turn : (j k l m a b c d : ℕ) → unmix j k l m a b c d ≡ unmix k l m j b c d a
+turn j k l m a b c d =
+    turned j k l m (row0 a b c d) (row1 a b c d) (row2 a b c d) (row3 a b c d)
+    ∙ ap (λ x. combined k l m j x (row2 a b c d) (row3 a b c d) (row0 a b c d)) (turned 1 2 3 1 a b c d)
+    ∙ ap (λ x. combined k l m j (row0 b c d a) x (row3 a b c d) (row0 a b c d)) (turned 1 1 2 3 a b c d)
+    ∙ ap (λ x. combined k l m j (row0 b c d a) (row1 b c d a) x (row0 a b c d)) (turned 3 1 1 2 a b c d)
+    ∙ ap (λ x. combined k l m j (row0 b c d a) (row1 b c d a) (row2 b c d a) x) (turned 2 3 1 1 a b c d)
+
+second : (a b c d : ℕ) → a < 256 → b < 256 → c < 256 → d < 256 → unmix 9 14 11 13 a b c d ≡ b
+second a b c d h i j k = turn 9 14 11 13 a b c d ∙ first b c d a i j k h
+
+third : (a b c d : ℕ) → a < 256 → b < 256 → c < 256 → d < 256 → unmix 13 9 14 11 a b c d ≡ c
+third a b c d h i j k = turn 13 9 14 11 a b c d ∙ second b c d a i j k h
+
+fourth : (a b c d : ℕ) → a < 256 → b < 256 → c < 256 → d < 256 → unmix 11 13 9 14 a b c d ≡ d
+fourth a b c d h i j k = turn 11 13 9 14 a b c d ∙ third b c d a i j k h
+
+column-back : (a b c d : ℕ) → a < 256 → b < 256 → c < 256 → d < 256 → unmixed_column (row0 a b c d) (row1 a b c d) (row2 a b c d) (row3 a b c d) ≡ a ∷ b ∷ c ∷ d ∷ []
+unfolding unmixed_column
+column-back a b c d h i j k = rw (first a b c d h i j k, second a b c d h i j k, third a b c d h i j k, fourth a b c d h i j k) refl
+
+pub mix_columns-back : (s : List ℕ) → IsBlock s → inverse_mix_columns (mix_columns s) ≡ s
+unfolding mix_columns inverse_mix_columns mixed_column
+mix_columns-back s b =
+    let p = column-back (slice_index s 0) (slice_index s 1) (slice_index s 2) (slice_index s 3) (b.bytes 0) (b.bytes 1) (b.bytes 2) (b.bytes 3) in
+    let q = column-back (slice_index s 4) (slice_index s 5) (slice_index s 6) (slice_index s 7) (b.bytes 4) (b.bytes 5) (b.bytes 6) (b.bytes 7) in
+    let r = column-back (slice_index s 8) (slice_index s 9) (slice_index s 10) (slice_index s 11) (b.bytes 8) (b.bytes 9) (b.bytes 10) (b.bytes 11) in
+    let t = column-back (slice_index s 12) (slice_index s 13) (slice_index s 14) (slice_index s 15) (b.bytes 12) (b.bytes 13) (b.bytes 14) (b.bytes 15) in
+    rw (p, q, r, t) (sixteen-elements s b.length_is)
+
+combined-lt : (j k l m a b c d : ℕ) → byte_product j a < 256 → byte_product k b < 256 → byte_product l c < 256 → byte_product m d < 256 → combined j k l m a b c d < 256
+combined-lt j k l m a b c d p q r s = xor-lt _ _ (xor-lt _ _ p q) (xor-lt _ _ r s)
+
+one-lt : (b : ℕ) → b < 256 → byte_product 1 b < 256
+one-lt b h = subst (λ (x : ℕ). x < 256) (sym (one_is b h)) h
+
+mixed_column-bytes : (a b c d : ℕ) → a < 256 → b < 256 → c < 256 → d < 256 → IsBytes (mixed_column a b c d)
+unfolding mixed_column
+mixed_column-bytes a b c d h i j k =
+    IsBytes-four _ _ _ _
+    (combined-lt 2 3 1 1 a b c d (two-lt a h) (three-lt b i) (one-lt c j) (one-lt d k))
+    (combined-lt 1 2 3 1 a b c d (one-lt a h) (two-lt b i) (three-lt c j) (one-lt d k))
+    (combined-lt 1 1 2 3 a b c d (one-lt a h) (one-lt b i) (two-lt c j) (three-lt d k))
+    (combined-lt 3 1 1 2 a b c d (three-lt a h) (one-lt b i) (one-lt c j) (two-lt d k))
+
+length-mixed_column : (a b c d : ℕ) → length (mixed_column a b c d) ≡ 4
+unfolding mixed_column
+length-mixed_column a b c d = refl
+
+pub mix_columns-block : (s : List ℕ) → IsBlock s → IsBlock (mix_columns s)
+unfolding mix_columns
+mix_columns-block s b =
+    let column : (i : ℕ) → IsBytes (mixed_column (slice_index s i) (slice_index s (i + 1)) (slice_index s (i + 2)) (slice_index s (i + 3))) = λ i. mixed_column-bytes _ _ _ _ (b.bytes i) (b.bytes (i + 1)) (b.bytes (i + 2)) (b.bytes (i + 3)) in
+    record {
+      length_is = simp (length-append, length-mixed_column) refl;
+      bytes = IsBytes-append _ _ (IsBytes-append _ _ (IsBytes-append _ _ (column 0) (column 4)) (column 8)) (column 12);
+    }
+
+-- ---- the schedule
+
+cond-has : (P : List ℕ → Type 0) (t : Bool) (x y : List ℕ) → P x → P y → P (cond t x y)
+cond-has P true x y p q = p
+cond-has P false x y p q = q
+
+round_constant-lt : (n : ℕ) → round_constant n < 256
+unfolding round_constant
+round_constant-lt zero = omega arith
+round_constant-lt (suc n) = two-lt (round_constant n) (round_constant-lt n)
+
+plus_word-bytes : (w : List ℕ) (i a b c d : ℕ) → IsBytes w → a < 256 → b < 256 → c < 256 → d < 256 → IsBytes (plus_word w i a b c d)
+plus_word-bytes w i a b c d x h j k l =
+    let t = λ (n : ℕ). word_byte w i n in
+    IsBytes-four (bit_xor (t 0) a) (bit_xor (t 1) b) (bit_xor (t 2) c) (bit_xor (t 3) d) (xor-lt (t 0) a (x (4 * i + 0)) h) (xor-lt (t 1) b (x (4 * i + 1)) j) (xor-lt (t 2) c (x (4 * i + 2)) k) (xor-lt (t 3) d (x (4 * i + 3)) l)
+
+next_word-bytes : (n : ℕ) (w : List ℕ) (i : ℕ) → IsBytes w → IsBytes (next_word n w i)
+unfolding next_word
+next_word-bytes n w i x =
+    let t = λ (j : ℕ). word_byte w (i - 1) j in
+    let u = λ (j : ℕ). substitute (word_byte w (i - 1) j) in
+    let h : (j : ℕ) → t j < 256 = λ j. x (4 * (i - 1) + j) in
+    let k : (j : ℕ) → u j < 256 = λ j. substitute-lt (t j) (h j) in
+    let r = round_constant (i / n - 1) in
+    let a = plus_word w (i - n) (bit_xor (u 1) r) (u 2) (u 3) (u 0) in
+    let b = plus_word w (i - n) (u 0) (u 1) (u 2) (u 3) in
+    let c = plus_word w (i - n) (t 0) (t 1) (t 2) (t 3) in
+    cond-has IsBytes (eqb (i % n) 0) a (cond (eqb n 8 && eqb (i % 8) 4) b c)
+    (plus_word-bytes w (i - n) (bit_xor (u 1) r) (u 2) (u 3) (u 0) x (xor-lt (u 1) r (k 1) (round_constant-lt (i / n - 1))) (k 2) (k 3) (k 0))
+    (cond-has IsBytes (eqb n 8 && eqb (i % 8) 4) b c
+    (plus_word-bytes w (i - n) (u 0) (u 1) (u 2) (u 3) x (k 0) (k 1) (k 2) (k 3))
+    (plus_word-bytes w (i - n) (t 0) (t 1) (t 2) (t 3) x (h 0) (h 1) (h 2) (h 3)))
+
+pub bytes_of-bytes : (n : ℕ) (s : List ℕ) → IsBytes (bytes_of n s)
+bytes_of-bytes n s = IsBytes-listed n (λ i. slice_index s i % 256) (λ i l. omega arith)
+
+pub schedule-bytes : (n : ℕ) (key : List ℕ) (k : ℕ) → IsBytes (schedule n key k)
+unfolding schedule
+schedule-bytes n key zero = bytes_of-bytes (4 * n) key
+schedule-bytes n key (suc k) = IsBytes-append (schedule n key k) (next_word n (schedule n key k) (n + k)) (schedule-bytes n key k) (next_word-bytes n (schedule n key k) (n + k) (schedule-bytes n key k))
+
+pub expanded_key-bytes : (key : List ℕ) → IsBytes (expanded_key key)
+unfolding expanded_key
+expanded_key-bytes key = schedule-bytes (key_words key) key (3 * key_words key + 28)
+
+-- ---- all rounds
+
+pub block-block : (s : List ℕ) → IsBlock (block s)
+block-block s = record { length_is = length-listed 16 (λ i. slice_index s i % 256); bytes = bytes_of-bytes 16 s }
+
+rounds-block : (w : List ℕ) (k : ℕ) (s : List ℕ) → IsBytes w → IsBlock s → IsBlock (rounds w k s)
+unfolding rounds
+rounds-block w zero s h b = add_round_key-block w 0 s h b
+rounds-block w (suc k) s h b = add_round_key-block w (suc k) _ h (mix_columns-block _ (shift_rows-block _ (sub_bytes-block _ (rounds-block w k s h b))))
+
+-- the state behind ShiftRows of the round after k whole ones
+abbrev shifted : List ℕ → ℕ → List ℕ → List ℕ
+shifted w k s = shift_rows (sub_bytes (rounds w k s))
+
+shifted-block : (w : List ℕ) (k : ℕ) (s : List ℕ) → IsBytes w → IsBlock s → IsBlock (shifted w k s)
+shifted-block w k s h b = shift_rows-block _ (sub_bytes-block _ (rounds-block w k s h b))
+
+shifted-back : (w : List ℕ) (k : ℕ) (s : List ℕ) → IsBytes w → IsBlock s → inverse_sub_bytes (inverse_shift_rows (shifted w k s)) ≡ rounds w k s
+shifted-back w k s h b =
+    ap inverse_sub_bytes (shift_rows-back (sub_bytes (rounds w k s)) (sub_bytes-block _ (rounds-block w k s h b)))
+    ∙ sub_bytes-back (rounds w k s) (rounds-block w k s h b)
+
+rounds-back : (w : List ℕ) (k : ℕ) (s : List ℕ) → IsBytes w → IsBlock s → inverse_rounds w k (shifted w k s) ≡ s
+unfolding inverse_rounds rounds
+rounds-back w zero s h b = ap (add_round_key w 0) (shifted-back w zero s h b) ∙ add_round_key-twice w 0 s b
+rounds-back w (suc k) s h b =
+    ap (λ x. inverse_rounds w k (inverse_mix_columns (add_round_key w (suc k) x))) (shifted-back w (suc k) s h b)
+    ∙ ap (λ x. inverse_rounds w k (inverse_mix_columns x)) (add_round_key-twice w (suc k) (mix_columns (shifted w k s)) (mix_columns-block _ (shifted-block w k s h b)))
+    ∙ ap (inverse_rounds w k) (mix_columns-back (shifted w k s) (shifted-block w k s h b))
+    ∙ rounds-back w k s h b
+
+pub aes-block : (key s : List ℕ) → IsBlock (aes key s)
+unfolding aes cipher
+aes-block key s = add_round_key-block (expanded_key key) _ _ (expanded_key-bytes key) (shifted-block (expanded_key key) (key_words key + 5) (block s) (expanded_key-bytes key) (block-block s))
+
+cipher-back : (w : List ℕ) (k : ℕ) (s : List ℕ) → IsBytes w → IsBlock s → inverse_cipher w k (cipher w k s) ≡ s
+unfolding inverse_cipher cipher
+cipher-back w k s h b = ap (inverse_rounds w k) (add_round_key-twice w (k + 1) (shifted w k s) (shifted-block w k s h b)) ∙ rounds-back w k s h b
+
+pub aes-back : (key s : List ℕ) → inverse_aes key (aes key s) ≡ block s
+unfolding inverse_aes aes
+aes-back key s =
+    let c = aes-block key s in
+    ap (inverse_cipher (expanded_key key) (key_words key + 5)) (block-same (aes key s) c.length_is c.bytes)
+    ∙ cipher-back (expanded_key key) (key_words key + 5) (block s) (expanded_key-bytes key) (block-block s)
+
+pub blocks_undone : BlocksUndone
+blocks_undone key s h l = aes-back key s ∙ block-same s l h

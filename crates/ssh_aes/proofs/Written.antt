@@ -1,0 +1,47 @@
+-- Loops that write one element after another.
+use Rattle.std.proofs.Common.{[], ◌∷◌, ◌++◌, sym, ap, ◌≡◌, ◌≢◌, ℕ, ◌+◌, ◌<◌, ◌≤◌, List, length, set, slice_index, arith, refl, below_more, get_or-set_same, get_or-set_other, ◌∙◌}
+use Rattle.std.proofs.Math.ListN.{length-set}
+use Rattle.std.proofs.lemmas.List.FromFn.{fill_by_all}
+use Rattle.ssh_aes.specs.Aes.{listed}
+
+-- up to i the list has been written by f, and from i on it is the old one
+pub record IsWritten (f : ℕ → ℕ) (now old : List ℕ) (i : ℕ) : Type 0 where
+  pub done : (k : ℕ) → k < i → slice_index now k ≡ f k
+  pub rest : (k : ℕ) → i ≤ k → slice_index now k ≡ slice_index old k
+  pub same_length : length now ≡ length old
+
+pub IsWritten-none : (f : ℕ → ℕ) (old : List ℕ) → IsWritten f old old 0
+IsWritten-none f old = record { done = λ k h. absurd (omega arith); rest = λ k h. refl; same_length = refl }
+
+pub IsWritten-more : (f : ℕ → ℕ) (now old : List ℕ) (i v : ℕ) → i < length old → v ≡ f i → IsWritten f now old i → IsWritten f (set now i v) old (i + 1)
+IsWritten-more f now old i v h e w =
+    let l : i < length now = rw w.same_length h in
+    record {
+      done = below_more _ _ (λ k l. let ne : k ≢ i = omega arith in rw get_or-set_other (w.done k l)) (rw get_or-set_same e);
+      rest = λ k l. let ne : k ≢ i = omega arith in rw get_or-set_other (w.rest k (omega arith));
+      same_length = rw length-set w.same_length;
+    }
+
+pub IsWritten-all : (f : ℕ → ℕ) (now old : List ℕ) (n : ℕ) → length old ≡ n → IsWritten f now old n → now ≡ listed n f
+IsWritten-all f now old n e w = fill_by_all f now n 0 (w.same_length ∙ e) w.done
+
+-- a list written out, by its elements
+pub four-elements : (s : List ℕ) → length s ≡ 4 → slice_index s 0 ∷ slice_index s 1 ∷ slice_index s 2 ∷ slice_index s 3 ∷ [] ≡ s
+four-elements s h = sym (fill_by_all (slice_index s) s 4 0 h (λ k l. refl))
+
+pub sixteen-elements : (s : List ℕ) → length s ≡ 16 → listed 16 (slice_index s) ≡ s
+sixteen-elements s h = sym (fill_by_all (slice_index s) s 16 0 h (λ k l. refl))
+
+pub four-fours : (p q r s : List ℕ) → length p ≡ 4 → length q ≡ 4 → length r ≡ 4 → length s ≡ 4
+    → slice_index p 0 ∷ slice_index p 1 ∷ slice_index p 2 ∷ slice_index p 3 ∷ slice_index q 0 ∷ slice_index q 1 ∷ slice_index q 2 ∷ slice_index q 3
+    ∷ slice_index r 0 ∷ slice_index r 1 ∷ slice_index r 2 ∷ slice_index r 3 ∷ slice_index s 0 ∷ slice_index s 1 ∷ slice_index s 2 ∷ slice_index s 3 ∷ [] ≡ p ++ q ++ r ++ s
+four-fours p q r s hp hq hr hs =
+    ap (λ x. x ++ (slice_index q 0 ∷ slice_index q 1 ∷ slice_index q 2 ∷ slice_index q 3 ∷ []) ++ (slice_index r 0 ∷ slice_index r 1 ∷ slice_index r 2 ∷ slice_index r 3 ∷ []) ++ (slice_index s 0 ∷ slice_index s 1 ∷ slice_index s 2 ∷ slice_index s 3 ∷ [])) (four-elements p hp)
+    ∙ ap (λ x. p ++ x ++ (slice_index r 0 ∷ slice_index r 1 ∷ slice_index r 2 ∷ slice_index r 3 ∷ []) ++ (slice_index s 0 ∷ slice_index s 1 ∷ slice_index s 2 ∷ slice_index s 3 ∷ [])) (four-elements q hq)
+    ∙ ap (λ x. p ++ q ++ x ++ (slice_index s 0 ∷ slice_index s 1 ∷ slice_index s 2 ∷ slice_index s 3 ∷ [])) (four-elements r hr)
+    ∙ ap (λ x. p ++ q ++ r ++ x) (four-elements s hs)
+
+pub two-eights : (p q : List ℕ) → length p ≡ 8 → length q ≡ 8 → listed 8 (slice_index p) ++ listed 8 (slice_index q) ≡ p ++ q
+two-eights p q hp hq =
+    ap (λ x. x ++ listed 8 (slice_index q)) (sym (fill_by_all (slice_index p) p 8 0 hp (λ k l. refl)))
+    ∙ ap (λ x. p ++ x) (sym (fill_by_all (slice_index q) q 8 0 hq (λ k l. refl)))

@@ -1,0 +1,15 @@
+use Rattle.std.proofs.Common.{arith}
+use Rattle.ssh_aes.proofs.Entries.{nine_is, eleven_is, thirteen_is, fourteen_is}
+use Rattle.ssh_aes.proofs.steps.products_of.Goals as goal
+
+pub returns-clause-nine : goal.returns-clause-nine
+returns-clause-nine c = rw (c.doubled-eight.ensures, c.doubled-four.ensures, c.doubled-two.ensures) (nine_is c.args.byte (omega arith))
+
+pub returns-clause-eleven : goal.returns-clause-eleven
+returns-clause-eleven c = rw (c.doubled-eight.ensures, c.doubled-four.ensures, c.doubled-two.ensures) (eleven_is c.args.byte (omega arith))
+
+pub returns-clause-thirteen : goal.returns-clause-thirteen
+returns-clause-thirteen c = rw (c.doubled-eight.ensures, c.doubled-four.ensures, c.doubled-two.ensures) (thirteen_is c.args.byte (omega arith))
+
+pub returns-clause-fourteen : goal.returns-clause-fourteen
+returns-clause-fourteen c = rw (c.doubled-eight.ensures, c.doubled-four.ensures, c.doubled-two.ensures) (fourteen_is c.args.byte (omega arith))

@@ -1,0 +1,42 @@
+-- What is true of the block cipher and of its modes.
+use Rattle.std.specs.Prelude.{◌≡◌, ℕ, ◌<◌, ◌≤◌, List, ◌++◌, length, take, slice_index}
+use Rattle.ssh_aes.specs.Aes.{aes, inverse_aes}
+use Rattle.ssh_aes.specs.Modes.{Running, masked, unmasked, moved, passed, least}
+use Rattle.ssh_aes.specs.Gcm.{gcm_text, gcm_tag, gcm_plain}
+
+-- each element is a byte
+abbrev pub IsBytes : List ℕ → Type 0
+IsBytes bytes = (i : ℕ) → slice_index bytes i < 256
+
+-- decryption undoes encryption, under every key
+abbrev pub BlocksUndone : Type 0
+BlocksUndone = (key s : List ℕ) → IsBytes s → length s ≡ 16 → inverse_aes key (aes key s) ≡ s
+
+-- masking keeps the length, tells texts apart, and shows the first four bytes at the front
+pub record RunsWell (r : Running) : Type 0 where
+  pub same_length : (t : List ℕ) → length (masked r t) ≡ length t
+  pub injective : (s t : List ℕ) → IsBytes s → IsBytes t → length s ≡ length t → masked r s ≡ masked r t → s ≡ t
+  pub front : (s t x y : List ℕ) → IsBytes s → IsBytes t → least r ≤ length s → least r ≤ length t → masked r s ++ x ≡ masked r t ++ y → take 4 s ≡ take 4 t
+
+-- opening undoes masking and leaves the same state, and the first block gives the first four bytes
+pub record OpensWell (r : Running) : Type 0 where
+  pub opens : (t : List ℕ) → IsBytes t → unmasked r (masked r t) ≡ t
+  pub leaves : (t : List ℕ) → passed r (masked r t) ≡ moved r t
+  pub early : (t x : List ℕ) → IsBytes t → least r ≤ length t → 16 ≤ length (masked r t ++ x) → take 4 (unmasked r (take 16 (masked r t ++ x))) ≡ take 4 t
+
+-- sealing keeps the length, tells texts apart and makes a tag of 16 bytes, and opening undoes it
+pub record GcmWell (key nonce : List ℕ) : Type 0 where
+  pub same_length : (aad t : List ℕ) → length (gcm_text key nonce aad t) ≡ length t
+  pub injective : (aad s t : List ℕ) → IsBytes s → IsBytes t → length s ≡ length t → gcm_text key nonce aad s ≡ gcm_text key nonce aad t → s ≡ t
+  pub tag : (aad t : List ℕ) → length (gcm_tag key nonce aad t) ≡ 16
+  pub opens : (aad t : List ℕ) → IsBytes t → gcm_plain key nonce aad (gcm_text key nonce aad t) ≡ t
+
+-- two ciphers at equal states: one decrypts what the other encrypts, whatever the length, and they
+-- are at equal states again
+pub record IsUndone {S : Type 0} (running : S → Running) (s t : S) (text : List ℕ) : Type 0 where
+  pub text_is : unmasked (running t) (masked (running s) text) ≡ text
+  pub state_is : passed (running t) (masked (running s) text) ≡ moved (running s) text
+
+-- so do all ciphers of a type
+abbrev pub StreamsUndone : {S : Type 0} → (S → Running) → Type 0
+StreamsUndone {S} running = (s t : S) (text : List ℕ) → running s ≡ running t → IsBytes text → IsUndone running s t text

@@ -1,0 +1,105 @@
+//! Counter mode (SP 800-38A section 6.5).
+
+ghost use Rattle.std.specs.Prelude.{◌≡◌, ◌≢◌, ◌+◌, ◌/◌, ◌%◌, ◌^◌, length};
+ghost use Rattle.ssh_aes.specs.Keys.{IsKeyLength};
+ghost use Rattle.ssh_aes.specs.Modes.{stream_block, counted};
+ghost use Rattle.ssh_aes.specs.States.{counting};
+
+use crate::aes::Aes;
+use crate::runs::{BlockStreamCipher, PacketLengthProbe};
+use std::marker::Model;
+
+/// AES in counter mode, which runs on byte by byte. The place counts bytes, modulo 2^64 on purpose.
+#[derive(Clone, Drop)]
+pub struct CtrWrapper {
+    aes: Aes,
+    iv: [u8; 16],
+    place: u64,
+}
+
+impl Model for CtrWrapper {
+    ghost use Rattle.ssh_aes.specs.States.{CtrState};
+
+    ghost Value = { CtrState };
+
+    ghost view = { λ c. record { key = c.aes; iv = c.iv; place = c.place } };
+}
+
+impl CtrWrapper {
+    /// Takes a key of 16, 24 or 32 bytes and the first counter block.
+    pub fn new(key: &[u8], iv: &[u8; 16]) -> CtrWrapper
+        requires { IsKeyLength (length key.now) }
+        ensures key { result.key ≡ key.now }
+        ensures iv { result.iv ≡ iv.now }
+        ensures place { result.place ≡ 0 }
+    {
+        CtrWrapper {
+            aes: Aes::new(key),
+            iv: *iv,
+            place: 0,
+        }
+    }
+
+    /// The block of the key stream that has the byte at a place.
+    fn stream_at(&self, place: u64) -> [u8; 16]
+        ensures { result ≡ stream_block self.now.key self.now.iv (place / 16) }
+    {
+        let counter = u128::from_be_bytes(self.iv).wrapping_add(u128::from(place / 16));
+        let mut block = counter.to_be_bytes();
+        self.aes.encrypt_block(&mut block);
+        block
+    }
+
+    /// The same, with the block of the place before at hand, which serves unless a block begins.
+    fn stream_from(&self, place: u64, before: [u8; 16]) -> [u8; 16]
+        requires { place % 16 ≢ 0 → before ≡ stream_block self.now.key self.now.iv (place / 16) }
+        ensures { result ≡ stream_block self.now.key self.now.iv (place / 16) }
+    {
+        if place % 16 == 0 {
+            self.stream_at(place)
+        } else {
+            before
+        }
+    }
+
+    /// Combines bytes with the key stream from the place on.
+    fn mask(&self, bytes: &mut [u8])
+        ensures { bytes.new ≡ counted self.now.key self.now.iv self.now.place bytes.old }
+    {
+        let mut block = self.stream_at(self.place);
+        for i in 0..bytes.len() {
+            let place = self.place.wrapping_add(i as u64);
+            block = self.stream_from(place, block);
+            bytes[i] ^= block[(place % 16) as usize];
+        }
+    }
+
+    /// Moves the place on.
+    fn pass(&mut self, count: usize)
+        ensures key { self.new.key ≡ self.old.key }
+        ensures iv { self.new.iv ≡ self.old.iv }
+        ensures place { self.new.place ≡ (self.old.place + count) % 2 ^ 64 }
+    {
+        self.place = self.place.wrapping_add(count as u64);
+    }
+}
+
+impl BlockStreamCipher for CtrWrapper {
+    ghost running = { counting };
+
+    fn encrypt_data(&mut self, bytes: &mut [u8]) {
+        self.mask(bytes);
+        self.pass(bytes.len());
+    }
+
+    fn decrypt_data(&mut self, bytes: &mut [u8]) {
+        self.mask(bytes);
+        self.pass(bytes.len());
+    }
+}
+
+impl PacketLengthProbe for CtrWrapper {
+    fn decrypt_packet_length_block(&self, first_block: &mut [u8; 16]) {
+        self.mask(first_block);
+    }
+}

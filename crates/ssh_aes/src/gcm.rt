@@ -1,0 +1,120 @@
+//! Galois counter mode (SP 800-38D), with a nonce of 12 bytes and a tag of 16.
+
+ghost use Rattle.std.specs.Prelude.{◌≡◌, ◌≢◌, ◌↔◌, ◌<◌, ◌^◌, ◌+◌, ◌/◌, ◌%◌, ◌⊎◌, IsTrue, MatchBool, length};
+ghost use Rattle.ssh_aes.specs.Gcm.{nonce_stream, gcm_counted, gcm_text, gcm_plain, gcm_tag, cipher_tag};
+
+use crate::aes::Aes;
+use crate::blocks::add_block;
+use crate::hash::{absorbed, from_block, lengths, product, to_block};
+use std::marker::Model;
+
+/// AES in Galois counter mode under one key. A contract sees the key.
+#[derive(Clone, Drop)]
+pub struct Gcm {
+    aes: Aes,
+    subkey: u128,
+}
+
+impl Model for Gcm {
+    ghost use Rattle.std.specs.Prelude.{◌≡◌, ℕ, List};
+    ghost use Rattle.ssh_aes.specs.Gcm.{hash_key};
+
+    ghost Value = { List ℕ };
+
+    ghost view = { λ g. g.aes };
+
+    ghost invariant = { λ g. g.subkey ≡ hash_key g.aes };
+}
+
+impl Gcm {
+    /// Takes a key of 16 or 32 bytes.
+    pub fn new(key: &[u8]) -> Gcm
+        requires { (length key.now ≡ 16) ⊎ (length key.now ≡ 32) }
+        ensures { result ≡ key.now }
+    {
+        let aes = Aes::new(key);
+        let mut zeros = [0; 16];
+        aes.encrypt_block(&mut zeros);
+        let subkey = from_block(zeros);
+        Gcm { aes, subkey }
+    }
+
+    /// Encrypts in place, and writes the tag of the text and the additional text.
+    pub fn seal(&self, nonce: &[u8; 12], aad: &[u8], bytes: &mut [u8], tag_out: &mut [u8; 16])
+        requires aad { length aad.now < 2 ^ 32 }
+        requires bytes { length bytes.old < 2 ^ 32 }
+        ensures text { bytes.new ≡ gcm_text self.now nonce.now aad.now bytes.old }
+        ensures tag { tag_out.new ≡ gcm_tag self.now nonce.now aad.now bytes.old }
+    {
+        self.mask(nonce, bytes);
+        *tag_out = self.tag_of(nonce, aad, bytes);
+    }
+
+    /// Whether the tag is right, with the text then decrypted. Otherwise it stays as it is.
+    pub fn open(&self, nonce: &[u8; 12], aad: &[u8], bytes: &mut [u8], tag: &[u8; 16]) -> bool
+        requires aad { length aad.now < 2 ^ 32 }
+        requires bytes { length bytes.old < 2 ^ 32 }
+        ensures right { IsTrue result ↔ tag.now ≡ cipher_tag self.now nonce.now aad.now bytes.old }
+        ensures text { MatchBool
+            result
+            (bytes.new ≡ gcm_plain self.now nonce.now aad.now bytes.old)
+            (bytes.new ≡ bytes.old) }
+    {
+        if self.tag_of(nonce, aad, bytes) != *tag {
+            return false;
+        }
+        self.mask(nonce, bytes);
+        true
+    }
+
+    /// The encryption of a counter block.
+    fn stream(&self, nonce: &[u8; 12], number: u32) -> [u8; 16]
+        ensures { result ≡ nonce_stream self.now nonce.now number }
+    {
+        let n = number.to_be_bytes();
+        let mut counter = [
+            nonce[0], nonce[1], nonce[2], nonce[3], nonce[4], nonce[5], nonce[6], nonce[7],
+            nonce[8], nonce[9], nonce[10], nonce[11], n[0], n[1], n[2], n[3],
+        ];
+        self.aes.encrypt_block(&mut counter);
+        counter
+    }
+
+    /// The stream's block at a byte of the text, with the one of the byte before at hand.
+    fn stream_from(&self, nonce: &[u8; 12], at: usize, before: [u8; 16]) -> [u8; 16]
+        requires at { at < 2 ^ 32 }
+        requires before { at % 16 ≢ 0 → before ≡ nonce_stream self.now nonce.now (at / 16 + 2) }
+        ensures { result ≡ nonce_stream self.now nonce.now (at / 16 + 2) }
+    {
+        if at % 16 == 0 {
+            self.stream(nonce, (at / 16) as u32 + 2)
+        } else {
+            before
+        }
+    }
+
+    /// Combines a text with the key stream.
+    fn mask(&self, nonce: &[u8; 12], bytes: &mut [u8])
+        requires { length bytes.old < 2 ^ 32 }
+        ensures { bytes.new ≡ gcm_counted self.now nonce.now bytes.old }
+    {
+        let mut block = [0; 16];
+        for i in 0..bytes.len() {
+            block = self.stream_from(nonce, i, block);
+            bytes[i] ^= block[i % 16];
+        }
+    }
+
+    /// The tag of a cipher text.
+    fn tag_of(&self, nonce: &[u8; 12], aad: &[u8], bytes: &[u8]) -> [u8; 16]
+        requires aad { length aad.now < 2 ^ 32 }
+        requires bytes { length bytes.now < 2 ^ 32 }
+        ensures { result ≡ cipher_tag self.now nonce.now aad.now bytes.now }
+    {
+        let front = absorbed(self.subkey, absorbed(self.subkey, 0, aad), bytes);
+        let last = from_block(lengths(aad.len(), bytes.len()));
+        let mut tag = to_block(product(front ^ last, self.subkey));
+        add_block(&mut tag, &self.stream(nonce, 1));
+        tag
+    }
+}

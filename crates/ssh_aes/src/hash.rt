@@ -1,0 +1,100 @@
+//! The hash of Galois counter mode (SP 800-38D sections 6.3 and 6.4). A block is held as a
+//! polynomial: bit i is the coefficient of x^i.
+
+ghost use Rattle.std.specs.Prelude.{◌≡◌, ◌<◌, ◌^◌, ◌+◌, ◌*◌, ℕ, length, take, drop, bit_xor, slice_index};
+ghost use Rattle.std.specs.Int.{bit_at};
+ghost use Rattle.ssh_aes.specs.Field.{times_x, block_modulus, block_product};
+ghost use Rattle.ssh_aes.specs.Aes.{listed};
+ghost use Rattle.ssh_aes.specs.Gcm.{element, element_block, hashed, padded_blocks, length_block};
+
+/// The polynomial of a block, whose first bit is the coefficient of x^0.
+pub(crate) fn from_block(bytes: [u8; 16]) -> u128
+    ensures { result ≡ element bytes }
+{
+    u128::from_be_bytes(bytes).reverse_bits()
+}
+
+/// The block of a polynomial.
+pub(crate) fn to_block(polynomial: u128) -> [u8; 16]
+    ensures { result ≡ element_block polynomial }
+{
+    polynomial.reverse_bits().to_be_bytes()
+}
+
+/// The product with x.
+fn raised(term: u128) -> u128
+    ensures { result ≡ times_x 128 block_modulus term }
+{
+    if term < 1 << 127 {
+        2 * term
+    } else {
+        (2 * (term - (1 << 127))) ^ 0x87
+    }
+}
+
+/// The sum with a term, if the lowest coefficient of `left` is 1.
+fn with_term(total: u128, left: u128, term: u128) -> u128
+    ensures { result ≡ bit_xor total (bit_at left 0 * term) }
+{
+    if left % 2 == 1 { total ^ term } else { total }
+}
+
+/// The product of two polynomials, bit by bit.
+pub(crate) fn product(a: u128, b: u128) -> u128
+    ensures { result ≡ block_product a b }
+{
+    let mut total = 0;
+    let mut left = a;
+    let mut term = b;
+    for _turn in 0..128u32 {
+        total = with_term(total, left, term);
+        left /= 2;
+        term = raised(term);
+    }
+    total
+}
+
+/// The byte at a place, and 0 past the end.
+fn byte_at(bytes: &[u8], at: usize) -> u8
+    ensures { result ≡ slice_index bytes.now at }
+{
+    if at < bytes.len() { bytes[at] } else { 0 }
+}
+
+/// The block at a place, filled up with zeros.
+fn padded_at(bytes: &[u8], at: usize) -> [u8; 16]
+    requires { at < 2 ^ 32 }
+    ensures { result ≡ listed 16 (λ i. slice_index bytes.now (at + i)) }
+{
+    let mut cut = [0; 16];
+    for i in 0..16 {
+        cut[i] = byte_at(bytes, at + i);
+    }
+    cut
+}
+
+/// The hash with the blocks of some bytes taken in.
+pub(crate) fn absorbed(subkey: u128, state: u128, bytes: &[u8]) -> u128
+    requires { length bytes.now < 2 ^ 32 }
+    ensures { result ≡ hashed subkey state (padded_blocks bytes.now) }
+{
+    let mut hash = state;
+    for k in 0..(bytes.len() + 15) / 16 {
+        hash = product(hash ^ from_block(padded_at(bytes, 16 * k)), subkey);
+    }
+    hash
+}
+
+/// The block of both lengths in bits.
+pub(crate) fn lengths(aad: usize, text: usize) -> [u8; 16]
+    requires aad { aad < 2 ^ 32 }
+    requires text { text < 2 ^ 32 }
+    ensures { result ≡ length_block aad text }
+{
+    let a = (8 * aad as u64).to_be_bytes();
+    let t = (8 * text as u64).to_be_bytes();
+    [
+        a[0], a[1], a[2], a[3], a[4], a[5], a[6], a[7], t[0], t[1], t[2], t[3], t[4], t[5], t[6],
+        t[7],
+    ]
+}

@@ -1,0 +1,39 @@
+//! Laws of the block cipher and of its modes, for proofs above to cite.
+
+ghost use Rattle.ssh_aes.specs.Examples.{SubstitutionExample, BlockExamples};
+ghost use Rattle.ssh_aes.specs.Laws.{BlocksUndone, RunsWell, OpensWell, GcmWell, StreamsUndone};
+ghost use Rattle.ssh_aes.specs.Modes.{Running};
+ghost use Rattle.std.specs.Prelude.{ℕ, List};
+
+use crate::runs::BlockStreamCipher;
+
+/// The worked examples of FIPS 197 are what the definitions give.
+pub fn worked_examples()
+    ensures substitution { SubstitutionExample }
+    ensures blocks { BlockExamples }
+{}
+
+/// Decryption undoes encryption, under every key.
+pub fn blocks_undone()
+    ensures { BlocksUndone }
+{}
+
+/// Masking keeps the length, tells texts apart, and shows a text's front at the front.
+pub fn runs_well()
+    ensures { (r : Running) → RunsWell r }
+{}
+
+/// Opening undoes masking, whatever the length.
+pub fn opens_well()
+    ensures { (r : Running) → OpensWell r }
+{}
+
+/// Two ciphers at equal states undo each other, whatever the length, and are at equal states again.
+pub fn streams_undone<C: BlockStreamCipher>()
+    ensures { StreamsUndone C.running }
+{}
+
+/// Sealing in Galois counter mode keeps the length, makes a tag of 16 bytes, and is undone.
+pub fn gcm_well()
+    ensures { (key nonce : List ℕ) → GcmWell key nonce }
+{}

@@ -1,0 +1,23 @@
+//! AES (FIPS 197), counter mode and chaining mode (SP 800-38A) and Galois counter mode (SP
+//! 800-38D), without memory of their own.
+#![tactic(auto)]
+
+mod aes;
+mod blocks;
+mod cbc;
+mod ctr;
+mod gcm;
+mod hash;
+mod laws;
+mod runs;
+mod steps;
+mod tables;
+
+pub use crate::aes::Aes;
+pub use crate::cbc::CbcWrapper;
+pub use crate::ctr::CtrWrapper;
+pub use crate::gcm::Gcm;
+pub use crate::laws::{
+    blocks_undone, gcm_well, opens_well, runs_well, streams_undone, worked_examples,
+};
+pub use crate::runs::{BlockStreamCipher, PacketLengthProbe};

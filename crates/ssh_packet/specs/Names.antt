@@ -1,0 +1,62 @@
+-- The names of ciphers (RFC 4253 section 6.3, RFC 4344 section 4, RFC 5647 section 6), and that of no
+-- compression (RFC 4253 section 6.2).
+use Rattle.std.specs.Prelude.{ℕ, Bool, true, false, List, codes}
+use Rattle.ssh_packet.specs.declared.cipher.Name.{Name}
+use Rattle.ssh_packet.specs.declared.cipher.Name.TheVariants.{Clear, NoCipher, Aes128Ctr, Aes192Ctr, Aes256Ctr, Aes128Gcm, Aes256Gcm, Aes128Cbc, Aes192Cbc, Aes256Cbc}
+use Rattle.ssh_packet.specs.declared.compression.Name as compression
+use Rattle.ssh_packet.specs.declared.compression.Name.TheVariants as compressions
+
+-- the text of a name
+abbrev pub text_of : Name → List ℕ
+text_of Clear = codes "clear"
+text_of NoCipher = codes "none"
+text_of Aes128Ctr = codes "aes128-ctr"
+text_of Aes192Ctr = codes "aes192-ctr"
+text_of Aes256Ctr = codes "aes256-ctr"
+text_of Aes128Gcm = codes "aes128-gcm@openssh.com"
+text_of Aes256Gcm = codes "aes256-gcm@openssh.com"
+text_of Aes128Cbc = codes "aes128-cbc"
+text_of Aes192Cbc = codes "aes192-cbc"
+text_of Aes256Cbc = codes "aes256-cbc"
+
+-- whether its packets need a MAC beside it
+abbrev pub wants_mac : Name → Bool
+wants_mac Clear = false
+wants_mac NoCipher = false
+wants_mac Aes128Ctr = true
+wants_mac Aes192Ctr = true
+wants_mac Aes256Ctr = true
+wants_mac Aes128Gcm = false
+wants_mac Aes256Gcm = false
+wants_mac Aes128Cbc = true
+wants_mac Aes192Cbc = true
+wants_mac Aes256Cbc = true
+
+-- the length of its key in bytes
+abbrev pub key_length : Name → ℕ
+key_length Clear = 0
+key_length NoCipher = 0
+key_length Aes128Ctr = 16
+key_length Aes192Ctr = 24
+key_length Aes256Ctr = 32
+key_length Aes128Gcm = 16
+key_length Aes256Gcm = 32
+key_length Aes128Cbc = 16
+key_length Aes192Cbc = 24
+key_length Aes256Cbc = 32
+
+-- the length of its first counter block, chaining block or nonce in bytes
+abbrev pub nonce_length : Name → ℕ
+nonce_length Clear = 0
+nonce_length NoCipher = 0
+nonce_length Aes128Ctr = 16
+nonce_length Aes192Ctr = 16
+nonce_length Aes256Ctr = 16
+nonce_length Aes128Gcm = 12
+nonce_length Aes256Gcm = 12
+nonce_length Aes128Cbc = 16
+nonce_length Aes192Cbc = 16
+nonce_length Aes256Cbc = 16
+
+abbrev pub compression_text : compression.Name → List ℕ
+compression_text compressions.None = codes "none"

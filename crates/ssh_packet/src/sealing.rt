@@ -1,0 +1,76 @@
+//! Sealing in place, under any key.
+
+ghost use Rattle.std.specs.Prelude.{◌≡◌, ◌+◌, ◌-◌, ◌<◌, ◌≤◌, ◌++◌, length, take, drop, OnOk, OnErr, IfErr, vec_len};
+ghost use Rattle.ssh_wire.specs.declared.error.Error.TheVariants.{Memory};
+ghost use Rattle.ssh_packet.specs.Sealing.{IsAdmissible, IsBytes, framed, sealed, moved_on, item_of, padding_from, filling, framing, tag_size, longest_payload};
+
+use crate::cipher::SealingKey;
+use crate::front::HEAD;
+use rand_core::Rng;
+use ssh_wire::Error;
+
+/// Writes the packet length and the padding's length before a payload, and draws the padding behind it.
+fn frame<K: SealingKey, R: Rng>(text: &mut [u8], padding: usize, key: &K, rng: &mut R)
+    requires room { 5 + padding ≤ length text.old }
+    requires short { length text.old ≤ 262181 }
+    requires byte { padding < 256 }
+    ensures text { text.new ≡ framed (record { payload = take (length text.old - 5 - padding) (drop 5 text.old); padding = (filling (K.sealing key.now) padding (R.stream rng.old)).0 }) }
+    ensures stream { R.stream rng.new ≡ (filling (K.sealing key.now) padding (R.stream rng.old)).1 }
+    ensures size { length (filling (K.sealing key.now) padding (R.stream rng.old)).0 ≡ padding }
+    ensures bytes { IsBytes (filling (K.sealing key.now) padding (R.stream rng.old)).0 }
+{
+    let payload_end = text.len() - padding;
+    let length = ((text.len() - 4) as u32).to_be_bytes();
+    text[..HEAD].copy_from_slice(&[length[0], length[1], length[2], length[3], padding as u8]);
+    key.fill_padding(rng, &mut text[payload_end..]);
+}
+
+/// Makes a packet of a payload, which stands behind five bytes of room and before room for padding and tag.
+fn seal_in_place<K: SealingKey, R: Rng>(packet: &mut [u8], padding: usize, tag_len: usize, seqn: u32, key: &mut K, rng: &mut R)
+    requires room { 5 + padding + tag_len ≤ length packet.old }
+    requires short { length packet.old ≤ 262181 + tag_len }
+    requires byte { padding < 256 }
+    requires tag { tag_len ≡ tag_size (K.sealing key.old) }
+    ensures packet { packet.new ≡ sealed (K.sealing key.old) seqn (framing (K.sealing key.old) padding (take (length packet.old - 5 - padding - tag_len) (drop 5 packet.old)) (R.stream rng.old)) }
+    ensures moved { K.sealing key.new ≡ moved_on (K.sealing key.old) (framing (K.sealing key.old) padding (take (length packet.old - 5 - padding - tag_len) (drop 5 packet.old)) (R.stream rng.old)) }
+    ensures stream { R.stream rng.new ≡ (filling (K.sealing key.old) padding (R.stream rng.old)).1 }
+    ensures size { length (filling (K.sealing key.old) padding (R.stream rng.old)).0 ≡ padding }
+    ensures bytes { IsBytes (filling (K.sealing key.old) padding (R.stream rng.old)).0 }
+{
+    let text_len = packet.len() - tag_len;
+    let (text, tag) = packet.split_at_mut(text_len);
+    frame(text, padding, key, rng);
+    key.seal(seqn, text, tag);
+}
+
+/// Makes a packet of what stands behind `start`: five bytes of room, and a payload. Memory leaves all as it was.
+pub(crate) fn seal_behind<K: SealingKey, R: Rng>(
+    out: &mut Vec<u8>,
+    start: usize,
+    seqn: u32,
+    key: &mut K,
+    rng: &mut R,
+) -> Result<(), Error>
+    requires room { start + 5 ≤ vec_len out.old }
+    requires short { vec_len out.old ≤ start + 5 + longest_payload }
+    ensures ok { OnOk result (out.new.items ≡ take start out.old.items
+        ++ sealed (K.sealing key.old) seqn (item_of (K.sealing key.old) (drop (start + 5) out.old.items) (R.stream rng.old))) }
+    ensures moved { OnOk result (K.sealing key.new
+        ≡ moved_on (K.sealing key.old) (item_of (K.sealing key.old) (drop (start + 5) out.old.items) (R.stream rng.old))) }
+    ensures stream { OnOk result (R.stream rng.new
+        ≡ (padding_from (K.sealing key.old) (vec_len out.old - (start + 5)) (R.stream rng.old)).1) }
+    ensures admissible { OnOk result (start + 5 < vec_len out.old
+        → IsAdmissible (K.sealing key.old) (item_of (K.sealing key.old) (drop (start + 5) out.old.items) (R.stream rng.old))) }
+    ensures unchanged { OnErr result (out.new.items ≡ out.old.items) }
+    ensures key { OnErr result (key.new ≡ key.old) }
+    ensures undrawn { OnErr result (rng.new ≡ rng.old) }
+    ensures err { IfErr result (λ e. e ≡ Memory) }
+{
+    let end = out.len();
+    let padding = key.padding_length(&out[start + HEAD..]);
+    let tag_len = key.tag_len();
+    out.reserve(padding + tag_len)?;
+    out.resize(end + padding + tag_len, 0)?;
+    seal_in_place(&mut out[start..], padding, tag_len, seqn, key, rng);
+    Ok(())
+}
