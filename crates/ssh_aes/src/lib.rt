@@ -12,6 +12,8 @@ mod laws;
 mod runs;
 mod steps;
 mod tables;
+#[cfg(test)]
+mod tests;
 
 pub use crate::aes::Aes;
 pub use crate::cbc::CbcWrapper;
