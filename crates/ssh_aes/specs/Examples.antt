@@ -24,7 +24,7 @@ BlockExamples =
 abbrev pub InversesExample : Type 0
 InversesExample = (b : ℕ) → b < 255 → byte_product (b + 1) (inverse (b + 1)) ≡ 1
 
--- a zero key and a zero nonce: no text, and one zero block (the first two validation cases of SP 800-38D's mode)
+-- a zero key and a zero nonce: no text, and one zero block (two well-known test cases of the mode)
 abbrev pub SealedExamples : Type 0
 SealedExamples =
     let key = replicate 16 0 in

@@ -1,7 +1,7 @@
 //! Laws of the block cipher and of its modes, for proofs above to cite.
 
 ghost use Rattle.ssh_aes.specs.Examples.{SubstitutionExample, InversesExample, BlockExamples, SealedExamples};
-ghost use Rattle.ssh_aes.specs.Laws.{BlocksUndone, RunsWell, OpensWell, GcmWell, StreamsUndone};
+ghost use Rattle.ssh_aes.specs.Laws.{BlocksUndone, FrontsKept, RunsWell, OpensWell, GcmWell, StreamsUndone};
 ghost use Rattle.ssh_aes.specs.Modes.{Running};
 ghost use Rattle.std.specs.Prelude.{ℕ, List};
 
@@ -23,6 +23,11 @@ pub fn blocks_undone()
 /// Masking keeps the length, tells texts apart, and shows a text's front at the front.
 pub fn runs_well()
     ensures { (r : Running) → RunsWell r }
+{}
+
+/// A front of whole blocks of a masked text is the masked front.
+pub fn fronts_kept()
+    ensures { FrontsKept }
 {}
 
 /// Opening undoes masking, whatever the length.
