@@ -8,3 +8,4 @@ pub mod Worked
 pub mod Running
 pub mod Chaining
 pub mod Sealing
+pub mod Fronts

@@ -29,7 +29,7 @@ pub length-counted : (key iv : List ℕ) (p : ℕ) (t : List ℕ) → length (co
 unfolding counted
 length-counted key iv p t = length-listed (length t) (λ i. bit_xor (slice_index t i) (stream_byte key iv ((p + i) % 2 ^ 64)))
 
-counted-at : (key iv : List ℕ) (p : ℕ) (t : List ℕ) (i : ℕ) → i < length t → slice_index (counted key iv p t) i ≡ bit_xor (slice_index t i) (stream_byte key iv ((p + i) % 2 ^ 64))
+pub counted-at : (key iv : List ℕ) (p : ℕ) (t : List ℕ) (i : ℕ) → i < length t → slice_index (counted key iv p t) i ≡ bit_xor (slice_index t i) (stream_byte key iv ((p + i) % 2 ^ 64))
 unfolding counted
 counted-at key iv p t i h = listed-at (length t) (λ j. bit_xor (slice_index t j) (stream_byte key iv ((p + j) % 2 ^ 64))) i h
 

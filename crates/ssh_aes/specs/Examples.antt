@@ -1,7 +1,9 @@
 -- The worked examples of the standards, as statements on the definitions.
-use Rattle.std.specs.Prelude.{◌≡◌, ℕ, List, [], ◌∷◌}
+use Rattle.std.specs.Prelude.{◌≡◌, ◌<◌, ◌+◌, ℕ, List, [], ◌∷◌, replicate}
 use Rattle.std.specs.List.{range_with_len}
-use Rattle.ssh_aes.specs.Aes.{aes, substitute}
+use Rattle.ssh_aes.specs.Field.{byte_product}
+use Rattle.ssh_aes.specs.Aes.{aes, substitute, inverse}
+use Rattle.ssh_aes.specs.Gcm.{gcm_text, gcm_tag}
 
 -- the block 00112233445566778899aabbccddeeff
 abbrev pub plain_block : List ℕ
@@ -17,3 +19,16 @@ BlockExamples =
     (aes (range_with_len 0 16) plain_block ≡ 0x69 ∷ 0xc4 ∷ 0xe0 ∷ 0xd8 ∷ 0x6a ∷ 0x7b ∷ 0x04 ∷ 0x30 ∷ 0xd8 ∷ 0xcd ∷ 0xb7 ∷ 0x80 ∷ 0x70 ∷ 0xb4 ∷ 0xc5 ∷ 0x5a ∷ [])
     × (aes (range_with_len 0 24) plain_block ≡ 0xdd ∷ 0xa9 ∷ 0x7c ∷ 0xa4 ∷ 0x86 ∷ 0x4c ∷ 0xdf ∷ 0xe0 ∷ 0x6e ∷ 0xaf ∷ 0x70 ∷ 0xa0 ∷ 0xec ∷ 0x0d ∷ 0x71 ∷ 0x91 ∷ [])
     × (aes (range_with_len 0 32) plain_block ≡ 0x8e ∷ 0xa2 ∷ 0xb7 ∷ 0xca ∷ 0x51 ∷ 0x67 ∷ 0x45 ∷ 0xbf ∷ 0xea ∷ 0xfc ∷ 0x49 ∷ 0x90 ∷ 0x4b ∷ 0x49 ∷ 0x60 ∷ 0x89 ∷ [])
+
+-- the inverses in the field of bytes: each byte but 0 times its inverse is 1 (FIPS 197 section 4.4)
+abbrev pub InversesExample : Type 0
+InversesExample = (b : ℕ) → b < 255 → byte_product (b + 1) (inverse (b + 1)) ≡ 1
+
+-- a zero key and a zero nonce: no text, and one zero block (two well-known test cases of the mode)
+abbrev pub SealedExamples : Type 0
+SealedExamples =
+    let key = replicate 16 0 in
+    let nonce = replicate 12 0 in
+    (gcm_tag key nonce [] [] ≡ 0x58 ∷ 0xe2 ∷ 0xfc ∷ 0xce ∷ 0xfa ∷ 0x7e ∷ 0x30 ∷ 0x61 ∷ 0x36 ∷ 0x7f ∷ 0x1d ∷ 0x57 ∷ 0xa4 ∷ 0xe7 ∷ 0x45 ∷ 0x5a ∷ [])
+    × (gcm_text key nonce [] (replicate 16 0) ≡ 0x03 ∷ 0x88 ∷ 0xda ∷ 0xce ∷ 0x60 ∷ 0xb6 ∷ 0xa3 ∷ 0x92 ∷ 0xf3 ∷ 0x28 ∷ 0xc2 ∷ 0xb9 ∷ 0x71 ∷ 0xb2 ∷ 0xfe ∷ 0x78 ∷ [])
+    × (gcm_tag key nonce [] (replicate 16 0) ≡ 0xab ∷ 0x6e ∷ 0x47 ∷ 0xd4 ∷ 0x2c ∷ 0xec ∷ 0x13 ∷ 0xbd ∷ 0xf5 ∷ 0x3a ∷ 0x67 ∷ 0xb2 ∷ 0x12 ∷ 0x57 ∷ 0xbd ∷ 0xdf ∷ [])

@@ -1,5 +1,5 @@
 -- What is true of the block cipher and of its modes.
-use Rattle.std.specs.Prelude.{◌≡◌, ℕ, ◌<◌, ◌≤◌, List, ◌++◌, length, take, slice_index}
+use Rattle.std.specs.Prelude.{◌≡◌, ℕ, ◌*◌, ◌<◌, ◌≤◌, List, ◌++◌, length, take, slice_index}
 use Rattle.ssh_aes.specs.Aes.{aes, inverse_aes}
 use Rattle.ssh_aes.specs.Modes.{Running, masked, unmasked, moved, passed, least}
 use Rattle.ssh_aes.specs.Gcm.{gcm_text, gcm_tag, gcm_plain}
@@ -23,6 +23,10 @@ pub record OpensWell (r : Running) : Type 0 where
   pub opens : (t : List ℕ) → IsBytes t → unmasked r (masked r t) ≡ t
   pub leaves : (t : List ℕ) → passed r (masked r t) ≡ moved r t
   pub early : (t x : List ℕ) → IsBytes t → least r ≤ length t → 16 ≤ length (masked r t ++ x) → take 4 (unmasked r (take 16 (masked r t ++ x))) ≡ take 4 t
+
+-- a front of whole blocks of a masked text is the masked front
+abbrev pub FrontsKept : Type 0
+FrontsKept = (r : Running) (k : ℕ) (t : List ℕ) → take (16 * k) (masked r t) ≡ masked r (take (16 * k) t)
 
 -- sealing keeps the length, tells texts apart and makes a tag of 16 bytes, and opening undoes it
 pub record GcmWell (key nonce : List ℕ) : Type 0 where

@@ -1,16 +1,18 @@
 //! Laws of the block cipher and of its modes, for proofs above to cite.
 
-ghost use Rattle.ssh_aes.specs.Examples.{SubstitutionExample, BlockExamples};
-ghost use Rattle.ssh_aes.specs.Laws.{BlocksUndone, RunsWell, OpensWell, GcmWell, StreamsUndone};
+ghost use Rattle.ssh_aes.specs.Examples.{SubstitutionExample, InversesExample, BlockExamples, SealedExamples};
+ghost use Rattle.ssh_aes.specs.Laws.{BlocksUndone, FrontsKept, RunsWell, OpensWell, GcmWell, StreamsUndone};
 ghost use Rattle.ssh_aes.specs.Modes.{Running};
 ghost use Rattle.std.specs.Prelude.{ℕ, List};
 
 use crate::runs::BlockStreamCipher;
 
-/// The worked examples of FIPS 197 are what the definitions give.
+/// The worked examples of the standards are what the definitions give.
 pub fn worked_examples()
     ensures substitution { SubstitutionExample }
+    ensures inverses { InversesExample }
     ensures blocks { BlockExamples }
+    ensures sealed { SealedExamples }
 {}
 
 /// Decryption undoes encryption, under every key.
@@ -21,6 +23,11 @@ pub fn blocks_undone()
 /// Masking keeps the length, tells texts apart, and shows a text's front at the front.
 pub fn runs_well()
     ensures { (r : Running) → RunsWell r }
+{}
+
+/// A front of whole blocks of a masked text is the masked front.
+pub fn fronts_kept()
+    ensures { FrontsKept }
 {}
 
 /// Opening undoes masking, whatever the length.

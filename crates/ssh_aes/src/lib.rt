@@ -12,12 +12,14 @@ mod laws;
 mod runs;
 mod steps;
 mod tables;
+#[cfg(test)]
+mod tests;
 
 pub use crate::aes::Aes;
 pub use crate::cbc::CbcWrapper;
 pub use crate::ctr::CtrWrapper;
 pub use crate::gcm::Gcm;
 pub use crate::laws::{
-    blocks_undone, gcm_well, opens_well, runs_well, streams_undone, worked_examples,
+    blocks_undone, fronts_kept, gcm_well, opens_well, runs_well, streams_undone, worked_examples,
 };
 pub use crate::runs::{BlockStreamCipher, PacketLengthProbe};

@@ -17,7 +17,8 @@ loop-turn-preserved c =
     let t = product-turn 128 block_modulus k c.loop-turn.total c.loop-turn.left c.loop-turn.term c.loop-turn.invariant.small small in
     record {
       sum = rw (c.with_term-total.ensures, c.raised-term.ensures) (t ∙ ap (λ j. bit_xor c.loop-turn.total (reduced 128 block_modulus j c.loop-turn.left c.loop-turn.term)) (sym e) ∙ c.loop-turn.invariant.sum);
-      small = c.raised-term.type_inv }
+      small = c.raised-term.type_inv;
+    }
 
 pub returns : goal.returns
 returns c =

@@ -1,0 +1,39 @@
+#!/usr/bin/env bash
+# Usage: bench/aes.sh
+# Encrypts messages of 32 KiB under a key of 32 bytes by each mode of ssh_aes for about two seconds, and by
+# OpenSSL with its AES and carry-less product instructions switched off, and prints bytes per second of both.
+# Needs rt (once, to build crates/aes_speed), openssl and python3.
+set -eu
+cd "$(dirname "$0")/.."
+[ -x crates/aes_speed/out/aes_speed ] || (cd crates/aes_speed && rt run -- ctr 1 >/dev/null 2>&1)
+python3 - crates/aes_speed/out/aes_speed <<'PYTHON'
+import os, re, subprocess, sys, time
+
+program = sys.argv[1]
+plain = dict(os.environ, OPENSSL_ia32cap="~0x200000200000000")
+
+
+def seconds(mode, count):
+    start = time.perf_counter()
+    subprocess.run([program, mode, str(count)], check=True, stdout=subprocess.DEVNULL)
+    return time.perf_counter() - start
+
+
+def speed(mode):
+    """Bytes per second, less what a run of no message takes."""
+    count = 64
+    while seconds(mode, count) < 1:
+        count *= 2
+    return count * 32768 / (seconds(mode, count) - seconds(mode, 0))
+
+
+def openssl(mode):
+    words = ["openssl", "speed", "-elapsed", "-seconds", "2", "-bytes", "32768", "-evp", "aes-256-" + mode]
+    written = subprocess.run(words, env=plain, capture_output=True, text=True, check=True).stdout
+    return 1000 * float(re.search(r"([0-9.]+)k\s*$", written).group(1))
+
+
+print(f"{'mode':6}{'ssh_aes':>16}{'openssl':>16}   bytes per second")
+for mode in ("ctr", "cbc", "gcm"):
+    print(f"{mode:6}{speed(mode):16,.0f}{openssl(mode):16,.0f}")
+PYTHON
