@@ -54,7 +54,8 @@ impl<C: BlockStreamCipher, M: Mac> cipher::SealingKey for SealingKey<C, M> {
 
     fn seal(&mut self, seqn: u32, plaintext_in_ciphertext_out: &mut [u8], tag_out: &mut [u8]) {
         if self.mac.is_etm() {
-            self.cipher.encrypt_data(&mut plaintext_in_ciphertext_out[4..]);
+            self.cipher
+                .encrypt_data(&mut plaintext_in_ciphertext_out[4..]);
             self.mac.compute(seqn, plaintext_in_ciphertext_out, tag_out);
         } else {
             self.mac.compute(seqn, plaintext_in_ciphertext_out, tag_out);
@@ -107,10 +108,11 @@ impl<C: PacketLengthProbe, M: Mac> cipher::OpeningKey for OpeningKey<C, M> {
             Ok(())
         } else {
             self.cipher.decrypt_data(packet);
-            if !self.mac.verify(seqn, packet, tag) {
-                return Err(OpenError::PacketAuth);
+            if self.mac.verify(seqn, packet, tag) {
+                Ok(())
+            } else {
+                Err(OpenError::PacketAuth)
             }
-            Ok(())
         }
     }
 }
