@@ -253,8 +253,8 @@ checked_stays s number n packet behind more h =
     let rest = drop-append-le (tag_size s) behind more h in
     let P : Front → Type 0 = λ f. Stays (checked s number n packet behind) f more in
     let later : checked s number n packet (behind ++ more) ≡ (if bytes_eq (tag_for s number packet) (take (tag_size s) behind) then parted n (text_in s packet) (drop (tag_size s) behind ++ more) else Refused (tag_fault s)) =
-        ap (λ g. if bytes_eq (tag_for s number packet) g then parted n (text_in s packet) (drop (tag_size s) (behind ++ more)) else Refused (tag_fault s)) given
-        ∙ ap (λ r. if bytes_eq (tag_for s number packet) (take (tag_size s) behind) then parted n (text_in s packet) r else Refused (tag_fault s)) rest in
+    ap (λ g. if bytes_eq (tag_for s number packet) g then parted n (text_in s packet) (drop (tag_size s) (behind ++ more)) else Refused (tag_fault s)) given
+    ∙ ap (λ r. if bytes_eq (tag_for s number packet) (take (tag_size s) behind) then parted n (text_in s packet) r else Refused (tag_fault s)) rest in
     subst P (sym later) (stays_by (bytes_eq (tag_for s number packet) (take (tag_size s) behind)) _ _ _ _ more (parted_stays _ n _ (drop (tag_size s) behind) more) refl)
 
 opened_stays : (s : Sealing) (number n : ℕ) (bytes more : List ℕ) → Stays (opened s number n bytes) (opened s number n (bytes ++ more)) more

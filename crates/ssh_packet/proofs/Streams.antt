@@ -134,7 +134,7 @@ read_same_by E before (Some k) (Some p) None (i ∷ a) (j ∷ b) fed rest wire y
 read_same_by E before (Some k) (Some p) (Some q) (i ∷ a) (j ∷ b) fed rest wire y pl h r w e =
     let there : bytes_at q j ≡ bytes_at p j = ap (λ s. sealed s q.number j) (sym h.sealing) ∙ ap (λ n. sealed p.sealing n j) (sym h.number) in
     let joined : bytes_at p i ++ (r.0 ++ y) ≡ bytes_at p j ++ w.0 =
-        sym (append_assoc (bytes_at p i) r.0 y) ∙ (ap (λ t. t ++ y) (sym r.2) ∙ (e ∙ (w.2 ∙ ap (λ t. t ++ w.0) there))) in
+    sym (append_assoc (bytes_at p i) r.0 y) ∙ (ap (λ t. t ++ y) (sym r.2) ∙ (e ∙ (w.2 ∙ ap (λ t. t ++ w.0) there))) in
     let admitted : IsAdmissible p.sealing j = subst (λ s. IsAdmissible s j) (sym h.sealing) w.1 in
     let one = one_packet p.sealing p.number i j (r.0 ++ y) w.0 r.1 admitted joined in
     let plain : E before i ≡ is_newkeys i = subst (λ t. E before t ≡ is_newkeys t) (sym one.0) pl.0 in

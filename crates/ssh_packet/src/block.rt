@@ -54,7 +54,8 @@ impl<C: BlockStreamCipher, M: Mac> cipher::SealingKey for SealingKey<C, M> {
 
     fn seal(&mut self, seqn: u32, plaintext_in_ciphertext_out: &mut [u8], tag_out: &mut [u8]) {
         if self.mac.is_etm() {
-            self.cipher.encrypt_data(&mut plaintext_in_ciphertext_out[4..]);
+            self.cipher
+                .encrypt_data(&mut plaintext_in_ciphertext_out[4..]);
             self.mac.compute(seqn, plaintext_in_ciphertext_out, tag_out);
         } else {
             self.mac.compute(seqn, plaintext_in_ciphertext_out, tag_out);

@@ -73,7 +73,11 @@ pub trait OpeningKey {
 
     /// Opens a packet that its tag stands behind, and answers what follows its length: padding length,
     /// payload and padding. The errors are those of `open_in_place`.
-    fn open<'a>(&mut self, seqn: u32, ciphertext_and_tag: &'a mut [u8]) -> Result<&'a [u8], OpenError>
+    fn open<'a>(
+        &mut self,
+        seqn: u32,
+        ciphertext_and_tag: &'a mut [u8],
+    ) -> Result<&'a [u8], OpenError>
         requires headed { 4 + tag_size (opening self.old) ≤ length ciphertext_and_tag.old }
         requires short { length ciphertext_and_tag.old < 2 ^ 32 + 4 + tag_size (opening self.old) }
         ensures right { IsOk result ↔ tag_behind (opening self.old) ciphertext_and_tag.old

@@ -45,7 +45,12 @@ impl OpeningKey for Key {
         0
     }
 
-    fn open_in_place(&mut self, _seqn: u32, _packet: &mut [u8], _tag: &[u8]) -> Result<(), OpenError> {
+    fn open_in_place(
+        &mut self,
+        _seqn: u32,
+        _packet: &mut [u8],
+        _tag: &[u8],
+    ) -> Result<(), OpenError> {
         Ok(())
     }
 }

@@ -99,7 +99,12 @@ impl cipher::OpeningKey for OpeningKey {
         16
     }
 
-    fn open_in_place(&mut self, _seqn: u32, packet: &mut [u8], tag: &[u8]) -> Result<(), OpenError> {
+    fn open_in_place(
+        &mut self,
+        _seqn: u32,
+        packet: &mut [u8],
+        tag: &[u8],
+    ) -> Result<(), OpenError> {
         let mut given = [0; 16];
         given.copy_from_slice(tag);
         let (head, body) = packet.split_at_mut(4);
