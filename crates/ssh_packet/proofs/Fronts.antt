@@ -12,7 +12,7 @@ use Rattle.ssh_aes.specs.Modes.{Running, masked, unmasked, moved, passed}
 use Rattle.ssh_mac.specs.TagLaws.{length-tag_of}
 use Rattle.ssh_mac.specs.Tags.{MacOf, tag_of, is_encrypt_then_mac}
 use Rattle.ssh_packet.proofs.Ciphers.{runs_well, opens_well, gcm_well}
-use Rattle.ssh_packet.proofs.Shapes.{front_framed, length_framed, framed_bytes, bytes_drop, length_take4, item_alike}
+use Rattle.ssh_packet.proofs.Shapes.{cut_alike, front_framed, length_framed, framed_bytes, bytes_drop, length_take4, item_alike}
 use Rattle.ssh_packet.specs.Front.{Fault, Front, Whole, Unfinished, Refused, probed, length_in, is_bad_length, decrypted, text_in, opened_past, covered, tag_for, tag_fault, parted, parted_by, checked, opened, measured, front_of}
 use Rattle.ssh_packet.specs.Sealing.{Item, Sealing, Clear, Block, Gcm, framed, packet_length, hidden, moved_past, closed, enclosed, sealed, probe, shown_by, shortest, tag_size, IsAdmissible, IsBytes}
 
@@ -37,23 +37,23 @@ over : Bool → Running → List ℕ → List ℕ
 over true r t = take 4 t ++ masked r (drop 4 t)
 over false r t = t
 
-pub body : Sealing → List ℕ → List ℕ
+body : Sealing → List ℕ → List ℕ
 body Clear t = t
 body (Block r mac) t = body_by (is_encrypt_then_mac mac) r t
 body (Gcm key nonce) t = take 4 t ++ gcm_text key nonce (take 4 t) (drop 4 t)
 
-tag_behind : Sealing → ℕ → List ℕ → List ℕ
-tag_behind Clear number t = []
-tag_behind (Block r mac) number t = tag_of mac number (over (is_encrypt_then_mac mac) r t)
-tag_behind (Gcm key nonce) number t = gcm_tag key nonce (take 4 t) (drop 4 t)
+tag_made : Sealing → ℕ → List ℕ → List ℕ
+tag_made Clear number t = []
+tag_made (Block r mac) number t = tag_of mac number (over (is_encrypt_then_mac mac) r t)
+tag_made (Gcm key nonce) number t = gcm_tag key nonce (take 4 t) (drop 4 t)
 
 enclosed_parts : (etm : Bool) (r : Running) (mac : MacOf) (number : ℕ) (t : List ℕ) → enclosed etm (masked r) (tag_of mac number) t ≡ body_by etm r t ++ tag_of mac number (over etm r t)
 unfolding body_by over
 enclosed_parts true r mac number t = sym (append_assoc (take 4 t) (masked r (drop 4 t)) _)
 enclosed_parts false r mac number t = refl
 
-closed_parts : (s : Sealing) (number : ℕ) (t : List ℕ) → closed s number t ≡ body s t ++ tag_behind s number t
-unfolding body tag_behind
+closed_parts : (s : Sealing) (number : ℕ) (t : List ℕ) → closed s number t ≡ body s t ++ tag_made s number t
+unfolding body tag_made
 closed_parts Clear number t = sym (append-nil t)
 closed_parts (Block r mac) number t = enclosed_parts (is_encrypt_then_mac mac) r mac number t
 closed_parts (Gcm key nonce) number t = sym (append_assoc (take 4 t) (gcm_text key nonce (take 4 t) (drop 4 t)) _)
@@ -72,8 +72,8 @@ length_body Clear t h = refl
 length_body (Block r mac) t h = length_body_by (is_encrypt_then_mac mac) r t h
 length_body (Gcm key nonce) t h = length_headed t _ h ((gcm_well key nonce).same_length (take 4 t) (drop 4 t))
 
-length_tag : (s : Sealing) (number : ℕ) (t : List ℕ) → length (tag_behind s number t) ≡ tag_size s
-unfolding tag_behind
+length_tag : (s : Sealing) (number : ℕ) (t : List ℕ) → length (tag_made s number t) ≡ tag_size s
+unfolding tag_made
 length_tag Clear number t = refl
 length_tag (Block r mac) number t = length-tag_of mac number _
 length_tag (Gcm key nonce) number t = (gcm_well key nonce).tag _ _
@@ -111,8 +111,8 @@ unfolding body_by over
 covered_back true r t b = refl
 covered_back false r t b = (opens_well r).opens t b
 
-tag_back : (s : Sealing) (number : ℕ) (t : List ℕ) → IsBytes t → 4 ≤ length t → tag_for s number (body s t) ≡ tag_behind s number t
-unfolding body tag_behind
+tag_back : (s : Sealing) (number : ℕ) (t : List ℕ) → IsBytes t → 4 ≤ length t → tag_for s number (body s t) ≡ tag_made s number t
+unfolding body tag_made
 tag_back Clear number t b h = refl
 tag_back (Block r mac) number t b h = ap (tag_of mac number) (covered_back (is_encrypt_then_mac mac) r t b)
 tag_back (Gcm key nonce) number t b h =
@@ -126,11 +126,18 @@ unfolding body_by
 passed_back true r t h = ap (passed r) (drop_headed t (masked r (drop 4 t)) h) ∙ (opens_well r).leaves (drop 4 t)
 passed_back false r t h = (opens_well r).leaves t
 
-pub opened_back : (s : Sealing) (t : List ℕ) → 4 ≤ length t → opened_past s (body s t) ≡ moved_past s t
+opened_back : (s : Sealing) (t : List ℕ) → 4 ≤ length t → opened_past s (body s t) ≡ moved_past s t
 unfolding body
 opened_back Clear t h = refl
 opened_back (Block r mac) t h = ap (λ q. Block q mac) (passed_back (is_encrypt_then_mac mac) r t h)
 opened_back (Gcm key nonce) t h = refl
+
+pub opens_again : (s : Sealing) (number : ℕ) (t p x : List ℕ) → IsBytes t → 4 ≤ length t → length p ≡ length t → p ++ x ≡ closed s number t → (x ≡ tag_for s number p) × (text_in s p ≡ t) × (opened_past s p ≡ moved_past s t)
+opens_again s number t p x b h l e =
+    let parts = cut_alike p (body s t) x (tag_made s number t) (l ∙ sym (length_body s t h)) (e ∙ closed_parts s number t) in
+    let packet : p ≡ body s t = parts.0 in
+    let tag = ap (tag_for s number) packet ∙ tag_back s number t b h in
+    (parts.1 ∙ sym tag, ap (text_in s) packet ∙ text_back s t b h, ap (opened_past s) packet ∙ opened_back s t h)
 
 -- ---- a packet at the front
 
@@ -156,11 +163,11 @@ unfolding body_by
 probed_front true r t x b four h long = ap (take 4) (append_assoc (take 4 t) (masked r (drop 4 t)) x) ∙ take_headed t _ four
 probed_front false r t x b four h long = (opens_well r).early t x b h long
 
-length_behind : (s : Sealing) (number : ℕ) (item : Item) (rest : List ℕ) → length (body s (framed item) ++ (tag_behind s number (framed item) ++ rest)) ≡ 4 + packet_length item + tag_size s + length rest
+length_behind : (s : Sealing) (number : ℕ) (item : Item) (rest : List ℕ) → length (body s (framed item) ++ (tag_made s number (framed item) ++ rest)) ≡ 4 + packet_length item + tag_size s + length rest
 length_behind s number item rest =
-    omega (arith, length-append (body s (framed item)) (tag_behind s number (framed item) ++ rest), length-append (tag_behind s number (framed item)) rest, length_body s (framed item) (omega (arith, length_framed item)), length_tag s number (framed item), length_framed item)
+    omega (arith, length-append (body s (framed item)) (tag_made s number (framed item) ++ rest), length-append (tag_made s number (framed item)) rest, length_body s (framed item) (omega (arith, length_framed item)), length_tag s number (framed item), length_framed item)
 
-shown_at : (s : Sealing) (number : ℕ) (item : Item) (rest : List ℕ) → IsAdmissible s item → length_in s (body s (framed item) ++ (tag_behind s number (framed item) ++ rest)) ≡ packet_length item
+shown_at : (s : Sealing) (number : ℕ) (item : Item) (rest : List ℕ) → IsAdmissible s item → length_in s (body s (framed item) ++ (tag_made s number (framed item) ++ rest)) ≡ packet_length item
 unfolding body
 shown_at Clear number item rest h = length_at _ item h.short (take-append-le 4 (framed item) _ (omega (arith, length_framed item)))
 shown_at (Block r mac) number item rest h =
@@ -181,10 +188,10 @@ good_length s item h =
     (not_below 262177 (packet_length item) h.short) (not_below _ _ h.probed) (not_below _ _ h.shown)
 
 -- what its tag belongs to is decrypted
-checked_whole : (s : Sealing) (number : ℕ) (item : Item) (rest : List ℕ) → IsAdmissible s item → checked s number (packet_length item) (body s (framed item)) (tag_behind s number (framed item) ++ rest) ≡ Whole item rest
+checked_whole : (s : Sealing) (number : ℕ) (item : Item) (rest : List ℕ) → IsAdmissible s item → checked s number (packet_length item) (body s (framed item)) (tag_made s number (framed item) ++ rest) ≡ Whole item rest
 checked_whole s number item rest h =
     let t = framed item in
-    let tag = tag_behind s number t in
+    let tag = tag_made s number t in
     let bytes = framed_bytes s item h in
     let four : 4 ≤ length t = omega (arith, length_framed item) in
     let given : take (tag_size s) (tag ++ rest) ≡ tag = subst (λ n. take n (tag ++ rest) ≡ tag) (length_tag s number t) (take-append_seam tag rest) in
@@ -194,10 +201,10 @@ checked_whole s number item rest h =
     ∙ (ap (λ u. parted (packet_length item) u (drop (tag_size s) (tag ++ rest))) (text_back s t bytes four)
     ∙ (ap (parted (packet_length item) t) behind ∙ parted_framed item rest h.payload))
 
-opened_whole : (s : Sealing) (number : ℕ) (item : Item) (rest : List ℕ) → IsAdmissible s item → opened s number (packet_length item) (body s (framed item) ++ (tag_behind s number (framed item) ++ rest)) ≡ Whole item rest
+opened_whole : (s : Sealing) (number : ℕ) (item : Item) (rest : List ℕ) → IsAdmissible s item → opened s number (packet_length item) (body s (framed item) ++ (tag_made s number (framed item) ++ rest)) ≡ Whole item rest
 opened_whole s number item rest h =
     let b = body s (framed item) in
-    let x = tag_behind s number (framed item) ++ rest in
+    let x = tag_made s number (framed item) ++ rest in
     let size : length b ≡ 4 + packet_length item = length_body s (framed item) (omega (arith, length_framed item)) ∙ length_framed item in
     let all = length_behind s number item rest in
     let front : take (4 + packet_length item) (b ++ x) ≡ b = subst (λ n. take n (b ++ x) ≡ b) size (take-append_seam b x) in
@@ -206,10 +213,10 @@ opened_whole s number item rest h =
     ∙ (ap (λ p. checked s number (packet_length item) p (drop (4 + packet_length item) (b ++ x))) front
     ∙ (ap (checked s number (packet_length item) b) behind ∙ checked_whole s number item rest h))
 
-front_of_parts : (s : Sealing) (number : ℕ) (item : Item) (rest : List ℕ) → IsAdmissible s item → front_of s number (body s (framed item) ++ (tag_behind s number (framed item) ++ rest)) ≡ Whole item rest
+front_of_parts : (s : Sealing) (number : ℕ) (item : Item) (rest : List ℕ) → IsAdmissible s item → front_of s number (body s (framed item) ++ (tag_made s number (framed item) ++ rest)) ≡ Whole item rest
 unfolding front_of
 front_of_parts s number item rest h =
-    let w = body s (framed item) ++ (tag_behind s number (framed item) ++ rest) in
+    let w = body s (framed item) ++ (tag_made s number (framed item) ++ rest) in
     let all = length_behind s number item rest in
     let probe_fits = h.probed in
     left_out (nat_lt (length w) (probe s)) _ _ (not_below _ _ (omega (arith, all, probe_fits)))
@@ -219,7 +226,7 @@ front_of_parts s number item rest h =
 pub front_whole : (s : Sealing) (number : ℕ) (item : Item) (rest : List ℕ) → IsAdmissible s item → front_of s number (sealed s number item ++ rest) ≡ Whole item rest
 front_whole s number item rest h =
     ap (λ t. front_of s number (t ++ rest)) (closed_parts s number (framed item))
-    ∙ (ap (front_of s number) (append_assoc (body s (framed item)) (tag_behind s number (framed item)) rest) ∙ front_of_parts s number item rest h)
+    ∙ (ap (front_of s number) (append_assoc (body s (framed item)) (tag_made s number (framed item)) rest) ∙ front_of_parts s number item rest h)
 
 -- ---- bytes that come behind
 

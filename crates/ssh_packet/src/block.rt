@@ -108,10 +108,11 @@ impl<C: PacketLengthProbe, M: Mac> cipher::OpeningKey for OpeningKey<C, M> {
             Ok(())
         } else {
             self.cipher.decrypt_data(packet);
-            if !self.mac.verify(seqn, packet, tag) {
-                return Err(OpenError::PacketAuth);
+            if self.mac.verify(seqn, packet, tag) {
+                Ok(())
+            } else {
+                Err(OpenError::PacketAuth)
             }
-            Ok(())
         }
     }
 }

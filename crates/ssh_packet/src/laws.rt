@@ -1,6 +1,6 @@
 //! Laws of packets and of streams of packets, for proofs above to cite.
 
-ghost use Rattle.ssh_packet.specs.Laws.{OnePacket, FrontWhole, FrontStays, OneReading, PlainReading, Carried, Padded};
+ghost use Rattle.ssh_packet.specs.Laws.{OnePacket, FrontWhole, OpensAgain, FrontStays, OneReading, PlainReading, Carried, Padded};
 
 /// State, number and bytes determine a packet, whatever follows it.
 pub fn one_packet()
@@ -10,6 +10,11 @@ pub fn one_packet()
 /// Opening undoes sealing.
 pub fn front_whole()
     ensures { FrontWhole }
+{}
+
+/// At one key state and number, opening what was sealed gives what was sealed, and both leave one state.
+pub fn opens_again()
+    ensures { OpensAgain }
 {}
 
 /// What a reader finds stays what it is when bytes come behind.
