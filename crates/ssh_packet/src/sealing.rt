@@ -26,7 +26,14 @@ fn frame<K: SealingKey, R: Rng>(text: &mut [u8], padding: usize, key: &K, rng: &
 }
 
 /// Makes a packet of a payload, which stands behind five bytes of room and before room for padding and tag.
-fn seal_in_place<K: SealingKey, R: Rng>(packet: &mut [u8], padding: usize, tag_len: usize, seqn: u32, key: &mut K, rng: &mut R)
+fn seal_in_place<K: SealingKey, R: Rng>(
+    packet: &mut [u8],
+    padding: usize,
+    tag_len: usize,
+    seqn: u32,
+    key: &mut K,
+    rng: &mut R,
+)
     requires room { 5 + padding + tag_len ≤ length packet.old }
     requires short { length packet.old ≤ 262181 + tag_len }
     requires byte { padding < 256 }
