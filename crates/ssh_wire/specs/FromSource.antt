@@ -73,6 +73,13 @@ HasId allow (Waiting waiting others) bytes text = (end : ℕ) × (id_of (still_a
 HasId allow (Heard before) bytes text = text ≡ before
 HasId allow Failed bytes text = ⊥
 
+-- No id: all bytes decide so, or decide nothing. A fault may come before that.
+abbrev pub RefusesId : Bool → IdReading → List ℕ → Error → Type 0
+RefusesId allow old bytes e =
+    ((e ≡ error.Version) × ((new : IdReading) × Feeds allow old bytes (Err error.Version) new))
+    ⊎ ((e ≡ error.Disconnect) × ((new : IdReading) × Feeds allow old bytes (Ok progress.NotYet) new))
+    ⊎ (e ≡ error.IO)
+
 -- bytes taken into the front of a buffer, or the end, or a fault
 abbrev pub NoneTaken : List ℕ → Option (List ℕ) → Option (List ℕ) → ℕ → ℕ → Error → Type 0
 NoneTaken buffer left now before after e =

@@ -3,7 +3,7 @@
 ghost use Rattle.std.specs.Prelude.{◌≡◌, ◌≤◌, ◌⊎◌, ℕ, List, [], length, slice_range, true, false, Ok, Err, IsOk, IfOk, IfErr, OnOk, IfSome};
 ghost use Rattle.ssh_wire.specs.Outside.{Rose};
 ghost use Rattle.ssh_wire.specs.Reading.{Waiting, IsShort, finished};
-ghost use Rattle.ssh_wire.specs.FromSource.{IdRead, Finds, Fails, WhileWaiting, Repeats, HasId};
+ghost use Rattle.ssh_wire.specs.FromSource.{IdRead, Finds, Fails, WhileWaiting, Repeats, HasId, RefusesId};
 ghost use Rattle.ssh_wire.specs.declared.error.Error.TheVariants.{IO};
 
 use crate::error::Error;
@@ -52,17 +52,23 @@ impl<R: Source> SshRead<R> {
     /// same, and nothing is read.
     pub fn read_ssh_id(&mut self) -> Result<&[u8], Error>
         ensures text { IfOk result (λ id. IfSome (R.left self.old.source) (λ bytes. HasId true self.old.id bytes id.now)) }
+        ensures refused { IfErr result (λ e. IfSome (R.left self.old.source) (λ bytes. RefusesId true self.old.id bytes e)) }
     {
-        self.hear(true)?;
-        Ok(self.id.id())
+        match self.hear(true) {
+            Ok(()) => Ok(self.id.id()),
+            Err(error) => Err(error),
+        }
     }
 
     /// The same of a client's version line, before which no other line may stand.
     pub fn read_client_ssh_id(&mut self) -> Result<&[u8], Error>
         ensures text { IfOk result (λ id. IfSome (R.left self.old.source) (λ bytes. HasId false self.old.id bytes id.now)) }
+        ensures refused { IfErr result (λ e. IfSome (R.left self.old.source) (λ bytes. RefusesId false self.old.id bytes e)) }
     {
-        self.hear(false)?;
-        Ok(self.id.id())
+        match self.hear(false) {
+            Ok(()) => Ok(self.id.id()),
+            Err(error) => Err(error),
+        }
     }
 
     /// Reads until a line decides, where other lines may stand before the id line or not. Version where no
