@@ -2,6 +2,7 @@
 
 ghost use Rattle.std.specs.Prelude.{◌≡◌, ◌++◌, ◌<◌, IsTrue, length};
 ghost use Rattle.ssh_mac.specs.Digests.{digest_of};
+ghost use Rattle.ssh_mac.specs.Tags.{tag_length};
 
 use crate::mac::{self, ALL_MAC_ALGORITHMS, Mac, MacKey, Name};
 use crate::{DigestKind, HashValue, Hasher, hmac_of};
@@ -58,7 +59,7 @@ fn hmac_in_halves(kind: DigestKind, key: &[u8], text: &[u8]) -> HashValue {
 
 /// What a sealed packet rests on, from the trait alone: the tag that a MAC computes is accepted.
 fn own_tag_accepted<M: Mac>(mac: &M, number: u32, text: &[u8], room: &mut [u8]) -> bool
-    requires { length room.old ≡ M.size mac.now }
+    requires { length room.old ≡ tag_length (M.meaning mac.now) }
     ensures { IsTrue result }
 {
     mac.compute(number, text, room);

@@ -5,7 +5,8 @@ ghost use Rattle.std.specs.Prelude.{◌≡◌, ◌↔◌, ◌+◌, ◌<◌, ◌�
 ghost use Rattle.std.specs.Int.{w32, from_be_bytes};
 ghost use Rattle.ssh_packet.specs.Errors.{open_error};
 ghost use Rattle.ssh_packet.specs.Front.{length_in, opened_past, packet_of, tag_behind, tag_fault, tag_for, text_in};
-ghost use Rattle.ssh_packet.specs.Sealing.{Sealing, closed, filling, longest_payload, moved_past, padding_length, probe, tag_size};
+ghost use Rattle.ssh_packet.specs.Sealing.{Sealing, closed, filling, longest_payload, moved_past};
+ghost use Rattle.ssh_packet.specs.Sealing.{padding_length, probe, tag_size};
 
 use crate::error::OpenError;
 use rand_core::Rng;
@@ -23,7 +24,8 @@ pub trait SealingKey {
 
     /// Writes padding: zeros under the clear key, which draws nothing, and else drawn bytes.
     fn fill_padding<R: Rng>(&self, rng: &mut R, padding_out: &mut [u8])
-        ensures { (padding_out.new, R.stream rng.new) ≡ filling (sealing self.now) (length padding_out.old) (R.stream rng.old) };
+        ensures { (padding_out.new, R.stream rng.new)
+            ≡ filling (sealing self.now) (length padding_out.old) (R.stream rng.old) };
 
     /// The length of a tag in bytes.
     fn tag_len(&self) -> usize

@@ -1,6 +1,7 @@
 //! Laws of packets and of streams of packets, for proofs above to cite.
 
-ghost use Rattle.ssh_packet.specs.Laws.{OnePacket, FrontWhole, OpensAgain, FrontStays, OneReading, PlainReading, Carried, Padded};
+ghost use Rattle.ssh_packet.specs.Laws.{OnePacket, FrontWhole, OpensAgain, FrontStays};
+ghost use Rattle.ssh_packet.specs.Laws.{OneReading, PlainReading, Carried, Padded};
 
 /// State, number and bytes determine a packet, whatever follows it.
 pub fn one_packet()
