@@ -1,17 +1,16 @@
 -- Reading depends on the bytes and not on their cuts.
-use Rattle.std.proofs.Common.{◌≡◌, ℕ, zero, suc, ◌+◌, ◌-◌, ◌<◌, ◌≤◌, Bool, true, false, List, [], ◌∷◌, ◌++◌, length, take, drop, Option, Some, None, Result, Ok, Err, if◌then◌else◌, nat_lt, nat_le, refl, sym, ap, ◌∙◌, subst, append_assoc, length-append, length-drop, arith}
+use Rattle.std.proofs.Common.{◌≡◌, ℕ, zero, suc, ◌+◌, ◌-◌, ◌<◌, ◌≤◌, Bool, true, false, List, [], ◌∷◌, ◌++◌, length, take, drop, Option, Some, None, Result, Ok, if◌then◌else◌, nat_lt, nat_le, refl, sym, ap, ◌∙◌, subst, append_assoc, length-append, length-drop, arith}
 use Rattle.std.proofs.lemmas.Bool.Decides.{nat_tests}
 use Rattle.std.proofs.lemmas.List.{take-append-le, drop-append-le}
-use Rattle.ssh_wire.specs.Lines.{IdFound, NotYet, Id, Version, behind, id_of, line_end, line_text, is_id_text, Line, Unfinished, IdLine, OtherLine, TooLong, line_to, line_of, other_line_limit}
-use Rattle.ssh_wire.specs.Reading.{IdReading, Waiting, Heard, Failed, still_allowed, by_end, left_of, Decides, Feeds}
+use Rattle.ssh_wire.specs.Lines.{IdFound, NotYet, Id, Version, behind, id_of, line_end, line_text, is_id_text, Line, Unfinished, IdLine, OtherLine, TooLong, line_to, line_of}
+use Rattle.ssh_wire.specs.Reading.{IdReading, Waiting, Heard, Failed, still_allowed, left_of, Decides, Feeds}
 use Rattle.ssh_wire.specs.Stepping.{shifted}
 use Rattle.ssh_wire.specs.declared.error.Error.{Error}
-use Rattle.ssh_wire.specs.declared.error.Error.TheVariants as error
 use Rattle.ssh_wire.specs.declared.read_id.IdProgress.{IdProgress}
 use Rattle.ssh_wire.specs.declared.read_id.IdProgress.TheVariants as progress
 use Rattle.ssh_wire.proofs.LineLaws.{line_end-stays, line_end-within, lf_end-within}
 use Rattle.ssh_wire.proofs.Ends.{line_end-append}
-use Rattle.ssh_wire.proofs.LineByLine.{from_line, next, id_of_line, left_other, left_unfinished, end_of_other, end_of_id, no_end}
+use Rattle.ssh_wire.proofs.LineByLine.{next, id_of_line, left_other, left_unfinished, end_of_other, end_of_id, no_end}
 
 -- a line that was found, and what is known of its end
 line_stays : (b q : List ℕ) (n : ℕ) → line_end b ≡ Some n → line_of (b ++ q) ≡ line_of b

@@ -1,11 +1,11 @@
 -- What bytes begin with, by their first line.
-use Rattle.std.proofs.Common.{◌≡◌, ℕ, zero, suc, ◌+◌, ◌-◌, ◌<◌, ◌≤◌, Bool, true, false, List, [], ◌∷◌, ◌++◌, length, take, drop, Option, Some, None, Result, Ok, Err, if◌then◌else◌, nat_lt, nat_le, refl, sym, ap, ◌∙◌, subst, arith}
+use Rattle.std.proofs.Common.{◌≡◌, ℕ, zero, suc, ◌+◌, ◌-◌, ◌<◌, ◌≤◌, Bool, true, false, List, [], ◌++◌, length, take, drop, Option, Some, None, Result, Ok, Err, if◌then◌else◌, nat_lt, nat_le, refl, sym, ap, ◌∙◌, subst, arith}
 use Rattle.std.proofs.lemmas.Bool.Decides.{nat_tests}
 use Rattle.std.proofs.Math.Seq.{drop-append-add, take-length}
 use Rattle.std.proofs.lemmas.List.{drop-drop, length-drop}
 use Rattle.ssh_wire.specs.Lines.{IdFound, NotYet, Id, Version, behind, judged, id_of, line_end, line_text, is_id_text, Line, Unfinished, IdLine, OtherLine, TooLong, line_to, line_of, other_line_limit}
 use Rattle.ssh_wire.specs.Reading.{IdReading, Waiting, Heard, Failed, still_allowed, by_end, left_of, Decides, Feeds}
-use Rattle.ssh_wire.specs.Stepping.{ReadsTo, ReadsLine, passed, may_pass, PassesOther, shifted, GoesOn, others_left}
+use Rattle.ssh_wire.specs.Stepping.{ReadsTo, ReadsLine, may_pass, PassesOther, shifted, GoesOn, others_left}
 use Rattle.ssh_wire.specs.declared.error.Error.{Error}
 use Rattle.ssh_wire.specs.declared.error.Error.TheVariants as error
 use Rattle.ssh_wire.specs.declared.read_id.IdProgress.{IdProgress}

@@ -1,7 +1,7 @@
 -- Numbers without their leading zeros, and with the zero byte that keeps the first bit clear.
-use Rattle.std.proofs.Common.{◌≡◌, ℕ, suc, ◌+◌, ◌-◌, ◌*◌, ◌^◌, ◌<◌, ◌≤◌, Bool, true, false, ◌==◌, ◌&&◌, ◌||◌, nat_lt, nat_le, nat_eq, List, [], ◌∷◌, ◌++◌, length, if◌then◌else◌, refl, sym, ap, ◌∙◌, arith}
+use Rattle.std.proofs.Common.{◌≡◌, ℕ, ◌+◌, ◌<◌, ◌≤◌, Bool, true, false, ◌&&◌, ◌||◌, nat_lt, nat_le, nat_eq, List, [], ◌∷◌, length, if◌then◌else◌, refl, ap, ◌∙◌, arith}
 use Rattle.std.proofs.lemmas.Bool.Decides.{nat_tests}
-use Rattle.ssh_wire.specs.Forms.{magnitude, unsigned, number}
+use Rattle.ssh_wire.specs.Forms.{magnitude, unsigned}
 use Rattle.ssh_wire.specs.Fields.{is_shortest}
 
 -- no zero byte stands at the front

@@ -1,10 +1,9 @@
 -- Names taken from a text and joined again.
-use Rattle.std.proofs.Common.{◌≡◌, ℕ, zero, suc, ◌+◌, ◌-◌, ◌==◌, ◌&&◌, ◌||◌, ◌<◌, ◌≤◌, Bool, true, false, not, nat_lt, nat_le, nat_eq, List, [], ◌∷◌, ◌++◌, length, take, drop, slice_index, get_or, Option, Some, None, Result, Ok, Err, ◌⊎◌, All, if◌then◌else◌, refl, sym, ap, ◌∙◌, subst, inl, inr, append_assoc, append-nil, arith}
+use Rattle.std.proofs.Common.{◌≡◌, ℕ, zero, suc, ◌+◌, ◌-◌, ◌&&◌, ◌<◌, ◌≤◌, Bool, true, false, nat_lt, nat_le, List, [], ◌∷◌, ◌++◌, length, take, drop, slice_index, get_or, Option, Some, None, Result, Ok, Err, ◌⊎◌, All, if◌then◌else◌, refl, sym, ap, ◌∙◌, inl, inr, append_assoc, append-nil, arith}
 use Rattle.std.specs.List.{slice_split, list_all, position_or_len}
 use Rattle.std.specs.Prelude.{position}
 use Rattle.std.specs.Str.{IsAscii, is_utf8}
 use Rattle.std.proofs.lemmas.Bool.Decides.{nat_tests}
-use Rattle.std.proofs.lemmas.Bool.{cases_lt}
 use Rattle.std.proofs.lemmas.Grind.{take_at_read}
 use Rattle.std.proofs.lemmas.List.{length-append, get_or-append_right}
 use Rattle.std.proofs.lemmas.List.Elements.{All-get_or, All-from_get_or, All-head, All-tail}
@@ -19,7 +18,6 @@ use Rattle.ssh_wire.specs.Names.{is_comma, is_name, fault_of, or_later, first_fa
 use Rattle.ssh_wire.specs.Naming.{behind_comma, Spelled}
 use Rattle.ssh_wire.proofs.FieldLaws.{bind_ok, same_pair, limited_takes, limited_again}
 use Rattle.ssh_wire.specs.declared.error.EncodingFault.{EncodingFault}
-use Rattle.ssh_wire.specs.declared.error.EncodingFault.TheVariants.{Length, CharacterEncoding}
 use Rattle.ssh_wire.specs.declared.error.Error.{Error}
 use Rattle.ssh_wire.specs.declared.error.Error.TheVariants.{SshEncoding, Memory}
 

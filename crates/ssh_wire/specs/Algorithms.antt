@@ -3,7 +3,6 @@ use Rattle.std.specs.Prelude.{◌≡◌, ℕ, List, [], ◌∷◌, ◌++◌, cod
 use Rattle.std.specs.Str.{bytes_eq}
 use Rattle.ssh_wire.specs.declared.algorithm.Algorithm.{Algorithm}
 use Rattle.ssh_wire.specs.declared.algorithm.Algorithm.TheVariants.{Ed25519, Ecdsa, Rsa}
-use Rattle.ssh_wire.specs.declared.algorithm.EcdsaCurve.{EcdsaCurve}
 use Rattle.ssh_wire.specs.declared.algorithm.EcdsaCurve.TheVariants.{NistP256, NistP384, NistP521}
 use Rattle.ssh_wire.specs.declared.algorithm.HashAlg.{HashAlg}
 use Rattle.ssh_wire.specs.declared.algorithm.HashAlg.TheVariants.{Sha256, Sha512}

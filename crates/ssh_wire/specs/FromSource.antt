@@ -1,8 +1,8 @@
 -- Reading a version line from a source of bytes.
-use Rattle.std.specs.Prelude.{◌≡◌, ℕ, ◌+◌, ◌*◌, ◌-◌, ◌<◌, ◌≤◌, ◌==◌, if◌then◌else◌, Bool, List, [], ◌++◌, length, take, drop, Option, Some, IfSome, Result, Ok, Err, ◌⊎◌}
+use Rattle.std.specs.Prelude.{◌≡◌, ℕ, ◌+◌, ◌*◌, ◌-◌, ◌==◌, if◌then◌else◌, Bool, List, [], ◌++◌, length, drop, Option, Some, Result, Ok, Err, ◌⊎◌}
 use Rattle.ssh_wire.specs.Lines.{other_line_limit, id_of, Id}
 use Rattle.ssh_wire.specs.Outside.{Rose, IsAtEnd, TakesNext}
-use Rattle.ssh_wire.specs.Reading.{IdReading, Waiting, Heard, Failed, still_allowed, Feeds, IsShort}
+use Rattle.ssh_wire.specs.Reading.{IdReading, Waiting, Heard, Failed, still_allowed, Feeds}
 use Rattle.ssh_wire.specs.Stepping.{shifted}
 use Rattle.ssh_wire.specs.declared.error.Error.{Error}
 use Rattle.ssh_wire.specs.declared.error.Error.TheVariants as error

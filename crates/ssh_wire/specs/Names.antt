@@ -1,8 +1,7 @@
 -- Name lists as text (RFC 4251 section 5, name-list).
-use Rattle.std.specs.Prelude.{◌≡◌, ℕ, ◌+◌, ◌-◌, ◌==◌, ◌&&◌, ◌<◌, ◌≤◌, nat_lt, nat_le, not, Bool, true, false, if◌then◌else◌, List, [], ◌∷◌, ◌++◌, length, take, slice_index, codes, replicate, Option, Some, None, Result, Ok, Err, All, refl}
+use Rattle.std.specs.Prelude.{◌≡◌, ℕ, ◌+◌, ◌-◌, ◌==◌, ◌&&◌, ◌<◌, ◌≤◌, nat_lt, nat_le, not, Bool, true, false, if◌then◌else◌, List, [], ◌∷◌, length, take, slice_index, codes, Option, Some, None, Result, Ok, Err, All, refl}
 use Rattle.std.specs.List.{slice_split, list_all}
-use Rattle.ssh_wire.specs.Forms.{joined, name_list}
-use Rattle.ssh_wire.specs.Fields.{◌>>=◌, limited_at, string_at, u32_at}
+use Rattle.ssh_wire.specs.Fields.{◌>>=◌, limited_at}
 use Rattle.ssh_wire.specs.declared.error.EncodingFault.{EncodingFault}
 use Rattle.ssh_wire.specs.declared.error.EncodingFault.TheVariants.{Length, CharacterEncoding}
 

@@ -4,7 +4,6 @@ use Rattle.std.specs.List.{slice_split}
 use denote.Ref.{Bor}
 use Rattle.ssh_wire.specs.Forms.{joined, string}
 use Rattle.ssh_wire.specs.Names.{is_comma, names_of, without_last_comma}
-use Rattle.ssh_wire.specs.declared.bytes.Text.{Text}
 use Rattle.ssh_wire.specs.declared.error.EncodingFault.{EncodingFault}
 use Rattle.ssh_wire.specs.declared.error.Error.{Error}
 use Rattle.ssh_wire.specs.declared.error.Error.TheVariants.{SshEncoding, Memory}

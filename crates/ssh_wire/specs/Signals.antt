@@ -1,5 +1,5 @@
 -- Signals and their names (RFC 4254 section 6.10).
-use Rattle.std.specs.Prelude.{◌≡◌, ℕ, List, [], ◌∷◌, codes, Option, Some, None, if◌then◌else◌, unwrap_or, refl}
+use Rattle.std.specs.Prelude.{◌≡◌, ℕ, List, codes, Option, Some, None, if◌then◌else◌, unwrap_or, refl}
 use Rattle.std.specs.Str.{bytes_eq}
 use Rattle.ssh_wire.specs.declared.signal.Sig.{Sig}
 use Rattle.ssh_wire.specs.declared.signal.Sig.TheVariants.{ABRT, ALRM, FPE, HUP, ILL, INT, KILL, PIPE, QUIT, SEGV, TERM, USR1, Custom}

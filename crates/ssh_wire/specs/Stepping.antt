@@ -1,5 +1,5 @@
 -- Reading one line after the other.
-use Rattle.std.specs.Prelude.{◌≡◌, ℕ, ◌+◌, ◌-◌, ◌≤◌, ◌&&◌, nat_lt, Bool, true, false, List, [], ◌++◌, length, drop, Result, Ok, Err, if◌then◌else◌}
+use Rattle.std.specs.Prelude.{◌≡◌, ℕ, ◌+◌, ◌-◌, ◌≤◌, ◌&&◌, nat_lt, Bool, true, false, List, [], ◌++◌, length, drop, Result, Ok, Err}
 use Rattle.ssh_wire.specs.Lines as lines
 use Rattle.ssh_wire.specs.Lines.{line_of, other_line_limit}
 use Rattle.ssh_wire.specs.Reading.{IdReading, Waiting, Heard, Failed, Feeds}

@@ -10,7 +10,7 @@ use std::test::Fail;
 #[derive(Debug, Drop)]
 struct Bytes<'a> {
     bytes: &'a [u8],
-    step: usize,
+    step: u16,
     is_broken: bool,
     faults: u64,
 }
@@ -25,7 +25,9 @@ impl Source for Bytes<'_> {
             self.faults = self.faults.saturating_add(1);
             return Err(Failed::Failed);
         }
-        let size = (self.step + 1).min(self.bytes.len()).min(out.len());
+        let size = (usize::from(self.step) + 1)
+            .min(self.bytes.len())
+            .min(out.len());
         let (front, rest) = self.bytes.split_at(size);
         out[..size].copy_from_slice(front);
         self.bytes = rest;
@@ -34,7 +36,7 @@ impl Source for Bytes<'_> {
 }
 
 /// A source of the bytes, of which no call fails.
-fn source_of(bytes: &[u8], step: usize) -> Bytes<'_> {
+fn source_of(bytes: &[u8], step: u16) -> Bytes<'_> {
     Bytes {
         bytes,
         step,

@@ -1,4 +1,4 @@
-use Rattle.std.proofs.Common.{◌≡◌, take, refl, arith}
+use Rattle.std.proofs.Common.{take, arith}
 use Rattle.ssh_wire.specs.declared.read_id.IdProgress.TheVariants as progress
 use Rattle.ssh_wire.proofs.Sources.{shown, sliced, so_far_start, so_far_next, finds, refuses, none_left, used_within, heard_is, fewer_turns}
 use Rattle.ssh_wire.proofs.from_source.read_until_id.Goals as goal

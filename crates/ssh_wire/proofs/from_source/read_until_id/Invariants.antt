@@ -1,4 +1,4 @@
-use Rattle.std.proofs.Common.{◌≡◌, ◌≤◌, length, take, IfSome}
+use Rattle.std.proofs.Common.{◌≤◌, length, take, IfSome}
 use Rattle.ssh_wire.specs.Reading.{IsShort}
 use Rattle.ssh_wire.specs.FromSource.{SoFar, turns_left}
 use Rattle.ssh_wire.proofs.from_source.read_until_id.Given as goal

@@ -1,4 +1,4 @@
-use Rattle.std.proofs.Common.{◌≡◌, ◌++◌, length, take}
+use Rattle.std.proofs.Common.{◌≡◌, ◌++◌, take}
 use Rattle.ssh_wire.specs.Forms.{joined}
 use Rattle.ssh_wire.proofs.name_list.put_names.Given as goal
 

@@ -3,7 +3,7 @@ use Rattle.std.specs.Str.{is_utf8}
 use Rattle.std.specs.String.{string_bytes}
 use Rattle.ssh_wire.specs.Forms.{AreBytes, string}
 use Rattle.ssh_wire.specs.Fields.{limited_at}
-use Rattle.ssh_wire.proofs.FieldLaws.{limited_takes, limited_again, read_once, never_refused, Spells}
+use Rattle.ssh_wire.proofs.FieldLaws.{limited_takes, limited_again, read_once, never_refused}
 use Rattle.ssh_wire.proofs.limited.LimitedString.decode.Goals as goal
 
 found : (most : ℕ) (bytes old text kept rest new : List ℕ) → AreBytes old → bytes ≡ old → limited_at most bytes ≡ Ok (text, rest) → kept ≡ text → new ≡ rest → (old ≡ string kept ++ new) × (length kept ≤ most) × (is_utf8 kept ≡ true)

@@ -1,7 +1,6 @@
 -- Each answer about the rest of the piece is carried to the whole of it.
-use Rattle.std.proofs.Common.{◌≡◌, ◌+◌, ◌-◌, ◌≤◌, sym, ap, drop, take, length, subst, List, ℕ, Err, Ok, Result, arith}
+use Rattle.std.proofs.Common.{◌-◌, ◌≤◌, drop, take, length, Err, Ok, arith}
 use Rattle.std.proofs.lemmas.Grind.{common_steps}
-use Rattle.ssh_wire.specs.Stepping.{ReadsLine, PassesOther}
 use Rattle.ssh_wire.specs.declared.error.Error.TheVariants as error
 use Rattle.ssh_wire.specs.declared.read_id.IdProgress.TheVariants as progress
 use Rattle.ssh_wire.proofs.LineByLine.{rest_of, exit_unfinished, exit_id, exit_long, exit_other, goes_further}
