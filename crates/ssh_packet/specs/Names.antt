@@ -1,6 +1,10 @@
 -- The names of ciphers (RFC 4253 section 6.3, RFC 4344 section 4, RFC 5647 section 6), and that of no
 -- compression (RFC 4253 section 6.2).
 use Rattle.std.specs.Prelude.{ℕ, Bool, true, false, List, codes}
+use Rattle.ssh_aes.specs.Modes.{Ctr, Cbc}
+use Rattle.ssh_mac.specs.Tags.{MacOf}
+use Rattle.ssh_packet.specs.Sealing as sealing
+use Rattle.ssh_packet.specs.Sealing.{Sealing, Block, Gcm}
 use Rattle.ssh_packet.specs.declared.cipher.Name.{Name}
 use Rattle.ssh_packet.specs.declared.cipher.Name.TheVariants.{Clear, NoCipher, Aes128Ctr, Aes192Ctr, Aes256Ctr, Aes128Gcm, Aes256Gcm, Aes128Cbc, Aes192Cbc, Aes256Cbc}
 use Rattle.ssh_packet.specs.declared.compression.Name as compression
@@ -57,6 +61,19 @@ nonce_length Aes256Gcm = 12
 nonce_length Aes128Cbc = 16
 nonce_length Aes192Cbc = 16
 nonce_length Aes256Cbc = 16
+
+-- what its packets are sealed under at the first of an epoch, by the key, the nonce and the MAC
+abbrev pub sealing_named : Name → List ℕ → List ℕ → MacOf → Sealing
+sealing_named Clear key nonce mac = sealing.Clear
+sealing_named NoCipher key nonce mac = sealing.Clear
+sealing_named Aes128Ctr key nonce mac = Block (Ctr key nonce 0) mac
+sealing_named Aes192Ctr key nonce mac = Block (Ctr key nonce 0) mac
+sealing_named Aes256Ctr key nonce mac = Block (Ctr key nonce 0) mac
+sealing_named Aes128Gcm key nonce mac = Gcm key nonce
+sealing_named Aes256Gcm key nonce mac = Gcm key nonce
+sealing_named Aes128Cbc key nonce mac = Block (Cbc key nonce) mac
+sealing_named Aes192Cbc key nonce mac = Block (Cbc key nonce) mac
+sealing_named Aes256Cbc key nonce mac = Block (Cbc key nonce) mac
 
 abbrev pub compression_text : compression.Name → List ℕ
 compression_text compressions.None = codes "none"

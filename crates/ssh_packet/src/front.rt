@@ -35,6 +35,7 @@ pub fn find(key: &OpenKey, bytes: &[u8]) -> Found
 {
     match key {
         OpenKey::Clear(_) => find_clear(bytes),
+        _ => Found::Unfinished,
     }
 }
 

@@ -20,7 +20,7 @@ mod writer;
 pub use crate::buffer::SSHBuffer;
 pub use crate::cipher::{OpeningKey, SealingKey};
 pub use crate::error::OpenError;
-pub use crate::keys::{OpenKey, SealKey};
+pub use crate::keys::{CipherPair, OpenKey, SealKey};
 pub use crate::laws::{
     carried, front_stays, front_whole, one_packet, one_reading, opens_again, padded, plain_reading,
 };

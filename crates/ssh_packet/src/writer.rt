@@ -24,7 +24,7 @@ const LONGEST_PAYLOAD: usize = 262157;
 const LONGEST_TAIL: usize = 19 + 64;
 
 /// Seals payloads one after the other, behind what its buffer holds.
-#[derive(Debug, Drop)]
+#[derive(Drop)]
 pub struct PacketWriter {
     buffer: SSHBuffer,
     cipher: SealKey,
