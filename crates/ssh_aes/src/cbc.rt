@@ -85,4 +85,8 @@ impl PacketLengthProbe for CbcWrapper {
         let mut last = self.last;
         unchain(&self.aes, &mut last, first_block);
     }
+
+    fn least_len(&self) -> usize {
+        16
+    }
 }

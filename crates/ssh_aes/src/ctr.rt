@@ -102,4 +102,8 @@ impl PacketLengthProbe for CtrWrapper {
     fn decrypt_packet_length_block(&self, first_block: &mut [u8; 16]) {
         self.mask(first_block);
     }
+
+    fn least_len(&self) -> usize {
+        4
+    }
 }

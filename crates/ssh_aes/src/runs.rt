@@ -1,7 +1,7 @@
 //! What a sealing key asks of a cipher that runs on from packet to packet.
 
-ghost use Rattle.std.specs.Prelude.{◌≡◌};
-ghost use Rattle.ssh_aes.specs.Modes.{Running, masked, unmasked, moved, passed};
+ghost use Rattle.std.specs.Prelude.{◌≡◌, ◌≤◌};
+ghost use Rattle.ssh_aes.specs.Modes.{Running, masked, unmasked, moved, passed, least};
 
 /// A cipher that encrypts or decrypts a text of any length in place, and runs on behind it. How it
 /// runs on is a `Running`, of which `runs_well`, `opens_well` and `streams_undone` state the laws.
@@ -25,4 +25,9 @@ pub trait PacketLengthProbe: BlockStreamCipher {
     /// Decrypts the first block as `decrypt_data` would, and stays where it is.
     fn decrypt_packet_length_block(&self, first_block: &mut [u8; 16])
         ensures { first_block.new ≡ unmasked (Self.running self.now) first_block.old };
+
+    /// How many bytes of a text have to be there for its packet length to be read: 4, or a whole block of 16.
+    fn least_len(&self) -> usize
+        ensures value { result ≡ least (Self.running self.now) }
+        ensures short { result ≤ 16 };
 }

@@ -99,6 +99,14 @@ impl<C: PacketLengthProbe, M: Mac> cipher::OpeningKey for OpeningKey<C, M> {
         self.mac.mac_len()
     }
 
+    fn shortest_packet(&self) -> usize {
+        if self.mac.is_etm() {
+            4
+        } else {
+            self.cipher.least_len()
+        }
+    }
+
     fn open_in_place(&mut self, seqn: u32, packet: &mut [u8], tag: &[u8]) -> Result<(), OpenError> {
         if self.mac.is_etm() {
             if !self.mac.verify(seqn, packet, tag) {

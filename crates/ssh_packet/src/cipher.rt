@@ -6,7 +6,7 @@ ghost use Rattle.std.specs.Int.{w32, from_be_bytes};
 ghost use Rattle.ssh_packet.specs.Errors.{open_error};
 ghost use Rattle.ssh_packet.specs.Front.{length_in, opened_past, packet_of, tag_behind, tag_fault, tag_for, text_in};
 ghost use Rattle.ssh_packet.specs.Sealing.{Sealing, closed, filling, longest_payload, moved_past};
-ghost use Rattle.ssh_packet.specs.Sealing.{padding_length, probe, tag_size};
+ghost use Rattle.ssh_packet.specs.Sealing.{padding_length, probe, shortest, tag_size};
 
 use crate::error::OpenError;
 use rand_core::Rng;
@@ -61,6 +61,12 @@ pub trait OpeningKey {
     fn tag_len(&self) -> usize
         ensures value { result ≡ tag_size (opening self.now) }
         ensures short { result ≤ 64 };
+
+    /// How many bytes the shortest packet has without its tag: 4, or 16 where chaining mode encrypts the
+    /// packet length.
+    fn shortest_packet(&self) -> usize
+        ensures value { result ≡ shortest (opening self.now) }
+        ensures short { result ≤ 16 };
 
     /// Opens a packet in place, its tag beside it. PacketAuth where the tag of an HMAC is another,
     /// DecryptionError where that of Galois counter mode is.

@@ -45,6 +45,10 @@ impl OpeningKey for Key {
         0
     }
 
+    fn shortest_packet(&self) -> usize {
+        4
+    }
+
     fn open_in_place(
         &mut self,
         _seqn: u32,

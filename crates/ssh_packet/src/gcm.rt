@@ -99,6 +99,10 @@ impl cipher::OpeningKey for OpeningKey {
         16
     }
 
+    fn shortest_packet(&self) -> usize {
+        4
+    }
+
     fn open_in_place(
         &mut self,
         _seqn: u32,

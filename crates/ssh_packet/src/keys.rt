@@ -99,6 +99,15 @@ impl OpeningKey for OpenKey {
         }
     }
 
+    fn shortest_packet(&self) -> usize {
+        match self {
+            OpenKey::Clear(key) => key.shortest_packet(),
+            OpenKey::Ctr(key) => key.shortest_packet(),
+            OpenKey::Cbc(key) => key.shortest_packet(),
+            OpenKey::Gcm(key) => key.shortest_packet(),
+        }
+    }
+
     fn tag_len(&self) -> usize {
         match self {
             OpenKey::Clear(key) => OpeningKey::tag_len(key),
