@@ -14,7 +14,7 @@ use std::alloc::Global;
 use std::mem;
 
 /// One side of a clear link.
-#[derive(Debug, Drop)]
+#[derive(Drop)]
 pub struct ClearEnd {
     pub writer: PacketWriter,
     pub receiver: Receiver,
@@ -84,7 +84,7 @@ impl ClearEnd {
 }
 
 /// Both sides.
-#[derive(Debug, Drop)]
+#[derive(Drop)]
 pub struct ClearLink {
     pub client: ClearEnd,
     pub server: ClearEnd,

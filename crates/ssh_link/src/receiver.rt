@@ -15,7 +15,6 @@ use std::alloc::Global;
 pub struct Receiver {
     pub id: ReadSshIdBuffer,
     pub reader: PacketReader,
-    pub key: OpenKey,
     pub delivered: Vec<Payload>,
 }
 
@@ -31,7 +30,6 @@ impl Receiver {
         Receiver {
             id: ReadSshIdBuffer::new(),
             reader: PacketReader::new(alloc),
-            key: OpenKey::Clear(clear::Key),
             delivered: Vec::new(alloc),
         }
     }
@@ -54,7 +52,7 @@ impl Receiver {
         ensures cause { IfErr result (λ e. (e ≡ Memory) ⊎ CannotRead self.old bytes.now) }
     {
         self.reader.push(bytes)?;
-        while read_packet(&mut self.reader, &mut self.key, alloc, &mut self.delivered)? {}
+        while read_packet(&mut self.reader, alloc, &mut self.delivered)? {}
         Ok(())
     }
 }
@@ -62,7 +60,6 @@ impl Receiver {
 /// Delivers the next packet's payload, where one stands whole.
 fn read_packet(
     reader: &mut PacketReader,
-    key: &mut OpenKey,
     alloc: Global,
     delivered: &mut Vec<Payload>,
 ) -> Result<bool, Error>
@@ -72,7 +69,7 @@ fn read_packet(
         → DeliversNone reader.old reader.new delivered.old.items delivered.new.items) }
     ensures cause { IfErr result (λ e. (e ≡ Memory) ⊎ IsRefused reader.old) }
 {
-    match reader.next(key)? {
+    match reader.next(&mut OpenKey::Clear(clear::Key))? {
         Some(incoming) => {
             delivered.push(Payload::new(Vec::from_slice(alloc, incoming.payload)?))?;
             Ok(true)

@@ -6,4 +6,4 @@ use Rattle.ssh_link.proofs.receiver.read_packet.Goals as goal
 pub returns-in_err-incoming-clause-cause : goal.returns-in_err-incoming-clause-cause
 returns-in_err-incoming-clause-cause c =
     let p = err_from_is_err_and c.from_residual.result c.from_residual.ensures.1 in
-    rw p.1 (inr (is_refused c.args.reader.now _ c.args.key.now _ c.next.result _ c.in_err-incoming.was c.next.follows.holds-at-none))
+    rw p.1 (inr (is_refused c.args.reader.now _ _ c.next.result _ c.in_err-incoming.was c.next.follows.holds-at-none))
