@@ -7,4 +7,5 @@ pub mod KeyKinds
 pub mod Lent
 pub mod Padding
 pub mod Shapes
+pub mod Sound
 pub mod Streams

@@ -14,6 +14,10 @@ OnePacket = (sealing : Sealing) (number : ℕ) (a b : Item) (x y : List ℕ) →
 abbrev pub FrontWhole : Type 0
 FrontWhole = (sealing : Sealing) (number : ℕ) (item : Item) (rest : List ℕ) → IsAdmissible sealing item → front_of sealing number (sealed sealing number item ++ rest) ≡ Whole item rest
 
+-- and what the reader finds in bytes is an admissible packet that stands there sealed
+abbrev pub FrontSound : Type 0
+FrontSound = (sealing : Sealing) (number : ℕ) (bytes rest : List ℕ) (item : Item) → IsBytes bytes → front_of sealing number bytes ≡ Whole item rest → IsAdmissible sealing item × (bytes ≡ sealed sealing number item ++ rest)
+
 -- A packet and its tag that a framed text was sealed to open to the text, and leave what sealing left.
 abbrev pub OpensAgain : Type 0
 OpensAgain = (sealing : Sealing) (number : ℕ) (text packet tag : List ℕ) → IsBytes text → 4 ≤ length text → length packet ≡ length text → packet ++ tag ≡ closed sealing number text → (tag ≡ tag_for sealing number packet) × (text_in sealing packet ≡ text) × (opened_past sealing packet ≡ moved_past sealing text)

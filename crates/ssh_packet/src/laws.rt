@@ -1,6 +1,6 @@
 //! Laws of packets and of streams of packets, for proofs above to cite.
 
-ghost use Rattle.ssh_packet.specs.Laws.{OnePacket, FrontWhole, OpensAgain, FrontStays};
+ghost use Rattle.ssh_packet.specs.Laws.{OnePacket, FrontWhole, FrontSound, OpensAgain, FrontStays};
 ghost use Rattle.ssh_packet.specs.Laws.{OneReading, PlainReading, Carried, Padded};
 
 /// State, number and bytes determine a packet, whatever follows it.
@@ -11,6 +11,11 @@ pub fn one_packet()
 /// Opening undoes sealing.
 pub fn front_whole()
     ensures { FrontWhole }
+{}
+
+/// What a reader finds was sealed: an admissible packet, whose bytes stand at the front.
+pub fn front_sound()
+    ensures { FrontSound }
 {}
 
 /// At one key state and number, opening what was sealed gives what was sealed, and both leave one state.
