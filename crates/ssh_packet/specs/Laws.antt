@@ -22,6 +22,10 @@ FrontSound = (sealing : Sealing) (number : ℕ) (bytes rest : List ℕ) (item : 
 abbrev pub OpensAgain : Type 0
 OpensAgain = (sealing : Sealing) (number : ℕ) (text packet tag : List ℕ) → IsBytes text → 4 ≤ length text → length packet ≡ length text → packet ++ tag ≡ closed sealing number text → (tag ≡ tag_for sealing number packet) × (text_in sealing packet ≡ text) × (opened_past sealing packet ≡ moved_past sealing text)
 
+-- so does a pair of keys at one state, whatever their types: what one seals the other opens, and both are at one state again
+abbrev pub PairOpens : {S O : Type 0} → (S → Sealing) → (O → Sealing) → Type 0
+PairOpens {S} {O} sealing opening = (s : S) (o : O) (number : ℕ) (text packet tag : List ℕ) → sealing s ≡ opening o → IsBytes text → 4 ≤ length text → length packet ≡ length text → packet ++ tag ≡ closed (sealing s) number text → (tag ≡ tag_for (opening o) number packet) × (text_in (opening o) packet ≡ text) × (opened_past (opening o) packet ≡ moved_past (sealing s) text)
+
 -- what the reader finds doesn't change when bytes come behind
 abbrev pub FrontStays : Type 0
 FrontStays = ((sealing : Sealing) (number : ℕ) (bytes more rest : List ℕ) (item : Item) → front_of sealing number bytes ≡ Whole item rest → front_of sealing number (bytes ++ more) ≡ Whole item (rest ++ more))

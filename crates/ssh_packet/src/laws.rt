@@ -1,7 +1,9 @@
 //! Laws of packets and of streams of packets, for proofs above to cite.
 
-ghost use Rattle.ssh_packet.specs.Laws.{OnePacket, FrontWhole, FrontSound, OpensAgain, FrontStays};
+ghost use Rattle.ssh_packet.specs.Laws.{OnePacket, FrontWhole, FrontSound, OpensAgain, FrontStays, PairOpens};
 ghost use Rattle.ssh_packet.specs.Laws.{OneReading, PlainReading, Carried, Padded};
+
+use crate::cipher::{OpeningKey, SealingKey};
 
 /// State, number and bytes determine a packet, whatever follows it.
 pub fn one_packet()
@@ -21,6 +23,11 @@ pub fn front_sound()
 /// At one key state and number, opening what was sealed gives what was sealed, and both leave one state.
 pub fn opens_again()
     ensures { OpensAgain }
+{}
+
+/// So do a sealing key and an opening key of whatever types.
+pub fn pair_opens<S: SealingKey, O: OpeningKey>()
+    ensures { PairOpens S.sealing O.opening }
 {}
 
 /// What a reader finds stays what it is when bytes come behind.
