@@ -1,10 +1,10 @@
 -- What is true of every packet and of every stream of packets.
 use Rattle.std.specs.Prelude.{◌≡◌, ℕ, ◌+◌, ◌%◌, ◌≤◌, if◌then◌else◌, Bool, Some, List, [], ◌++◌, length}
 use Rattle.ssh_mac.specs.Tags.{is_encrypt_then_mac}
-use Rattle.ssh_packet.specs.Sealing.{Item, Sealing, Clear, Block, Gcm, IsAdmissible, IsBytes, closed, moved_past, sealed, padding_length}
+use Rattle.ssh_packet.specs.Sealing.{Item, Sealing, Clear, Block, Gcm, IsAdmissible, IsBytes, closed, moved_past, moved_on, sealed, padding_length}
 use Rattle.ssh_packet.specs.Stream.{Opening, Entries, EntriesBy, IsPlain, Reads, ReadsBy, first_place}
 use Rattle.ssh_packet.specs.Carried.{AgreeFor, SameFor}
-use Rattle.ssh_packet.specs.Front.{Whole, Fault, Refused, front_of, tag_for, text_in, opened_past}
+use Rattle.ssh_packet.specs.Front.{Whole, Fault, Refused, front_of, tag_for, text_in, opened_past, key_behind}
 
 -- state, number and bytes determine the packet, whatever follows it
 abbrev pub OnePacket : Type 0
@@ -17,6 +17,10 @@ FrontWhole = (sealing : Sealing) (number : ℕ) (item : Item) (rest : List ℕ) 
 -- A packet and its tag that a framed text was sealed to open to the text, and leave what sealing left.
 abbrev pub OpensAgain : Type 0
 OpensAgain = (sealing : Sealing) (number : ℕ) (text packet tag : List ℕ) → IsBytes text → 4 ≤ length text → length packet ≡ length text → packet ++ tag ≡ closed sealing number text → (tag ≡ tag_for sealing number packet) × (text_in sealing packet ≡ text) × (opened_past sealing packet ≡ moved_past sealing text)
+
+-- behind a packet that was sealed, what a reader opens with is what the writer seals under
+abbrev pub StatesAgree : Type 0
+StatesAgree = (sealing : Sealing) (number : ℕ) (item : Item) (rest : List ℕ) → key_behind sealing (sealed sealing number item ++ rest) rest ≡ moved_on sealing item
 
 -- what the reader finds doesn't change when bytes come behind
 abbrev pub FrontStays : Type 0

@@ -1,6 +1,6 @@
 //! Laws of packets and of streams of packets, for proofs above to cite.
 
-ghost use Rattle.ssh_packet.specs.Laws.{OnePacket, FrontWhole, OpensAgain, FrontStays};
+ghost use Rattle.ssh_packet.specs.Laws.{OnePacket, FrontWhole, OpensAgain, StatesAgree, FrontStays};
 ghost use Rattle.ssh_packet.specs.Laws.{OneReading, PlainReading, Carried, Padded};
 
 /// State, number and bytes determine a packet, whatever follows it.
@@ -16,6 +16,11 @@ pub fn front_whole()
 /// At one key state and number, opening what was sealed gives what was sealed, and both leave one state.
 pub fn opens_again()
     ensures { OpensAgain }
+{}
+
+/// Behind a packet that was sealed, what a reader opens with is what the writer seals under.
+pub fn states_agree()
+    ensures { StatesAgree }
 {}
 
 /// What a reader finds stays what it is when bytes come behind.

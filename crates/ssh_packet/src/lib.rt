@@ -23,6 +23,7 @@ pub use crate::error::OpenError;
 pub use crate::keys::{CipherPair, OpenKey, SealKey};
 pub use crate::laws::{
     carried, front_stays, front_whole, one_packet, one_reading, opens_again, padded, plain_reading,
+    states_agree,
 };
 pub use crate::reader::{Incoming, PacketReader};
 pub use crate::writer::PacketWriter;
