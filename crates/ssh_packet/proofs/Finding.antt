@@ -1,66 +1,133 @@
--- The packet that the code takes apart is the one that stands there.
-use Rattle.std.proofs.Common.{◌≡◌, ℕ, ◌+◌, ◌-◌, ◌*◌, ◌<◌, ◌≤◌, List, [], ◌∷◌, length, take, drop, slice_index, sym, ◌∙◌, ap, arith, Bool, true, false, if◌then◌else◌, nat_lt, ◌||◌, length-drop}
+-- The packet that the code opens is the one that stands there.
+use Rattle.std.proofs.Common.{◌≡◌, ℕ, ◌+◌, ◌-◌, ◌<◌, ◌≤◌, Bool, true, false, nat_lt, ◌||◌, List, ◌++◌, length, take, drop, slice_index, refl, sym, ◌∙◌, ap, arith, length-drop}
 use Rattle.std.proofs.lemmas.Bool.Decides.{nat_tests}
 use Rattle.std.proofs.lemmas.Grind.{common_steps}
-use Rattle.std.proofs.lemmas.List.{take-append-le, drop-append-le, take-append-drop}
-use Rattle.std.specs.Int.{w32, from_be_bytes}
-use Rattle.ssh_packet.specs.Sealing.{Clear}
-use Rattle.ssh_packet.specs.Front.{Whole, Unfinished, Refused, PacketSize, length_in, parted_by, is_bad_length, opened, measured, front_of}
-use Rattle.ssh_packet.specs.Finding.{FindsWhole}
-use Rattle.ssh_packet.proofs.Fronts.{not_below, left_out, three_false}
-
--- bytes inside a front are those of the whole
-inside : (bytes : List ℕ) (m k : ℕ) → m ≤ length bytes → 5 + k ≤ m → take k (drop 5 (take m bytes)) ≡ take k (drop 5 bytes)
-inside bytes m k h i =
-    let size : length (take m bytes) ≡ m = grind (arith, common_steps) in
-    let five : 5 ≤ length (take m bytes) = omega arith in
-    let room : k ≤ length (drop 5 (take m bytes)) = omega (arith, length-drop 5 (take m bytes)) in
-    sym (ap (λ t. take k (drop 5 t)) (sym (take-append-drop m bytes)) ∙ (ap (take k) (drop-append-le 5 (take m bytes) (drop m bytes) five) ∙ take-append-le k (drop 5 (take m bytes)) (drop m bytes) room))
-
-pub finds_whole : (number size padding : ℕ) (bytes : List ℕ) → 4 + size ≤ length bytes → padding + 2 ≤ size → padding ≡ slice_index (take (4 + size) bytes) 4 → FindsWhole (opened Clear number size bytes) bytes (size - 1 - padding) (4 + size)
-finds_whole number size padding bytes whole long at =
-    let back : slice_index (take (4 + size) bytes) 4 ≡ padding = sym at in (
-      drop (size - 1 - padding) (drop 5 (take (4 + size) bytes)),
-      left_out (nat_lt (length bytes) (4 + size + 0)) _ _ (not_below _ _ (omega arith))
-          ∙ (ap (λ p. parted_by p size (drop 5 (take (4 + size) bytes)) (drop (4 + size) bytes)) back
-          ∙ (left_out (nat_lt size padding) _ _ (not_below _ _ (omega arith))
-          ∙ (left_out (nat_lt size (padding + 2)) _ _ (not_below _ _ (omega arith))
-          ∙ ap (λ t. Whole (record { payload = t; padding = drop (size - 1 - padding) (drop 5 (take (4 + size) bytes)) }) (drop (4 + size) bytes)) (inside bytes (4 + size) (size - 1 - padding) whole (omega arith))))),
-    )
-
-pub length_shown : (bytes : List ℕ) → 4 ≤ length bytes → slice_index bytes 0 * 16777216 + slice_index bytes 1 * 65536 + slice_index bytes 2 * 256 + slice_index bytes 3 ≡ from_be_bytes w32 (take 4 bytes)
-length_shown [] h = absurd (omega arith)
-length_shown (a ∷ []) h = absurd (omega arith)
-length_shown (a ∷ b ∷ []) h = absurd (omega arith)
-length_shown (a ∷ b ∷ c ∷ []) h = absurd (omega arith)
-length_shown (a ∷ b ∷ c ∷ d ∷ rest) h = omega arith
-
-choice_true : {A : Type 0} (b : Bool) (x y : A) → b ≡ true → (if b then x else y) ≡ x
-choice_true b x y h = ap (λ t. if t then x else y) h
+use Rattle.std.proofs.lemmas.List.{take-append-le, drop-append-le, take-append-drop, length-take-le, drop-drop}
+use Rattle.std.proofs.lemmas.Slice.Eq.{bytes_eq-Decides}
+use Rattle.std.proofs.Math.Seq.{drop-append-add}
+use Rattle.std.specs.Str.{bytes_eq}
+use Rattle.ssh_packet.proofs.Fronts.{not_below, left_out, taken_in, length_stays}
+use Rattle.ssh_packet.specs.Errors.{open_error}
+use Rattle.ssh_packet.specs.Finding.{RefusesBy, IsBadLength, IsSizeOnly, StandsWhole, OpensPart}
+use Rattle.ssh_packet.specs.Front as front
+use Rattle.ssh_packet.specs.Front.{Front, Whole, Unfinished, Refused, front_of, length_in, is_bad_length, measured, opened, checked, parted, parted_by, text_in, tag_for, tag_fault, opened_past, packet_of, key_behind}
+use Rattle.ssh_packet.specs.Sealing.{Sealing, Clear, Block, Gcm, probe, tag_size, longest_packet}
+use Rattle.ssh_packet.specs.declared.error.OpenError.{OpenError}
+use Rattle.ssh_packet.specs.declared.error.OpenError.TheVariants.{PacketSize, PacketAuth, DecryptionError}
 
 below : (a b : ℕ) → a < b → nat_lt a b ≡ true
 below a b h = grind (arith, nat_tests)
 
-pub finds_few : (bytes : List ℕ) → length bytes < 4 → (number : ℕ) → front_of Clear number bytes ≡ Unfinished
+at_most : (a b : ℕ) → nat_lt a b ≡ false → b ≤ a
+at_most a b h = grind (arith, nat_tests)
+
+-- ---- the packet length
+
+pub few : (s : Sealing) (number p : ℕ) (bytes : List ℕ) → p ≡ probe s → length bytes < p → front_of s number bytes ≡ Unfinished
 unfolding front_of
-finds_few bytes h number = choice_true _ _ _ (below (length bytes) 4 h)
+few s number p bytes asked h = taken_in _ _ _ (below (length bytes) (probe s) (omega (arith, asked, h)))
 
--- the packet length is shown
-pub front_measured : (bytes : List ℕ) → 4 ≤ length bytes → (number : ℕ) → front_of Clear number bytes ≡ measured Clear number (length_in Clear bytes) bytes
+-- the bytes that the reader asks for show the packet length
+length_shown : (s : Sealing) (bytes : List ℕ) → probe s ≤ length bytes → length_in s (take (probe s) bytes) ≡ length_in s bytes
+length_shown s bytes h =
+    let size : length (take (probe s) bytes) ≡ probe s = length-take-le (probe s) bytes h in
+    sym (length_stays s (take (probe s) bytes) (drop (probe s) bytes) (omega (arith, size))) ∙ ap (length_in s) (take-append-drop (probe s) bytes)
+
+pub front_measured : (s : Sealing) (number p n : ℕ) (bytes : List ℕ) → p ≡ probe s → p ≤ length bytes → n ≡ length_in s (take p bytes) → front_of s number bytes ≡ measured s number n bytes
 unfolding front_of
-front_measured bytes h number = left_out _ _ _ (not_below (length bytes) 4 h)
+front_measured s number p n bytes asked h shown =
+    let there : probe s ≤ length bytes = omega (arith, asked, h) in
+    let size : n ≡ length_in s bytes = shown ∙ (ap (λ q. length_in s (take q bytes)) asked ∙ length_shown s bytes there) in
+    left_out _ _ _ (not_below (length bytes) (probe s) there) ∙ ap (λ k. measured s number k bytes) (sym size)
 
-or_true : (a b : Bool) → a ≡ true → (a || b) ≡ true
-or_true a b h = ap (λ t. t || b) h
+pub bad_length : (s : Sealing) (number n : ℕ) (bytes : List ℕ) → front_of s number bytes ≡ measured s number n bytes → is_bad_length s n ≡ true → RefusesBy (front_of s number bytes) (PacketSize n) × IsBadLength s (PacketSize n)
+bad_length s number n bytes there bad = ((front.PacketSize n, refl, there ∙ taken_in _ _ _ bad), (n, refl, bad))
 
-good_clear : (n : ℕ) → n ≤ 262177 → is_bad_length Clear n ≡ false
-good_clear n h = three_false _ _ _ (not_below 262177 n h) (not_below (n + 4 + 0) 4 (omega arith)) (not_below (n + 4) 4 (omega arith))
+pub less_than_whole : (s : Sealing) (number n t : ℕ) (bytes : List ℕ) → front_of s number bytes ≡ measured s number n bytes → is_bad_length s n ≡ false → t ≡ tag_size s → length bytes < 4 + n + t → front_of s number bytes ≡ Unfinished
+less_than_whole s number n t bytes there good tag h =
+    there ∙ (left_out _ _ _ good ∙ taken_in _ _ _ (below (length bytes) (4 + n + tag_size s) (omega (arith, tag, h))))
 
-pub measured_long : (number n : ℕ) (bytes : List ℕ) → 262177 < n → measured Clear number n bytes ≡ Refused (PacketSize n)
-measured_long number n bytes h = choice_true _ _ _ (or_true _ _ (below 262177 n h))
+first_false : (a b : Bool) → (a || b) ≡ false → a ≡ false
+first_false true b h = h
+first_false false b h = refl
 
-pub measured_short : (number n : ℕ) (bytes : List ℕ) → n ≤ 262177 → measured Clear number n bytes ≡ opened Clear number n bytes
-measured_short number n bytes h = left_out _ _ _ (good_clear n h)
+short_of : (s : Sealing) (n : ℕ) → is_bad_length s n ≡ false → n ≤ longest_packet
+short_of s n good = at_most longest_packet n (first_false (nat_lt longest_packet n) _ good)
 
-pub opened_unfinished : (number n : ℕ) (bytes : List ℕ) → length bytes < 4 + n → opened Clear number n bytes ≡ Unfinished
-opened_unfinished number n bytes h = choice_true _ _ _ (below (length bytes) (4 + n + 0) (omega arith))
+pub stands_whole : (s : Sealing) (number n t : ℕ) (bytes : List ℕ) → front_of s number bytes ≡ measured s number n bytes → is_bad_length s n ≡ false → t ≡ tag_size s → 4 + n + t ≤ length bytes → StandsWhole s number bytes n
+stands_whole s number n t bytes there good tag h = record {
+  front = there ∙ (left_out _ _ _ good ∙ left_out _ _ _ (not_below (length bytes) (4 + n + tag_size s) (omega (arith, tag, h))));
+  good = good;
+  short = short_of s n good;
+  there = omega (arith, tag, h);
+}
+
+-- ---- the tag
+
+pub wrong_tag : (s : Sealing) (number n : ℕ) (packet behind : List ℕ) → (take (tag_size s) behind ≡ tag_for s number packet → ⊥) → checked s number n packet behind ≡ Refused (tag_fault s)
+wrong_tag s number n packet behind other = left_out _ _ _ (by_test (bytes_eq (tag_for s number packet) (take (tag_size s) behind)) refl) where
+  by_test : (b : Bool) → bytes_eq (tag_for s number packet) (take (tag_size s) behind) ≡ b → bytes_eq (tag_for s number packet) (take (tag_size s) behind) ≡ false
+  by_test true e = absurd (other (sym ((bytes_eq-Decides (tag_for s number packet) (take (tag_size s) behind)).0 e)))
+  by_test false e = e
+
+pub right_tag : (s : Sealing) (number n : ℕ) (packet behind : List ℕ) → take (tag_size s) behind ≡ tag_for s number packet → checked s number n packet behind ≡ parted n (text_in s packet) (drop (tag_size s) behind)
+right_tag s number n packet behind same = taken_in _ _ _ ((bytes_eq-Decides (tag_for s number packet) (take (tag_size s) behind)).1 (sym same))
+
+-- a wrong tag is no refusal of a size
+pub tag_no_size : (s : Sealing) (n : ℕ) (error : OpenError) → error ≡ open_error (tag_fault s) → IsSizeOnly n error
+tag_no_size Clear n error e m f = let h : PacketAuth ≡ PacketSize m = sym e ∙ f in cc
+tag_no_size (Block running mac) n error e m f = let h : PacketAuth ≡ PacketSize m = sym e ∙ f in cc
+tag_no_size (Gcm key nonce) n error e m f = let h : DecryptionError ≡ PacketSize m = sym e ∙ f in cc
+
+pub wrong_tag_refused : (s : Sealing) (number n t : ℕ) (error : OpenError) (packet rest old : List ℕ) → packet ≡ take (4 + n) old → rest ≡ drop (4 + n) old → t ≡ tag_size s → error ≡ open_error (tag_fault s) → (take t rest ≡ tag_for s number packet → ⊥) → RefusesBy (checked s number n (take (4 + n) old) (drop (4 + n) old)) error × IsSizeOnly n error
+wrong_tag_refused s number n t error packet rest old front behind tag cause other =
+    let wrong : take (tag_size s) (drop (4 + n) old) ≡ tag_for s number (take (4 + n) old) → ⊥ = λ e. other (ap (λ k. take k rest) tag ∙ (ap (take (tag_size s)) behind ∙ (e ∙ ap (tag_for s number) (sym front)))) in (
+      (tag_fault s, cause, wrong_tag s number n (take (4 + n) old) (drop (4 + n) old) wrong),
+      tag_no_size s n error cause,
+    )
+
+-- behind its own tag, what is found is the text taken apart
+pub opened_text : (s : Sealing) (number n t : ℕ) (packet text rest old : List ℕ) → packet ≡ take (4 + n) old → rest ≡ drop (4 + n) old → t ≡ tag_size s → take t rest ≡ tag_for s number packet → text ≡ text_in s packet → checked s number n (take (4 + n) old) (drop (4 + n) old) ≡ parted n text (drop (tag_size s) rest)
+opened_text s number n t packet text rest old front behind tag right same =
+    let given : take (tag_size s) (drop (4 + n) old) ≡ tag_for s number (take (4 + n) old) = ap (take (tag_size s)) (sym behind) ∙ (ap (λ k. take k rest) (sym tag) ∙ (right ∙ ap (tag_for s number) front)) in
+    right_tag s number n (take (4 + n) old) (drop (4 + n) old) given
+    ∙ (ap (λ x. parted n x (drop (tag_size s) (drop (4 + n) old))) (ap (text_in s) (sym front) ∙ sym same) ∙ ap (λ x. parted n text (drop (tag_size s) x)) (sym behind))
+
+-- ---- a packet that is opened where it stands
+
+twice : (m end : ℕ) (bytes : List ℕ) → m ≤ end → take m (take end bytes) ≡ take m bytes
+twice m end bytes h = grind (arith, common_steps)
+
+-- the bytes of the packet that stands before the rest, without its tag
+packet_before : (s : Sealing) (bytes : List ℕ) (m end : ℕ) → end ≡ m + tag_size s → end ≤ length bytes → packet_of s (take (length bytes - length (drop end bytes)) bytes) ≡ take m bytes
+packet_before s bytes m end e h =
+    let cut : length bytes - length (drop end bytes) ≡ end = omega (arith, h, length-drop end bytes) in
+    let size : length (take end bytes) ≡ end = length-take-le end bytes h in
+    let less : length (take end bytes) - tag_size s ≡ m = omega (arith, size, e) in
+    ap (λ k. packet_of s (take k bytes)) cut ∙ (ap (λ k. take k (take end bytes)) less ∙ twice m end bytes (omega (arith, e)))
+
+pub key_moved : (s : Sealing) (bytes : List ℕ) (m end : ℕ) → end ≡ m + tag_size s → end ≤ length bytes → opened_past s (take m bytes) ≡ key_behind s bytes (drop end bytes)
+key_moved s bytes m end e h = ap (opened_past s) (sym (packet_before s bytes m end e h))
+
+past : (a b : List ℕ) (m t u : ℕ) → length a ≡ m → t ≡ u → drop (m + t) (a ++ b) ≡ drop u b
+past a b m t u h e = ap (λ k. drop k (a ++ b)) (omega (arith, h, e)) ∙ drop-append-add a b u
+
+pub opens_part : (s : Sealing) (front : Front) (old packet behind : List ℕ) (n payload t : ℕ) → t ≡ tag_size s → 4 + n + t ≤ length old → length packet ≡ 4 + n → behind ≡ drop (4 + n) old → 1 + payload ≤ n → front ≡ Whole (record { payload = take payload (drop 5 packet); padding = drop payload (drop 5 packet) }) (drop (tag_size s) behind) → OpensPart front old (packet ++ behind) (record { payload = payload; end = 4 + n + t })
+opens_part s front old packet behind n payload t tag there size rest fits found =
+    let inner : drop 5 (packet ++ behind) ≡ drop 5 packet ++ behind = drop-append-le 5 packet behind (omega (arith, size, fits)) in
+    let payload_is : take payload (drop 5 (packet ++ behind)) ≡ take payload (drop 5 packet) = ap (take payload) inner ∙ take-append-le payload (drop 5 packet) behind (omega (arith, size, fits, length-drop 5 packet)) in
+    let last : drop (tag_size s) behind ≡ drop (4 + n + t) old = ap (drop (tag_size s)) rest ∙ (drop-drop (tag_size s) (4 + n) old ∙ ap (λ k. drop k old) (omega (arith, tag))) in
+    let after : drop (4 + n + t) (packet ++ behind) ≡ drop (tag_size s) behind = past packet behind (4 + n) t (tag_size s) size tag in record {
+      padding = drop payload (drop 5 packet);
+      found = found ∙ (ap (λ x. Whole (record { payload = x; padding = drop payload (drop 5 packet) }) (drop (tag_size s) behind)) (sym payload_is) ∙ ap (Whole (record { payload = take payload (drop 5 (packet ++ behind)); padding = drop payload (drop 5 packet) })) last);
+      rest = after ∙ last;
+      within = omega (arith, fits);
+      fits = there;
+    }
+
+-- ---- a text that is taken apart
+
+pub parted_short : (n padding : ℕ) (text rest : List ℕ) → padding ≡ slice_index text 4 → padding ≤ n → n < padding + 2 → parted n text rest ≡ Refused (front.PacketSize n)
+parted_short n padding text rest at fits h =
+    ap (λ p. parted_by p n (drop 5 text) rest) (sym at)
+    ∙ (left_out _ _ _ (not_below n padding fits) ∙ taken_in _ _ _ (below n (padding + 2) h))

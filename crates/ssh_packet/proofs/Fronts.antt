@@ -13,8 +13,8 @@ use Rattle.ssh_mac.specs.TagLaws.{length-tag_of}
 use Rattle.ssh_mac.specs.Tags.{MacOf, tag_of, is_encrypt_then_mac}
 use Rattle.ssh_packet.proofs.Ciphers.{runs_well, opens_well, gcm_well}
 use Rattle.ssh_packet.proofs.Shapes.{cut_alike, front_framed, length_framed, framed_bytes, bytes_drop, length_take4, item_alike}
-use Rattle.ssh_packet.specs.Front.{Fault, Front, Whole, Unfinished, Refused, probed, length_in, is_bad_length, decrypted, text_in, opened_past, covered, tag_for, tag_fault, parted, parted_by, checked, opened, measured, front_of}
-use Rattle.ssh_packet.specs.Sealing.{Item, Sealing, Clear, Block, Gcm, framed, packet_length, hidden, moved_past, closed, enclosed, sealed, probe, shown_by, shortest, tag_size, IsAdmissible, IsBytes}
+use Rattle.ssh_packet.specs.Front.{Fault, Front, Whole, Unfinished, Refused, probed, length_in, is_bad_length, decrypted, text_in, opened_past, packet_of, key_behind, covered, tag_for, tag_fault, parted, parted_by, checked, opened, measured, front_of}
+use Rattle.ssh_packet.specs.Sealing.{Item, Sealing, Clear, Block, Gcm, framed, packet_length, hidden, moved_past, moved_on, closed, enclosed, sealed, probe, shown_by, shortest, tag_size, IsAdmissible, IsBytes}
 
 pub not_below : (a b : ℕ) → b ≤ a → nat_lt a b ≡ false
 not_below a b h = grind (arith, nat_tests)
@@ -138,6 +138,23 @@ opens_again s number t p x b h l e =
     let packet : p ≡ body s t = parts.0 in
     let tag = ap (tag_for s number) packet ∙ tag_back s number t b h in
     (parts.1 ∙ sym tag, ap (text_in s) packet ∙ text_back s t b h, ap (opened_past s) packet ∙ opened_back s t h)
+
+-- ---- behind a packet
+
+-- the front of a list that a rest stands behind
+before_rest : (a b : List ℕ) → take (length (a ++ b) - length b) (a ++ b) ≡ a
+before_rest a b =
+    let size : length (a ++ b) - length b ≡ length a = omega (arith, length-append a b) in
+    ap (λ n. take n (a ++ b)) size ∙ take-append_seam a b
+
+packet_parts : (s : Sealing) (b tag : List ℕ) → length tag ≡ tag_size s → packet_of s (b ++ tag) ≡ b
+packet_parts s b tag h = ap (λ n. take (length (b ++ tag) - n) (b ++ tag)) (sym h) ∙ before_rest b tag
+
+pub states_agree : (s : Sealing) (number : ℕ) (item : Item) (rest : List ℕ) → key_behind s (sealed s number item ++ rest) rest ≡ moved_on s item
+states_agree s number item rest =
+    let t = framed item in
+    let parts = ap (packet_of s) (before_rest (sealed s number item) rest ∙ closed_parts s number t) ∙ packet_parts s (body s t) (tag_made s number t) (length_tag s number t) in
+    ap (opened_past s) parts ∙ opened_back s t (omega (arith, length_framed item))
 
 -- ---- a packet at the front
 
@@ -277,7 +294,7 @@ probed_stays : (etm : Bool) (r : Running) (bytes more : List ℕ) → 16 ≤ len
 probed_stays true r bytes more h = take-append-le 4 bytes more (omega (arith, h))
 probed_stays false r bytes more h = ap (λ b. take 4 (unmasked r b)) (take-append-le 16 bytes more h)
 
-length_stays : (s : Sealing) (bytes more : List ℕ) → probe s ≤ length bytes → length_in s (bytes ++ more) ≡ length_in s bytes
+pub length_stays : (s : Sealing) (bytes more : List ℕ) → probe s ≤ length bytes → length_in s (bytes ++ more) ≡ length_in s bytes
 length_stays Clear bytes more h = ap (from_be_bytes w32) (take-append-le 4 bytes more h)
 length_stays (Block r mac) bytes more h = ap (from_be_bytes w32) (probed_stays (is_encrypt_then_mac mac) r bytes more h)
 length_stays (Gcm key nonce) bytes more h = ap (from_be_bytes w32) (take-append-le 4 bytes more h)

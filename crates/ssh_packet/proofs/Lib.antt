@@ -3,7 +3,6 @@ pub mod Ciphers
 pub mod Finding
 pub mod Framing
 pub mod Fronts
-pub mod KeyKinds
 pub mod Lent
 pub mod Padding
 pub mod Shapes

@@ -1,22 +1,55 @@
 -- What the code says of the front of some bytes.
-use Rattle.std.specs.Prelude.{◌≡◌, ℕ, ◌+◌, ◌≤◌, List, take, drop}
-use Rattle.ssh_packet.specs.Front.{Front, Whole, Unfinished, Refused, PacketSize, IndexOutOfBounds}
-use Rattle.ssh_packet.specs.declared.front.Found.{Found}
-use Rattle.ssh_packet.specs.declared.front.Found.TheVariants as found
+use Rattle.std.specs.Prelude.{◌≡◌, ℕ, ◌+◌, ◌≤◌, true, false, List, length, take, drop, Option, Some, None, Result, Ok, Err}
+use Rattle.ssh_packet.specs.Errors.{open_error}
+use Rattle.ssh_packet.specs.Front.{Front, Fault, Whole, Unfinished, Refused, front_of, checked, parted, is_bad_length, key_behind}
+use Rattle.ssh_packet.specs.Sealing.{Sealing, tag_size, longest_packet}
+use Rattle.ssh_packet.specs.declared.error.OpenError.{OpenError}
+use Rattle.ssh_packet.specs.declared.error.OpenError.TheVariants.{PacketSize}
+use Rattle.ssh_packet.specs.declared.front.Part.{Part}
 
--- a payload of so many bytes behind the first five, and the rest from the end on
-abbrev pub FindsWhole : Front → List ℕ → ℕ → ℕ → Type 0
-FindsWhole front bytes payload end = (padding : List ℕ) × (front ≡ Whole (record { payload = take payload (drop 5 bytes); padding = padding }) (drop end bytes))
+-- the error of a fault that is found there
+abbrev pub RefusesBy : Front → OpenError → Type 0
+RefusesBy front error = (fault : Fault) × (error ≡ open_error fault) × (front ≡ Refused fault)
 
-abbrev pub Finds : Front → List ℕ → Found → Type 0
-Finds front bytes (found.Whole payload end) = FindsWhole front bytes payload end
-Finds front bytes found.Unfinished = front ≡ Unfinished
-Finds front bytes (found.BadSize n) = front ≡ Refused (PacketSize n)
-Finds front bytes found.BadPadding = front ≡ Refused IndexOutOfBounds
+-- a length that isn't read
+abbrev pub IsBadLength : Sealing → OpenError → Type 0
+IsBadLength sealing error = (n : ℕ) × (error ≡ PacketSize n) × (is_bad_length sealing n ≡ true)
 
--- a packet that is found lies within so many bytes
-abbrev pub LiesWithin : ℕ → Found → Type 0
-LiesWithin size (found.Whole payload end) = (5 + payload ≤ end) × (end ≤ size)
-LiesWithin size found.Unfinished = Unit {0}
-LiesWithin size (found.BadSize n) = Unit {0}
-LiesWithin size found.BadPadding = Unit {0}
+-- a packet of length n stands whole at the front
+pub record StandsWhole (sealing : Sealing) (number : ℕ) (bytes : List ℕ) (n : ℕ) : Type 0 where
+  pub front : front_of sealing number bytes ≡ checked sealing number n (take (4 + n) bytes) (drop (4 + n) bytes)
+  pub good : is_bad_length sealing n ≡ false
+  pub short : n ≤ longest_packet
+  pub there : 4 + n + tag_size sealing ≤ length bytes
+
+abbrev pub Measures : Sealing → ℕ → List ℕ → Result (Option ℕ) OpenError → Type 0
+Measures sealing number bytes (Ok (Some n)) = StandsWhole sealing number bytes n
+Measures sealing number bytes (Ok None) = front_of sealing number bytes ≡ Unfinished
+Measures sealing number bytes (Err error) = RefusesBy (front_of sealing number bytes) error × IsBadLength sealing error
+
+-- a refusal of a size is one of this packet length
+abbrev pub IsSizeOnly : ℕ → OpenError → Type 0
+IsSizeOnly n error = (m : ℕ) → error ≡ PacketSize m → m ≡ n
+
+-- a framed text of packet length n has so many bytes of payload, or none
+abbrev pub Parts : ℕ → List ℕ → Result ℕ OpenError → Type 0
+Parts n text (Ok payload) = (1 + payload ≤ n) × ((rest : List ℕ) → parted n text rest ≡ Whole (record { payload = take payload (drop 5 text); padding = drop payload (drop 5 text) }) rest)
+Parts n text (Err error) = IsSizeOnly n error × ((rest : List ℕ) → RefusesBy (parted n text rest) error)
+
+-- A packet was opened where it stood: its payload is behind the first five bytes, and what is behind it is as it was.
+pub record OpensPart (front : Front) (old new : List ℕ) (part : Part) : Type 0 where
+  pub padding : List ℕ
+  pub found : front ≡ Whole (record { payload = take part.payload (drop 5 new); padding = padding }) (drop part.end old)
+  pub rest : drop part.end new ≡ drop part.end old
+  pub within : 5 + part.payload ≤ part.end
+  pub fits : part.end ≤ length old
+
+abbrev pub OpensChecked : Sealing → ℕ → ℕ → List ℕ → List ℕ → Result Part OpenError → Sealing → Type 0
+OpensChecked sealing number n old new (Ok part) sealing' = OpensPart (checked sealing number n (take (4 + n) old) (drop (4 + n) old)) old new part × (sealing' ≡ key_behind sealing old (drop part.end old))
+OpensChecked sealing number n old new (Err error) sealing' = RefusesBy (checked sealing number n (take (4 + n) old) (drop (4 + n) old)) error × IsSizeOnly n error
+
+-- What is found at the front was opened. Less than a packet and a length that isn't read leave all as it was.
+abbrev pub Opens : Sealing → ℕ → List ℕ → List ℕ → Result (Option Part) OpenError → Sealing → Type 0
+Opens sealing number old new (Ok (Some part)) sealing' = OpensPart (front_of sealing number old) old new part × (sealing' ≡ key_behind sealing old (drop part.end old))
+Opens sealing number old new (Ok None) sealing' = (front_of sealing number old ≡ Unfinished) × (new ≡ old) × (sealing' ≡ sealing)
+Opens sealing number old new (Err error) sealing' = RefusesBy (front_of sealing number old) error × (IsBadLength sealing error → (new ≡ old) × (sealing' ≡ sealing))

@@ -66,6 +66,10 @@ packet_of sealing bytes = take (length bytes - tag_size sealing) bytes
 abbrev pub tag_behind : Sealing → List ℕ → List ℕ
 tag_behind sealing bytes = drop (length bytes - tag_size sealing) bytes
 
+-- what a direction is opened with behind the packet that stands before the rest
+abbrev pub key_behind : Sealing → List ℕ → List ℕ → Sealing
+key_behind sealing bytes rest = opened_past sealing (packet_of sealing (take (length bytes - length rest) bytes))
+
 -- what a wrong tag is called
 abbrev pub tag_fault : Sealing → Fault
 tag_fault Clear = PacketAuth

@@ -1,10 +1,10 @@
 -- What is true of every packet and of every stream of packets.
 use Rattle.std.specs.Prelude.{◌≡◌, ℕ, ◌+◌, ◌%◌, ◌≤◌, if◌then◌else◌, Bool, Some, List, [], ◌++◌, length}
 use Rattle.ssh_mac.specs.Tags.{is_encrypt_then_mac}
-use Rattle.ssh_packet.specs.Sealing.{Item, Sealing, Clear, Block, Gcm, IsAdmissible, IsBytes, closed, moved_past, sealed, padding_length}
+use Rattle.ssh_packet.specs.Sealing.{Item, Sealing, Clear, Block, Gcm, IsAdmissible, IsBytes, closed, moved_past, moved_on, sealed, padding_length}
 use Rattle.ssh_packet.specs.Stream.{Opening, Entries, EntriesBy, IsPlain, Reads, ReadsBy, first_place}
 use Rattle.ssh_packet.specs.Carried.{AgreeFor, SameFor}
-use Rattle.ssh_packet.specs.Front.{Whole, Fault, Refused, front_of, tag_for, text_in, opened_past}
+use Rattle.ssh_packet.specs.Front.{Whole, Fault, Refused, front_of, tag_for, text_in, opened_past, key_behind}
 
 -- state, number and bytes determine the packet, whatever follows it
 abbrev pub OnePacket : Type 0
@@ -25,6 +25,10 @@ OpensAgain = (sealing : Sealing) (number : ℕ) (text packet tag : List ℕ) →
 -- so does a pair of keys at one state, whatever their types: what one seals the other opens, and both are at one state again
 abbrev pub PairOpens : {S O : Type 0} → (S → Sealing) → (O → Sealing) → Type 0
 PairOpens {S} {O} sealing opening = (s : S) (o : O) (number : ℕ) (text packet tag : List ℕ) → sealing s ≡ opening o → IsBytes text → 4 ≤ length text → length packet ≡ length text → packet ++ tag ≡ closed (sealing s) number text → (tag ≡ tag_for (opening o) number packet) × (text_in (opening o) packet ≡ text) × (opened_past (opening o) packet ≡ moved_past (sealing s) text)
+
+-- behind a packet that was sealed, what a reader opens with is what the writer seals under
+abbrev pub StatesAgree : Type 0
+StatesAgree = (sealing : Sealing) (number : ℕ) (item : Item) (rest : List ℕ) → key_behind sealing (sealed sealing number item ++ rest) rest ≡ moved_on sealing item
 
 -- what the reader finds doesn't change when bytes come behind
 abbrev pub FrontStays : Type 0

@@ -2,10 +2,10 @@
 use Rattle.std.specs.Prelude.{◌≡◌, ◌<◌, true, false, length, Option, Some, None, Result, Ok, Err}
 use Rattle.std.specs.Borrow.{MutBor, Lends, Fml}
 use Rattle.std.specs.Io.BufRead.{Rests}
-use Rattle.ssh_packet.specs.Front.{PacketSize, IndexOutOfBounds, PacketAuth, DecryptionError, Whole, Unfinished, Refused, front_of}
+use Rattle.ssh_packet.specs.Front.{PacketSize, IndexOutOfBounds, PacketAuth, DecryptionError, Whole, Unfinished, Refused, front_of, is_bad_length, key_behind}
 use Rattle.ssh_packet.specs.Keys.{opening_of}
 use Rattle.ssh_packet.specs.Reading.{Reader}
-use Rattle.ssh_packet.specs.Sealing.{Item, Sealing, moved_on, next_number}
+use Rattle.ssh_packet.specs.Sealing.{Item, Sealing, next_number}
 use Rattle.ssh_packet.specs.Writing.{Writer, Written, counted}
 use Rattle.ssh_packet.specs.declared.keys.OpenKey.{OpenKey}
 use Rattle.ssh_packet.specs.declared.error.OpenError.{OpenError}
@@ -27,7 +27,7 @@ pub record HandsOut (old : Reader) (key : Sealing) (item : Item) (incoming : Inc
   pub count : new.count ≡ counted old.count (length item.payload)
   pub failed : new.failed ≡ false
   pub shorter : length new.waiting < length old.waiting
-  pub moved : key' ≡ moved_on key item
+  pub moved : key' ≡ key_behind key old.waiting new.waiting
 
 -- why `next` was refused
 abbrev pub Refuses : Reader → Sealing → OpenError → Type 0
@@ -37,11 +37,26 @@ Refuses old key errors.PacketAuth = (old.failed ≡ false) × (front_of key old.
 Refuses old key errors.DecryptionError = (old.failed ≡ false) × (front_of key old.number old.waiting ≡ Refused DecryptionError)
 Refuses old key errors.Disconnect = old.failed ≡ true
 
+-- A refusal is the end of a reader. Some of the bytes that wait may have been decrypted before it.
+pub record IsOver (old new : Reader) : Type 0 where
+  pub failed : new.failed ≡ true
+  pub number : new.number ≡ old.number
+  pub count : new.count ≡ old.count
+  pub waiting : length new.waiting ≡ length old.waiting
+
+-- what a refusal leaves: a packet length that isn't read is refused before anything is opened
+abbrev pub EndsAt : Reader → Sealing → Sealing → OpenError → Reader → Type 0
+EndsAt old key key' (errors.PacketSize n) new = IsOver old new × (is_bad_length key n ≡ true → (new ≡ record old { failed = true }) × (key' ≡ key))
+EndsAt old key key' errors.IndexOutOfBounds new = IsOver old new
+EndsAt old key key' errors.PacketAuth new = IsOver old new
+EndsAt old key key' errors.DecryptionError new = IsOver old new
+EndsAt old key key' errors.Disconnect new = (new ≡ old) × (key' ≡ key)
+
 -- what `next` leaves
 abbrev pub Leaves : Reader → Sealing → Sealing → Result (Option Incoming) OpenError → Reader → Type 0
 Leaves old key key' (Ok (Some incoming)) new = (item : Item) × HandsOut old key item incoming new key'
 Leaves old key key' (Ok None) new = (old.failed ≡ false) × (front_of key old.number old.waiting ≡ Unfinished) × (new ≡ old) × (key' ≡ key)
-Leaves old key key' (Err error) new = Refuses old key error × (new ≡ record old { failed = true }) × (key' ≡ key)
+Leaves old key key' (Err error) new = Refuses old key error × EndsAt old key key' error new
 
 abbrev pub LendsNext : MutBor Reader → OpenKey → OpenKey → Result (Option Incoming) OpenError → Fml
 LendsNext s key key' result = Rests the_row s (Leaves s.now (opening_of key) (opening_of key') result)

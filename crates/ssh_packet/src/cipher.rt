@@ -1,7 +1,7 @@
 //! What seals and opens packets, and the names of ciphers (RFC 4253 section 6.3, RFC 4344 section 4,
 //! RFC 5647 section 6).
 
-ghost use Rattle.std.specs.Prelude.{◌≡◌, ◌↔◌, ◌+◌, ◌<◌, ◌≤◌, ◌^◌, ◌++◌, drop, length, IsOk, IfOk, OnOk, IfErr};
+ghost use Rattle.std.specs.Prelude.{◌≡◌, ◌↔◌, ◌+◌, ◌<◌, ◌≤◌, ◌^◌, ◌++◌, take, drop, length, IsOk, IfOk, OnOk, IfErr};
 ghost use Rattle.std.specs.Int.{w32, from_be_bytes};
 ghost use Rattle.ssh_packet.specs.Errors.{open_error};
 ghost use Rattle.ssh_packet.specs.Front.{length_in, opened_past, packet_of, tag_behind, tag_fault, tag_for, text_in};
@@ -10,6 +10,16 @@ ghost use Rattle.ssh_packet.specs.Sealing.{padding_length, probe, shortest, tag_
 
 use crate::error::OpenError;
 use rand_core::Rng;
+
+/// The first four bytes.
+pub(crate) fn first_four(bytes: &[u8]) -> [u8; 4]
+    requires { 4 ≤ length bytes.now }
+    ensures { result ≡ take 4 bytes.now }
+{
+    let mut first = [0; 4];
+    first.copy_from_slice(&bytes[..4]);
+    first
+}
 
 /// What a writer seals packets with.
 pub trait SealingKey {

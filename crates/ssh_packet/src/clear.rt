@@ -2,7 +2,7 @@
 
 ghost use Rattle.ssh_packet.specs.Sealing.{Clear};
 
-use crate::cipher::{OpeningKey, SealingKey};
+use crate::cipher::{OpeningKey, SealingKey, first_four};
 use crate::error::OpenError;
 use rand_core::Rng;
 
@@ -37,8 +37,7 @@ impl OpeningKey for Key {
     }
 
     fn decrypt_packet_length(&self, _seqn: u32, encrypted_packet_length: &[u8]) -> [u8; 4] {
-        let shown = encrypted_packet_length;
-        [shown[0], shown[1], shown[2], shown[3]]
+        first_four(encrypted_packet_length)
     }
 
     fn tag_len(&self) -> usize {

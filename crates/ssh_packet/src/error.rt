@@ -5,7 +5,7 @@ use ssh_wire::Error;
 /// Why a reader gave no packet. It owns no memory, so that it can stand beside a packet that is lent.
 #[derive(Clone, Copy, Debug, PartialEq, Eq, Hash)]
 pub enum OpenError {
-    /// The packet length is over 262177, or leaves no payload.
+    /// The packet length is over 262177, too short for its cipher, or leaves no payload.
     PacketSize(usize),
     /// The padding is longer than its packet.
     IndexOutOfBounds,

@@ -1,13 +1,12 @@
 //! What stands at the front of the bytes that wait.
 
-ghost use Rattle.std.specs.Prelude.{◌≡◌, ◌+◌, ◌≤◌, ℕ, length, take, slice_index};
-ghost use Rattle.std.specs.Int.{w32, from_be_bytes};
-ghost use Rattle.ssh_packet.specs.Sealing.{Clear, longest_packet};
-ghost use Rattle.ssh_packet.specs.Front.{front_of, opened};
-ghost use Rattle.ssh_packet.specs.Finding.{Finds, LiesWithin};
-ghost use Rattle.ssh_packet.specs.Keys.{opening_of};
+ghost use Rattle.std.specs.Prelude.{◌≡◌, ◌+◌, ◌<◌, ◌≤◌, ◌^◌, length, drop, slice_index, vec_len};
+ghost use Rattle.ssh_packet.specs.Finding.{Measures, Parts, OpensChecked, Opens};
+ghost use Rattle.ssh_packet.specs.Front.{is_bad_length};
+ghost use Rattle.ssh_packet.specs.Sealing.{longest_packet, tag_size};
 
-use crate::keys::OpenKey;
+use crate::cipher::OpeningKey;
+use crate::error::OpenError;
 
 /// The longest packet length that is read, in bytes.
 const LONGEST_PACKET: usize = 262177;
@@ -15,79 +14,116 @@ const LONGEST_PACKET: usize = 262177;
 /// How many bytes stand before a payload: the packet length, and the padding length's byte.
 pub const HEAD: usize = 5;
 
-/// What stands at the front.
-#[derive(Clone, Copy, Debug, PartialEq, Eq)]
-pub enum Found {
-    /// A packet with so many bytes of payload, that ends there.
-    Whole { payload: usize, end: usize },
-    /// Less than a packet.
-    Unfinished,
-    /// A packet length that isn't read, or that leaves no payload.
-    BadSize(usize),
-    /// A padding that is longer than its packet.
-    BadPadding,
+/// A packet that was opened where it stands.
+#[derive(Clone, Copy)]
+pub(crate) struct Part {
+    /// How many bytes of payload stand behind the first five.
+    pub payload: usize,
+    /// Where the packet ends, its tag too.
+    pub end: usize,
 }
 
-/// What the key's reader finds at the front of the bytes.
-pub fn find(key: &OpenKey, bytes: &[u8]) -> Found
-    ensures front { (number : ℕ) → Finds (front_of (opening_of key.now) number bytes.now) bytes.now result }
-    ensures within { LiesWithin (length bytes.now) result }
+/// Whether a packet length isn't read.
+fn is_bad_length<K: OpeningKey>(key: &K, size: usize) -> bool
+    requires { size < 2 ^ 32 }
+    ensures { result ≡ is_bad_length (K.opening key.now) size }
 {
-    match key {
-        OpenKey::Clear(_) => find_clear(bytes),
-        _ => Found::Unfinished,
-    }
+    size > LONGEST_PACKET
+        || size + 4 + key.tag_len() < key.packet_length_to_read_for_block_length()
+        || size + 4 < key.shortest_packet()
 }
 
-fn find_clear(bytes: &[u8]) -> Found
-    ensures front { (number : ℕ) → Finds (front_of Clear number bytes.now) bytes.now result }
-    ensures within { LiesWithin (length bytes.now) result }
+/// The packet length of a packet that stands whole at the front. None below that, PacketSize for a length
+/// that isn't read.
+fn whole_length<K: OpeningKey>(
+    key: &K,
+    number: u32,
+    bytes: &[u8],
+) -> Result<Option<usize>, OpenError>
+    ensures { Measures (K.opening key.now) number bytes.now result }
 {
-    if bytes.len() < 4 {
-        return Found::Unfinished;
+    let probe = key.packet_length_to_read_for_block_length();
+    if bytes.len() < probe {
+        return Ok(None);
     }
-    let length = length_at(bytes) as usize;
-    if length > LONGEST_PACKET {
-        Found::BadSize(length)
-    } else if bytes.len() < 4 + length {
-        Found::Unfinished
+    let size = u32::from_be_bytes(key.decrypt_packet_length(number, &bytes[..probe])) as usize;
+    if is_bad_length(key, size) {
+        Err(OpenError::PacketSize(size))
+    } else if bytes.len() < 4 + size + key.tag_len() {
+        Ok(None)
     } else {
-        part(length, bytes)
+        Ok(Some(size))
     }
 }
 
-/// The packet length: four bytes, the most significant first.
-fn length_at(bytes: &[u8]) -> u32
-    requires { 4 ≤ length bytes.now }
-    ensures { result ≡ from_be_bytes w32 (take 4 bytes.now) }
+/// The padding length of a framed text of this packet length.
+fn padding_at(size: usize, text: &[u8]) -> usize
+    requires { length text.now ≡ 4 + size }
+    ensures { result ≡ slice_index text.now 4 }
 {
-    u32::from_be_bytes([bytes[0], bytes[1], bytes[2], bytes[3]])
+    if size == 0 { 0 } else { usize::from(text[4]) }
 }
 
-/// The padding length of a packet of this length.
-fn padding_at(size: usize, bytes: &[u8]) -> usize
-    requires { 4 + size ≤ length bytes.now }
-    ensures { result ≡ slice_index (take (4 + size) bytes.now) 4 }
+/// How many bytes of payload a framed text of this packet length has, by its padding length.
+fn payload_in(size: usize, text: &[u8]) -> Result<usize, OpenError>
+    requires { length text.now ≡ 4 + size }
+    ensures { Parts size text.now result }
 {
-    if size == 0 { 0 } else { usize::from(bytes[4]) }
-}
-
-/// A clear packet of this length, taken apart by its padding length.
-fn part(size: usize, bytes: &[u8]) -> Found
-    requires short { size ≤ longest_packet }
-    requires whole { 4 + size ≤ length bytes.now }
-    ensures front { (number : ℕ) → Finds (opened Clear number size bytes.now) bytes.now result }
-    ensures within { LiesWithin (length bytes.now) result }
-{
-    let padding = padding_at(size, bytes);
+    let padding = padding_at(size, text);
     if padding > size {
-        Found::BadPadding
+        Err(OpenError::IndexOutOfBounds)
     } else if size < padding + 2 {
-        Found::BadSize(size)
+        Err(OpenError::PacketSize(size))
     } else {
-        Found::Whole {
-            payload: size - 1 - padding,
-            end: 4 + size,
-        }
+        Ok(size - 1 - padding)
     }
+}
+
+/// Opens a packet of this length, which stands whole at the front.
+fn open_whole<K: OpeningKey>(
+    key: &mut K,
+    number: u32,
+    size: usize,
+    bytes: &mut [u8],
+) -> Result<Part, OpenError>
+    requires short { size ≤ longest_packet }
+    requires whole { 4 + size + tag_size (K.opening key.old) ≤ length bytes.old }
+    ensures { OpensChecked (K.opening key.old) number size bytes.old bytes.new result (K.opening key.new) }
+{
+    let tag_len = key.tag_len();
+    let (packet, behind) = bytes.split_at_mut(4 + size);
+    key.open_in_place(number, packet, &behind[..tag_len])?;
+    let payload = payload_in(size, packet)?;
+    Ok(Part {
+        payload,
+        end: 4 + size + tag_len,
+    })
+}
+
+/// Opens the packet at the front, where it stands. None where less than a packet does.
+fn open_front<K: OpeningKey>(
+    key: &mut K,
+    number: u32,
+    bytes: &mut [u8],
+) -> Result<Option<Part>, OpenError>
+    ensures { Opens (K.opening key.old) number bytes.old bytes.new result (K.opening key.new) }
+{
+    match whole_length(key, number, bytes)? {
+        None => Ok(None),
+        Some(size) => Ok(Some(open_whole(key, number, size, bytes)?)),
+    }
+}
+
+/// Opens the packet at the front of what stands behind `start`.
+pub(crate) fn open_behind<K: OpeningKey>(
+    key: &mut K,
+    number: u32,
+    bytes: &mut Vec<u8>,
+    start: usize,
+) -> Result<Option<Part>, OpenError>
+    requires { start ≤ vec_len bytes.old }
+    ensures opens { Opens (K.opening key.old) number (drop start bytes.old.items) (drop start bytes.new.items) result (K.opening key.new) }
+    ensures size { vec_len bytes.new ≡ vec_len bytes.old }
+{
+    open_front(key, number, &mut bytes[start..])
 }

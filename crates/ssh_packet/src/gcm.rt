@@ -5,6 +5,7 @@ ghost use Rattle.ssh_packet.specs.Sealing.{Gcm, next_nonce};
 
 use crate::block::block_padding;
 use crate::cipher;
+use crate::cipher::first_four;
 use crate::error::OpenError;
 use rand_core::Rng;
 use ssh_aes::Gcm;
@@ -91,8 +92,7 @@ impl cipher::OpeningKey for OpeningKey {
     }
 
     fn decrypt_packet_length(&self, _seqn: u32, encrypted_packet_length: &[u8]) -> [u8; 4] {
-        let shown = encrypted_packet_length;
-        [shown[0], shown[1], shown[2], shown[3]]
+        first_four(encrypted_packet_length)
     }
 
     fn tag_len(&self) -> usize {

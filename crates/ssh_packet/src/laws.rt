@@ -1,6 +1,6 @@
 //! Laws of packets and of streams of packets, for proofs above to cite.
 
-ghost use Rattle.ssh_packet.specs.Laws.{OnePacket, FrontWhole, FrontSound, OpensAgain, FrontStays, PairOpens};
+ghost use Rattle.ssh_packet.specs.Laws.{OnePacket, FrontWhole, FrontSound, OpensAgain, PairOpens, StatesAgree, FrontStays};
 ghost use Rattle.ssh_packet.specs.Laws.{OneReading, PlainReading, Carried, Padded};
 
 use crate::cipher::{OpeningKey, SealingKey};
@@ -28,6 +28,11 @@ pub fn opens_again()
 /// So do a sealing key and an opening key of whatever types.
 pub fn pair_opens<S: SealingKey, O: OpeningKey>()
     ensures { PairOpens S.sealing O.opening }
+{}
+
+/// Behind a packet that was sealed, what a reader opens with is what the writer seals under.
+pub fn states_agree()
+    ensures { StatesAgree }
 {}
 
 /// What a reader finds stays what it is when bytes come behind.

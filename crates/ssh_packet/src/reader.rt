@@ -6,7 +6,7 @@ ghost use Rattle.ssh_wire.specs.declared.error.Error.TheVariants.{Memory};
 
 use crate::buffer::drop_front;
 use crate::error::OpenError;
-use crate::front::{Found, find};
+use crate::front::{HEAD, Part, open_behind};
 use crate::keys::OpenKey;
 use ssh_wire::Error;
 use std::alloc::Global;
@@ -100,27 +100,21 @@ impl PacketReader {
         self.number = 0;
     }
 
-    /// The next packet. None where less than a packet waits. PacketSize where the packet length is over
-    /// 262177 or leaves no payload; IndexOutOfBounds where the padding is longer than the packet;
-    /// Disconnect after a refusal. Padding below four bytes is accepted.
+    /// The next packet, opened where it stands (RFC 4253 section 6). None where less than a packet waits.
+    /// PacketSize where the packet length is over 262177, too short for its cipher, or leaves no payload;
+    /// PacketAuth or DecryptionError where the tag is not the packet's; IndexOutOfBounds where the padding is
+    /// longer than the packet; Disconnect after a refusal, which is the end of the reader. Padding below four
+    /// bytes is accepted. It takes no memory.
     pub fn next(&mut self, key: &mut OpenKey) -> Result<Option<Incoming<'_>>, OpenError>
         ensures* after_borrow { sem 𝓛 (LendsNext self.entry key.old key.new result) }
     {
         if self.failed {
             return Err(OpenError::Disconnect);
         }
-        match find(key, &self.bytes[self.start..]) {
-            Found::Unfinished => Ok(None),
-            Found::BadSize(n) => {
-                self.failed = true;
-                Err(OpenError::PacketSize(n))
-            }
-            Found::BadPadding => {
-                self.failed = true;
-                Err(OpenError::IndexOutOfBounds)
-            }
-            Found::Whole { payload, end } => {
-                let from = self.start + 5;
+        match open_behind(key, self.number, &mut self.bytes, self.start) {
+            Ok(None) => Ok(None),
+            Ok(Some(Part { payload, end })) => {
+                let from = self.start + HEAD;
                 self.start += end;
                 self.number = self.number.wrapping_add(1);
                 self.count = self.count.saturating_add(payload);
@@ -128,6 +122,10 @@ impl PacketReader {
                     payload: &self.bytes[from..from + payload],
                     seqn: self.number,
                 }))
+            }
+            Err(error) => {
+                self.failed = true;
+                Err(error)
             }
         }
     }

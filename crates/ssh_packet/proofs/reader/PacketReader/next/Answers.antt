@@ -1,21 +1,21 @@
-use Rattle.std.proofs.Common.{◌≡◌, refl, sym, ap, subst, ◌∙◌, arith, length-drop, List, ℕ, ◌+◌, length, min, take, drop}
-use Rattle.std.proofs.lemmas.List.{drop-drop}
-use Rattle.ssh_packet.specs.Sealing.{Item}
-use Rattle.ssh_packet.specs.Front.{Whole, front_of}
+use Rattle.std.proofs.Common.{◌≡◌, refl, sym, ap, ◌∙◌, arith, length-drop, ◌+◌, length, min, take, drop, true}
 use Rattle.ssh_packet.specs.Keys.{opening_of}
-use Rattle.ssh_packet.proofs.KeyKinds.{moved_opening}
-use Rattle.ssh_packet.proofs.Lent.{waiting_is, part_is, length_part}
+use Rattle.ssh_packet.specs.Sealing.{Item}
+use Rattle.ssh_packet.specs.Reading.{Reader}
+use Rattle.ssh_packet.proofs.Lent.{ends_at, found_is, moved_is, part_is, length_part}
 use Rattle.ssh_packet.proofs.reader.PacketReader.next.Goals as goal
 
-pub returns-in-Whole : goal.returns-in-Whole
-returns-in-Whole c =
-    let bytes = c.self.inside.bytes.items in
-    let found = c.in-Whole.ensures.front c.self.inside.number in
-    let item : Item = record { payload = take c.in-Whole.payload (drop 5 (drop c.self.inside.start c.self.inside.bytes.items)); padding = found.0 } in
-    let IsFront : List ℕ → Type 0 = λ w. front_of (opening_of c.args.key.now) c.self.inside.number w ≡ Whole (record { payload = take c.in-Whole.payload (drop 5 w); padding = found.0 }) (drop c.in-Whole.end w) in
-    let front = subst IsFront (waiting_is c.deref.result.now bytes c.self.inside.start c.deref.ensures.value) found.1 in
-    let there = ap length (waiting_is c.deref.result.now bytes c.self.inside.start c.deref.ensures.value) in
-    let size = length_part bytes c.self.inside.start c.in-Whole.payload (omega (arith, c.in-Whole.ensures.within, there, length-drop c.self.inside.start bytes)) in (
+pub returns-in-Ok-Some : goal.returns-in-Ok-Some
+returns-in-Ok-Some c =
+    let opened = rw c.in-Ok-Some.field-0-is at c.in-Ok-Some.ensures.opens in
+    let part = c.in-Ok-Some.field-0-0 in
+    let found = opened.0 in
+    let there = c.self.inside.bytes.items in
+    let now = c.open_behind.new.bytes.items in
+    let start = c.self.inside.start in
+    let size : length c.open_behind.new.bytes.items ≡ length c.self.inside.bytes.items = omega (arith, c.open_behind.ensures.size, c.self.inside.bytes.ok.0, c.open_behind.new.bytes.ok.0) in
+    let item : Item = record { payload = take c.in-Ok-Some.field-0-0.payload (drop 5 (drop c.self.inside.start c.open_behind.new.bytes.items)); padding = found.padding } in
+    let long = length_part now start part.payload (omega (arith, found.within, found.fits, size, length-drop start there)) in (
       (
         refl,
         λ _. tt,
@@ -23,16 +23,37 @@ returns-in-Whole c =
           item,
           record {
             live = c.if-self.false;
-            front = front ∙ ap (Whole item) (drop-drop c.in-Whole.end c.self.inside.start bytes);
-            payload = part_is c.deref-in-Whole.result.now bytes c.self.inside.start c.in-Whole.payload c.deref-in-Whole.ensures.value;
+            front = found_is (opening_of c.args.key.now) c.self.inside.number start there now part found;
+            payload = part_is c.deref.result.now now start part.payload c.deref.ensures.value;
             seqn = refl;
             number = refl;
-            count = c.saturating_add-self-inside.ensures ∙ ap (λ n. min (c.self.inside.count + n) 18446744073709551615) (sym size);
+            count = c.saturating_add-self-inside.ensures ∙ ap (λ n. min (c.self.inside.count + n) 18446744073709551615) (sym long);
             failed = c.if-self.false;
-            shorter = omega (arith, c.in-Whole.ensures.within, there, length-drop c.self.inside.start bytes, length-drop (c.self.inside.start + c.in-Whole.end) bytes);
-            moved = moved_opening c.args.key.now item;
+            shorter = omega (arith, found.within, found.fits, size, length-drop start there, length-drop (start + part.end) now);
+            moved = moved_is (opening_of c.args.key.now) (opening_of c.open_behind.new.key) start part.end there now found.rest opened.1;
           },
         ),
+      ),
+      record { after_borrow = tt },
+    )
+
+pub returns-in-Err : goal.returns-in-Err
+returns-in-Err c =
+    let there = c.self.inside.bytes.items in
+    let now = c.open_behind.new.bytes.items in
+    let size : length c.open_behind.new.bytes.items ≡ length c.self.inside.bytes.items = omega (arith, c.open_behind.ensures.size, c.self.inside.bytes.ok.0, c.open_behind.new.bytes.ok.0) in (
+      (
+        refl,
+        λ _. tt,
+        rw (← c.self.view_is) (ends_at _ _ _ _ c.in-Err.error c.if-self.false c.in-Err.ensures.opens.0
+            (record {
+              failed = refl;
+              number = refl;
+              count = refl;
+              waiting = omega (arith, size, length-drop c.self.inside.start there, length-drop c.self.inside.start now);
+            })
+            (λ bad. let same = c.in-Err.ensures.opens.1 bad in
+            (ap (λ w. let r : Reader = record { waiting = w; number = c.self.inside.number; count = c.self.inside.count; failed = true } in r) same.0, same.1))),
       ),
       record { after_borrow = tt },
     )
