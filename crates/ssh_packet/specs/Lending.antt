@@ -64,7 +64,7 @@ abbrev pub LendsNext : MutBor Reader → OpenKey → OpenKey → Result (Option 
 LendsNext s key key' result = Rests the_row s (Leaves s.now (opening_of key) (opening_of key') result)
 
 abbrev pub with_buffer : Writer → Written → Writer
-with_buffer w b = record w { output = b.output; len = b.len; count = b.count; number = b.number }
+with_buffer w b = record w { output = b.output; len = b.len; count = b.count; number = b.number; room = b.room }
 
 abbrev pub LendsBuffer : MutBor Writer → MutBor Written → Fml
 LendsBuffer self result = Lends writer_row buffer_row self result (with_buffer self.now)
