@@ -101,6 +101,6 @@ Runs = Vec ℕ → Result (Unit {0}) Error → Vec ℕ → Type 0
 abbrev pub OnlyAppends : Runs → Type 0
 OnlyAppends runs = (v v' : Vec ℕ) (answer : Result (Unit {0}) Error) → runs v answer v' → (payload : List ℕ) × (v'.items ≡ v.items ++ payload)
 
--- a payload that it may append
-abbrev pub AppendsPayload : Runs → Result (Unit {0}) Error → List ℕ → Type 0
-AppendsPayload runs answer payload = (v : Vec ℕ) × (v' : Vec ℕ) × runs v answer v' × (v'.items ≡ v.items ++ payload)
+-- a payload that it may append to these bytes
+abbrev pub AppendsPayload : Runs → List ℕ → Result (Unit {0}) Error → List ℕ → Type 0
+AppendsPayload runs bytes answer payload = (v : Vec ℕ) × (v' : Vec ℕ) × (v.items ≡ bytes) × runs v answer v' × (v'.items ≡ bytes ++ payload)

@@ -122,7 +122,7 @@ impl PacketWriter {
     ) -> Result<(), Error>
         requires callable { F.IsAlwaysCallable f }
         requires appends { OnlyAppends (FnOnceReturnsAtMut F.FnOnce f) }
-        ensures { SealsWith (AppendsPayload (FnOnceReturnsAtMut F.FnOnce f)) (λ _. tt)
+        ensures { SealsWith (AppendsPayload (FnOnceReturnsAtMut F.FnOnce f) (self.old.output ++ 0 ∷ 0 ∷ 0 ∷ 0 ∷ 0 ∷ [])) (λ _. tt)
             self.old (R.stream rng.old) (R.stream rng.new) result self.new }
     {
         let start = self.buffer.buffer.len();
@@ -148,7 +148,7 @@ impl PacketWriter {
     ) -> Result<Bytes, Error>
         requires callable { F.IsAlwaysCallable f }
         requires appends { OnlyAppends (FnOnceReturnsAtMut F.FnOnce f) }
-        ensures { SealsWith (AppendsPayload (FnOnceReturnsAtMut F.FnOnce f)) (λ payload. payload)
+        ensures { SealsWith (AppendsPayload (FnOnceReturnsAtMut F.FnOnce f) []) (λ payload. payload)
             self.old (R.stream rng.old) (R.stream rng.new) result self.new }
     {
         let mut payload = Vec::new(*self.buffer.buffer.allocator());
@@ -326,11 +326,11 @@ fn append_with<F: FnOnce(&mut Vec<u8>) -> Result<(), Error>>(
 ) -> Result<(), Error>
     requires callable { F.IsAlwaysCallable f }
     requires appends { OnlyAppends (FnOnceReturnsAtMut F.FnOnce f) }
-    ensures ok { OnOk result ((payload : List ℕ) × AppendsPayload (FnOnceReturnsAtMut F.FnOnce f) result payload
+    ensures ok { OnOk result ((payload : List ℕ) × AppendsPayload (FnOnceReturnsAtMut F.FnOnce f) (out.old.items ++ 0 ∷ 0 ∷ 0 ∷ 0 ∷ 0 ∷ []) result payload
         × (out.new.items ≡ (out.old.items ++ 0 ∷ 0 ∷ 0 ∷ 0 ∷ 0 ∷ []) ++ payload)) }
     ensures unchanged { OnErr result (out.new.items ≡ out.old.items) }
     ensures err { IfErr result (λ e. (e ≡ Memory)
-        ⊎ ((payload : List ℕ) × AppendsPayload (FnOnceReturnsAtMut F.FnOnce f) (Err e) payload)) }
+        ⊎ ((payload : List ℕ) × AppendsPayload (FnOnceReturnsAtMut F.FnOnce f) (out.old.items ++ 0 ∷ 0 ∷ 0 ∷ 0 ∷ 0 ∷ []) (Err e) payload)) }
 {
     let start = out.len();
     out.extend_from_slice(&[0; HEAD])?;

@@ -4,7 +4,8 @@ use Rattle.ssh_packet.proofs.writer.PacketWriter.write_packet.Goals as goal
 
 pub returns-in_err-append_with : goal.returns-in_err-append_with
 returns-in_err-append_with g c =
-    refused_so _ _ _ _ c.in_err-append_with.field-0.0 _ _ (search rules) c.in_err-append_with.ensures.err (search rules)
+    rw (← c.self.view_is, ← c.self-inside.view_is)
+    (refused_so _ _ _ _ c.in_err-append_with.field-0.0 _ _ (search rules) c.in_err-append_with.ensures.err (search rules))
 
 pub returns-then-payload-eq0 : goal.returns-then-payload-eq0
 returns-then-payload-eq0 g c =
@@ -13,7 +14,8 @@ returns-then-payload-eq0 g c =
     let size : length c.append_with.new.out.items ≡ length old.items + 5 + length made.0 = size_behind old.items c.append_with.new.out.items made.0 made.2 in
     let none : length made.0 ≡ 0 = omega (arith, size, c.append_with.new.out.ok.0, old.ok.0) in
     let same : c.truncate.new.self.items ≡ old.items = c.truncate.ensures.items ∙ kept_before old.items c.append_with.new.out.items made.0 c.len-start.result made.2 (omega (arith, old.ok.0)) in
-    sent_nothing _ _ _ _ made.0 _ _ made.1 none refl (search rules)
+    rw (← c.self.view_is, ← c.self-inside.view_is)
+    (sent_nothing _ _ _ _ made.0 _ _ made.1 none refl (search rules))
 
 pub returns-then-payload-gt-LONGEST_PAYLOAD : goal.returns-then-payload-gt-LONGEST_PAYLOAD
 returns-then-payload-gt-LONGEST_PAYLOAD g c =
@@ -22,7 +24,8 @@ returns-then-payload-gt-LONGEST_PAYLOAD g c =
     let out = c.truncate-then-payload-gt-LONGEST_PAYLOAD in
     let size : length c.append_with.new.out.items ≡ length old.items + 5 + length made.0 = size_behind old.items c.append_with.new.out.items made.0 made.2 in
     let same : out.new.self.items ≡ old.items = out.ensures.items ∙ kept_before old.items c.append_with.new.out.items made.0 c.len-start.result made.2 (omega (arith, old.ok.0)) in
-    refused_too_long _ _ _ _ made.0 _ _ made.1 (omega (arith, size, c.append_with.new.out.ok.0, old.ok.0)) c.if-payload-gt-LONGEST_PAYLOAD.true (search rules)
+    rw (← c.self.view_is, ← c.self-inside.view_is)
+    (refused_too_long _ _ _ _ made.0 _ _ made.1 (omega (arith, size, c.append_with.new.out.ok.0, old.ok.0)) c.if-payload-gt-LONGEST_PAYLOAD.true (search rules))
 
 pub returns : goal.returns
 returns g c =
