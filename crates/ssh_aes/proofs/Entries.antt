@@ -138,20 +138,20 @@ unfolding product_modulo polynomial_product remainder
 nine-lt_test = refl
 
 pub nine-lt : (b : ℕ) → b < 256 → byte_product 9 b < 256
-nine-lt b h = ltb-true _ _ (and_left _ _ (all_below-at 256 (λ b. ltb (byte_product 9 b) 256 && ltb (byte_product 11 b) 256) nine-lt_test b h))
+nine-lt b h = ltb-true _ _ (and_parts _ _ (all_below-at 256 (λ b. ltb (byte_product 9 b) 256 && ltb (byte_product 11 b) 256) nine-lt_test b h)).0
 
 pub eleven-lt : (b : ℕ) → b < 256 → byte_product 11 b < 256
-eleven-lt b h = ltb-true _ _ (and_right _ _ (all_below-at 256 (λ b. ltb (byte_product 9 b) 256 && ltb (byte_product 11 b) 256) nine-lt_test b h))
+eleven-lt b h = ltb-true _ _ (and_parts _ _ (all_below-at 256 (λ b. ltb (byte_product 9 b) 256 && ltb (byte_product 11 b) 256) nine-lt_test b h)).1
 
 thirteen-lt_test : all_below 256 (λ b. ltb (byte_product 13 b) 256 && ltb (byte_product 14 b) 256) ≡ true
 unfolding product_modulo polynomial_product remainder
 thirteen-lt_test = refl
 
 pub thirteen-lt : (b : ℕ) → b < 256 → byte_product 13 b < 256
-thirteen-lt b h = ltb-true _ _ (and_left _ _ (all_below-at 256 (λ b. ltb (byte_product 13 b) 256 && ltb (byte_product 14 b) 256) thirteen-lt_test b h))
+thirteen-lt b h = ltb-true _ _ (and_parts _ _ (all_below-at 256 (λ b. ltb (byte_product 13 b) 256 && ltb (byte_product 14 b) 256) thirteen-lt_test b h)).0
 
 pub fourteen-lt : (b : ℕ) → b < 256 → byte_product 14 b < 256
-fourteen-lt b h = ltb-true _ _ (and_right _ _ (all_below-at 256 (λ b. ltb (byte_product 13 b) 256 && ltb (byte_product 14 b) 256) thirteen-lt_test b h))
+fourteen-lt b h = ltb-true _ _ (and_parts _ _ (all_below-at 256 (λ b. ltb (byte_product 13 b) 256 && ltb (byte_product 14 b) 256) thirteen-lt_test b h)).1
 
 -- ---- two rows of MixColumns and InvMixColumns together
 

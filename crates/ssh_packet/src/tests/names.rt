@@ -25,9 +25,19 @@ fn ciphers_named(rt: HostRuntime) {
         assert_eq!(rt; name.as_str(), text);
         assert_eq!(rt; cipher::Name::from_str(text), Some(name));
         assert_eq!(rt; name.needs_mac(), needs_mac, "{text}");
-        assert_eq!(rt; (name.key_len(), name.nonce_len()), (key_len, nonce_len), "{text}");
+        assert_eq!(rt;
+            (name.key_len(), name.nonce_len()),
+            (key_len, nonce_len),
+            "{text}"
+        );
     }
-    for text in ["", "aes128", "aes128-ctr ", "AES128-CTR", "aes192-gcm@openssh.com"] {
+    for text in [
+        "",
+        "aes128",
+        "aes128-ctr ",
+        "AES128-CTR",
+        "aes192-gcm@openssh.com",
+    ] {
         assert_eq!(rt; cipher::Name::from_str(text), None, "{text}");
     }
 }
@@ -35,7 +45,10 @@ fn ciphers_named(rt: HostRuntime) {
 #[test]
 fn compression_named(rt: HostRuntime) {
     assert_eq!(rt; compression::NONE.as_str(), "none");
-    assert_eq!(rt; compression::Name::from_str("none"), Some(compression::NONE));
+    assert_eq!(rt;
+        compression::Name::from_str("none"),
+        Some(compression::NONE)
+    );
     assert_eq!(rt; compression::Name::from_str("zlib"), None);
     assert_eq!(rt; compression::Name::from_str(""), None);
 }
@@ -69,7 +82,11 @@ fn keys_made(rt: HostRuntime) {
         let opening = cipher.make_opening_key(key, nonce, mac_key, mac);
         assert_eq!(rt; sealing.tag_len(), tag_len, "{cipher:?}, {mac:?}");
         assert_eq!(rt; opening.tag_len(), tag_len, "{cipher:?}, {mac:?}");
-        assert_eq!(rt; sealing.padding_length(b"five "), padding, "{cipher:?}, {mac:?}");
+        assert_eq!(rt;
+            sealing.padding_length(b"five "),
+            padding,
+            "{cipher:?}, {mac:?}"
+        );
         assert_eq!(rt;
             opening.packet_length_to_read_for_block_length(),
             probe,
