@@ -44,6 +44,18 @@ restored_test = refl
 pub restored_is : (b : ℕ) → b < 256 → slice_index INVERSE_SUBSTITUTION (slice_index SUBSTITUTION b) ≡ b
 restored_is b h = eqb-true _ _ (all_below-at 256 (λ b. eqb (slice_index INVERSE_SUBSTITUTION (slice_index SUBSTITUTION b)) b) restored_test b h)
 
+inverse_bytes_test : all_below 256 (λ b. ltb (slice_index INVERSE_SUBSTITUTION b) 256) ≡ true
+inverse_bytes_test = refl
+
+pub inverse_substitution-lt : (b : ℕ) → b < 256 → slice_index INVERSE_SUBSTITUTION b < 256
+inverse_substitution-lt b h = ltb-true _ _ (all_below-at 256 (λ b. ltb (slice_index INVERSE_SUBSTITUTION b) 256) inverse_bytes_test b h)
+
+replaced_test : all_below 256 (λ b. eqb (slice_index SUBSTITUTION (slice_index INVERSE_SUBSTITUTION b)) b) ≡ true
+replaced_test = refl
+
+pub replaced_is : (b : ℕ) → b < 256 → slice_index SUBSTITUTION (slice_index INVERSE_SUBSTITUTION b) ≡ b
+replaced_is b h = eqb-true _ _ (all_below-at 256 (λ b. eqb (slice_index SUBSTITUTION (slice_index INVERSE_SUBSTITUTION b)) b) replaced_test b h)
+
 constants_test : all_below 10 (λ n. eqb (slice_index ROUND_CONSTANTS n) (round_constant n)) ≡ true
 unfolding round_constant product_modulo polynomial_product remainder
 constants_test = refl
@@ -121,36 +133,83 @@ two-lt b h = ltb-true _ _ (and_left _ _ (small b h))
 pub three-lt : (b : ℕ) → b < 256 → byte_product 3 b < 256
 three-lt b h = ltb-true _ _ (and_right _ _ (small b h))
 
--- ---- a column of InvMixColumns and MixColumns together
-
--- what row 14, 11, 13, 9 makes of four products of a byte
-abbrev pub crossed : (p q r s b : ℕ) → ℕ
-crossed p q r s b = combined 14 11 13 9 (byte_product p b) (byte_product q b) (byte_product r b) (byte_product s b)
-
-first_test : all_below 256 (λ b. eqb (crossed 2 1 1 3 b) b) ≡ true
+nine-lt_test : all_below 256 (λ b. ltb (byte_product 9 b) 256 && ltb (byte_product 11 b) 256) ≡ true
 unfolding product_modulo polynomial_product remainder
-first_test = refl
+nine-lt_test = refl
 
-pub first_is : (b : ℕ) → b < 256 → crossed 2 1 1 3 b ≡ b
-first_is b h = eqb-true _ _ (all_below-at 256 (λ b. eqb (crossed 2 1 1 3 b) b) first_test b h)
+pub nine-lt : (b : ℕ) → b < 256 → byte_product 9 b < 256
+nine-lt b h = ltb-true _ _ (and_left _ _ (all_below-at 256 (λ b. ltb (byte_product 9 b) 256 && ltb (byte_product 11 b) 256) nine-lt_test b h))
 
-second_test : all_below 256 (λ b. eqb (crossed 3 2 1 1 b) 0) ≡ true
+pub eleven-lt : (b : ℕ) → b < 256 → byte_product 11 b < 256
+eleven-lt b h = ltb-true _ _ (and_right _ _ (all_below-at 256 (λ b. ltb (byte_product 9 b) 256 && ltb (byte_product 11 b) 256) nine-lt_test b h))
+
+thirteen-lt_test : all_below 256 (λ b. ltb (byte_product 13 b) 256 && ltb (byte_product 14 b) 256) ≡ true
 unfolding product_modulo polynomial_product remainder
-second_test = refl
+thirteen-lt_test = refl
 
-pub second_is : (b : ℕ) → b < 256 → crossed 3 2 1 1 b ≡ 0
-second_is b h = eqb-true _ _ (all_below-at 256 (λ b. eqb (crossed 3 2 1 1 b) 0) second_test b h)
+pub thirteen-lt : (b : ℕ) → b < 256 → byte_product 13 b < 256
+thirteen-lt b h = ltb-true _ _ (and_left _ _ (all_below-at 256 (λ b. ltb (byte_product 13 b) 256 && ltb (byte_product 14 b) 256) thirteen-lt_test b h))
 
-third_test : all_below 256 (λ b. eqb (crossed 1 3 2 1 b) 0) ≡ true
+pub fourteen-lt : (b : ℕ) → b < 256 → byte_product 14 b < 256
+fourteen-lt b h = ltb-true _ _ (and_right _ _ (all_below-at 256 (λ b. ltb (byte_product 13 b) 256 && ltb (byte_product 14 b) 256) thirteen-lt_test b h))
+
+-- ---- two rows of MixColumns and InvMixColumns together
+
+-- what the row j, k, l, m makes of four products of a byte
+abbrev pub crossed : (j k l m p q r s b : ℕ) → ℕ
+crossed j k l m p q r s b = combined j k l m (byte_product p b) (byte_product q b) (byte_product r b) (byte_product s b)
+
+-- the row j, k, l, m undoes the columns of the row p, q, r, s
+pub record UndoesRow (j k l m p q r s : ℕ) : Type 0 where
+  pub first : (b : ℕ) → b < 256 → crossed j k l m p s r q b ≡ b
+  pub second : (b : ℕ) → b < 256 → crossed j k l m q p s r b ≡ 0
+  pub third : (b : ℕ) → b < 256 → crossed j k l m r q p s b ≡ 0
+  pub fourth : (b : ℕ) → b < 256 → crossed j k l m s r q p b ≡ 0
+
+unmixed_first_test : all_below 256 (λ b. eqb (crossed 14 11 13 9 2 1 1 3 b) b) ≡ true
 unfolding product_modulo polynomial_product remainder
-third_test = refl
+unmixed_first_test = refl
 
-pub third_is : (b : ℕ) → b < 256 → crossed 1 3 2 1 b ≡ 0
-third_is b h = eqb-true _ _ (all_below-at 256 (λ b. eqb (crossed 1 3 2 1 b) 0) third_test b h)
-
-fourth_test : all_below 256 (λ b. eqb (crossed 1 1 3 2 b) 0) ≡ true
+unmixed_second_test : all_below 256 (λ b. eqb (crossed 14 11 13 9 3 2 1 1 b) 0) ≡ true
 unfolding product_modulo polynomial_product remainder
-fourth_test = refl
+unmixed_second_test = refl
 
-pub fourth_is : (b : ℕ) → b < 256 → crossed 1 1 3 2 b ≡ 0
-fourth_is b h = eqb-true _ _ (all_below-at 256 (λ b. eqb (crossed 1 1 3 2 b) 0) fourth_test b h)
+unmixed_third_test : all_below 256 (λ b. eqb (crossed 14 11 13 9 1 3 2 1 b) 0) ≡ true
+unfolding product_modulo polynomial_product remainder
+unmixed_third_test = refl
+
+unmixed_fourth_test : all_below 256 (λ b. eqb (crossed 14 11 13 9 1 1 3 2 b) 0) ≡ true
+unfolding product_modulo polynomial_product remainder
+unmixed_fourth_test = refl
+
+pub unmixed_undoes : UndoesRow 14 11 13 9 2 3 1 1
+unmixed_undoes = record {
+  first = λ b h. eqb-true _ _ (all_below-at 256 (λ b. eqb (crossed 14 11 13 9 2 1 1 3 b) b) unmixed_first_test b h);
+  second = λ b h. eqb-true _ _ (all_below-at 256 (λ b. eqb (crossed 14 11 13 9 3 2 1 1 b) 0) unmixed_second_test b h);
+  third = λ b h. eqb-true _ _ (all_below-at 256 (λ b. eqb (crossed 14 11 13 9 1 3 2 1 b) 0) unmixed_third_test b h);
+  fourth = λ b h. eqb-true _ _ (all_below-at 256 (λ b. eqb (crossed 14 11 13 9 1 1 3 2 b) 0) unmixed_fourth_test b h);
+}
+
+mixed_first_test : all_below 256 (λ b. eqb (crossed 2 3 1 1 14 9 13 11 b) b) ≡ true
+unfolding product_modulo polynomial_product remainder
+mixed_first_test = refl
+
+mixed_second_test : all_below 256 (λ b. eqb (crossed 2 3 1 1 11 14 9 13 b) 0) ≡ true
+unfolding product_modulo polynomial_product remainder
+mixed_second_test = refl
+
+mixed_third_test : all_below 256 (λ b. eqb (crossed 2 3 1 1 13 11 14 9 b) 0) ≡ true
+unfolding product_modulo polynomial_product remainder
+mixed_third_test = refl
+
+mixed_fourth_test : all_below 256 (λ b. eqb (crossed 2 3 1 1 9 13 11 14 b) 0) ≡ true
+unfolding product_modulo polynomial_product remainder
+mixed_fourth_test = refl
+
+pub mixed_undoes : UndoesRow 2 3 1 1 14 11 13 9
+mixed_undoes = record {
+  first = λ b h. eqb-true _ _ (all_below-at 256 (λ b. eqb (crossed 2 3 1 1 14 9 13 11 b) b) mixed_first_test b h);
+  second = λ b h. eqb-true _ _ (all_below-at 256 (λ b. eqb (crossed 2 3 1 1 11 14 9 13 b) 0) mixed_second_test b h);
+  third = λ b h. eqb-true _ _ (all_below-at 256 (λ b. eqb (crossed 2 3 1 1 13 11 14 9 b) 0) mixed_third_test b h);
+  fourth = λ b h. eqb-true _ _ (all_below-at 256 (λ b. eqb (crossed 2 3 1 1 9 13 11 14 b) 0) mixed_fourth_test b h);
+}

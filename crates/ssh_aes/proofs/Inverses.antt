@@ -9,7 +9,7 @@ use Rattle.ssh_aes.specs.Aes.{listed, substitute, inverse_substitute, sub_bytes,
 use Rattle.ssh_aes.specs.declared.tables.TheConstants.{INVERSE_SUBSTITUTION}
 use Rattle.ssh_aes.specs.Laws.{IsBytes, BlocksUndone}
 use Rattle.ssh_aes.proofs.Polynomials.{xor_across, xor_cancel, product_modulo-sum}
-use Rattle.ssh_aes.proofs.Entries.{substitution_is, inverse_substitution_is, substitution-lt, restored_is, one_is, two-lt, three-lt, crossed, first_is, second_is, third_is, fourth_is}
+use Rattle.ssh_aes.proofs.Entries.{substitution_is, inverse_substitution_is, substitution-lt, restored_is, one_is, two-lt, three-lt, UndoesRow, crossed, unmixed_undoes, mixed_undoes}
 use Rattle.ssh_aes.proofs.Schedules.{length-listed, listed-at, listed-same, block-same}
 use Rattle.ssh_aes.proofs.Written.{sixteen-elements}
 
@@ -47,7 +47,7 @@ pub IsBytes-append : (xs ys : List ℕ) → IsBytes xs → IsBytes ys → IsByte
 IsBytes-append [] ys a b = b
 IsBytes-append (x ∷ xs) ys a b = IsBytes-cons x (xs ++ ys) (a 0) (IsBytes-append xs ys (λ i. a (suc i)) b)
 
-IsBytes-four : (a b c d : ℕ) → a < 256 → b < 256 → c < 256 → d < 256 → IsBytes (a ∷ b ∷ c ∷ d ∷ [])
+pub IsBytes-four : (a b c d : ℕ) → a < 256 → b < 256 → c < 256 → d < 256 → IsBytes (a ∷ b ∷ c ∷ d ∷ [])
 IsBytes-four a b c d h i j k =
     IsBytes-cons a (b ∷ c ∷ d ∷ []) h (IsBytes-cons b (c ∷ d ∷ []) i (IsBytes-cons c (d ∷ []) j (IsBytes-cons d [] k IsBytes-nil)))
 
@@ -109,20 +109,9 @@ four_across a b c d e f g h =
     ∙ ap (λ x. bit_xor x (bit_xor (bit_xor c d) (bit_xor g h))) (xor_across a b e f)
     ∙ ap (bit_xor (bit_xor (bit_xor a e) (bit_xor b f))) (xor_across c d g h)
 
-abbrev row0 : (a b c d : ℕ) → ℕ
-row0 a b c d = combined 2 3 1 1 a b c d
-
-abbrev row1 : (a b c d : ℕ) → ℕ
-row1 a b c d = combined 1 2 3 1 a b c d
-
-abbrev row2 : (a b c d : ℕ) → ℕ
-row2 a b c d = combined 1 1 2 3 a b c d
-
-abbrev row3 : (a b c d : ℕ) → ℕ
-row3 a b c d = combined 3 1 1 2 a b c d
-
-abbrev unmix : (j k l m a b c d : ℕ) → ℕ
-unmix j k l m a b c d = combined j k l m (row0 a b c d) (row1 a b c d) (row2 a b c d) (row3 a b c d)
+-- the row j, k, l, m of the columns of the row p, q, r, s
+abbrev twice : (j k l m p q r s a b c d : ℕ) → ℕ
+twice j k l m p q r s a b c d = combined j k l m (combined p q r s a b c d) (combined s p q r a b c d) (combined r s p q a b c d) (combined q r s p a b c d)
 
 abbrev four : (a b c d : ℕ) → ℕ
 four a b c d = bit_xor (bit_xor a b) (bit_xor c d)
@@ -133,38 +122,49 @@ transposed a1 b1 c1 d1 a2 b2 c2 d2 a3 b3 c3 d3 a4 b4 c4 d4 =
     ∙ ap (bit_xor (four (bit_xor a1 a2) (bit_xor b1 b2) (bit_xor c1 c2) (bit_xor d1 d2))) (four_across a3 b3 c3 d3 a4 b4 c4 d4)
     ∙ four_across (bit_xor a1 a2) (bit_xor b1 b2) (bit_xor c1 c2) (bit_xor d1 d2) (bit_xor a3 a4) (bit_xor b3 b4) (bit_xor c3 c4) (bit_xor d3 d4)
 
-gathered : (a b c d : ℕ) → unmix 14 11 13 9 a b c d ≡ four (crossed 2 1 1 3 a) (crossed 3 2 1 1 b) (crossed 1 3 2 1 c) (crossed 1 1 3 2 d)
-gathered a b c d =
+gathered : (j k l m p q r s a b c d : ℕ) → twice j k l m p q r s a b c d ≡ four (crossed j k l m p s r q a) (crossed j k l m q p s r b) (crossed j k l m r q p s c) (crossed j k l m s r q p d)
+gathered j k l m p q r s a b c d =
     let P : ℕ → ℕ → ℕ = byte_product in
-    rw (spread 14 2 3 1 1 a b c d, spread 11 1 2 3 1 a b c d, spread 13 1 1 2 3 a b c d, spread 9 3 1 1 2 a b c d)
-    (transposed (P 14 (P 2 a)) (P 14 (P 3 b)) (P 14 (P 1 c)) (P 14 (P 1 d)) (P 11 (P 1 a)) (P 11 (P 2 b)) (P 11 (P 3 c)) (P 11 (P 1 d)) (P 13 (P 1 a)) (P 13 (P 1 b)) (P 13 (P 2 c)) (P 13 (P 3 d)) (P 9 (P 3 a)) (P 9 (P 1 b)) (P 9 (P 1 c)) (P 9 (P 2 d)))
+    rw (spread j p q r s a b c d, spread k s p q r a b c d, spread l r s p q a b c d, spread m q r s p a b c d)
+    (transposed (P j (P p a)) (P j (P q b)) (P j (P r c)) (P j (P s d)) (P k (P s a)) (P k (P p b)) (P k (P q c)) (P k (P r d)) (P l (P r a)) (P l (P s b)) (P l (P p c)) (P l (P q d)) (P m (P q a)) (P m (P r b)) (P m (P s c)) (P m (P p d)))
 
-first : (a b c d : ℕ) → a < 256 → b < 256 → c < 256 → d < 256 → unmix 14 11 13 9 a b c d ≡ a
-first a b c d h i j k =
+first : (j k l m p q r s a b c d : ℕ) → UndoesRow j k l m p q r s → a < 256 → b < 256 → c < 256 → d < 256 → twice j k l m p q r s a b c d ≡ a
+first j k l m p q r s a b c d u ha hb hc hd =
     let z : bit_xor (bit_xor a 0) (bit_xor 0 0) ≡ a = xor_zero_r (bit_xor a 0) ∙ xor_zero_r a in
-    rw (gathered a b c d, first_is a h, second_is b i, third_is c j, fourth_is d k) z
+    rw (gathered j k l m p q r s a b c d, u.first a ha, u.second b hb, u.third c hc, u.fourth d hd) z
 
 -- a column and the rows, turned by one
-turn : (j k l m a b c d : ℕ) → unmix j k l m a b c d ≡ unmix k l m j b c d a
-turn j k l m a b c d =
-    turned j k l m (row0 a b c d) (row1 a b c d) (row2 a b c d) (row3 a b c d)
-    ∙ ap (λ x. combined k l m j x (row2 a b c d) (row3 a b c d) (row0 a b c d)) (turned 1 2 3 1 a b c d)
-    ∙ ap (λ x. combined k l m j (row0 b c d a) x (row3 a b c d) (row0 a b c d)) (turned 1 1 2 3 a b c d)
-    ∙ ap (λ x. combined k l m j (row0 b c d a) (row1 b c d a) x (row0 a b c d)) (turned 3 1 1 2 a b c d)
-    ∙ ap (λ x. combined k l m j (row0 b c d a) (row1 b c d a) (row2 b c d a) x) (turned 2 3 1 1 a b c d)
+turn : (j k l m p q r s a b c d : ℕ) → twice j k l m p q r s a b c d ≡ twice k l m j p q r s b c d a
+turn j k l m p q r s a b c d =
+    turned j k l m (combined p q r s a b c d) (combined s p q r a b c d) (combined r s p q a b c d) (combined q r s p a b c d)
+    ∙ ap (λ x. combined k l m j x (combined r s p q a b c d) (combined q r s p a b c d) (combined p q r s a b c d)) (turned s p q r a b c d)
+    ∙ ap (λ x. combined k l m j (combined p q r s b c d a) x (combined q r s p a b c d) (combined p q r s a b c d)) (turned r s p q a b c d)
+    ∙ ap (λ x. combined k l m j (combined p q r s b c d a) (combined s p q r b c d a) x (combined p q r s a b c d)) (turned q r s p a b c d)
+    ∙ ap (λ x. combined k l m j (combined p q r s b c d a) (combined s p q r b c d a) (combined r s p q b c d a) x) (turned p q r s a b c d)
 
-second : (a b c d : ℕ) → a < 256 → b < 256 → c < 256 → d < 256 → unmix 9 14 11 13 a b c d ≡ b
-second a b c d h i j k = turn 9 14 11 13 a b c d ∙ first b c d a i j k h
+second : (j k l m p q r s a b c d : ℕ) → UndoesRow j k l m p q r s → a < 256 → b < 256 → c < 256 → d < 256 → twice m j k l p q r s a b c d ≡ b
+second j k l m p q r s a b c d u ha hb hc hd = turn m j k l p q r s a b c d ∙ first j k l m p q r s b c d a u hb hc hd ha
 
-third : (a b c d : ℕ) → a < 256 → b < 256 → c < 256 → d < 256 → unmix 13 9 14 11 a b c d ≡ c
-third a b c d h i j k = turn 13 9 14 11 a b c d ∙ second b c d a i j k h
+third : (j k l m p q r s a b c d : ℕ) → UndoesRow j k l m p q r s → a < 256 → b < 256 → c < 256 → d < 256 → twice l m j k p q r s a b c d ≡ c
+third j k l m p q r s a b c d u ha hb hc hd = turn l m j k p q r s a b c d ∙ second j k l m p q r s b c d a u hb hc hd ha
 
-fourth : (a b c d : ℕ) → a < 256 → b < 256 → c < 256 → d < 256 → unmix 11 13 9 14 a b c d ≡ d
-fourth a b c d h i j k = turn 11 13 9 14 a b c d ∙ third b c d a i j k h
+fourth : (j k l m p q r s a b c d : ℕ) → UndoesRow j k l m p q r s → a < 256 → b < 256 → c < 256 → d < 256 → twice k l m j p q r s a b c d ≡ d
+fourth j k l m p q r s a b c d u ha hb hc hd = turn k l m j p q r s a b c d ∙ third j k l m p q r s b c d a u hb hc hd ha
 
-column-back : (a b c d : ℕ) → a < 256 → b < 256 → c < 256 → d < 256 → unmixed_column (row0 a b c d) (row1 a b c d) (row2 a b c d) (row3 a b c d) ≡ a ∷ b ∷ c ∷ d ∷ []
+-- the four rows of a column
+abbrev turned_rows : (j k l m a b c d : ℕ) → List ℕ
+turned_rows j k l m a b c d = combined j k l m a b c d ∷ combined m j k l a b c d ∷ combined l m j k a b c d ∷ combined k l m j a b c d ∷ []
+
+rows-back : (j k l m p q r s a b c d : ℕ) → UndoesRow j k l m p q r s → a < 256 → b < 256 → c < 256 → d < 256 → turned_rows j k l m (combined p q r s a b c d) (combined s p q r a b c d) (combined r s p q a b c d) (combined q r s p a b c d) ≡ a ∷ b ∷ c ∷ d ∷ []
+rows-back j k l m p q r s a b c d u ha hb hc hd = rw (first j k l m p q r s a b c d u ha hb hc hd, second j k l m p q r s a b c d u ha hb hc hd, third j k l m p q r s a b c d u ha hb hc hd, fourth j k l m p q r s a b c d u ha hb hc hd) refl
+
+column-back : (a b c d : ℕ) → a < 256 → b < 256 → c < 256 → d < 256 → unmixed_column (combined 2 3 1 1 a b c d) (combined 1 2 3 1 a b c d) (combined 1 1 2 3 a b c d) (combined 3 1 1 2 a b c d) ≡ a ∷ b ∷ c ∷ d ∷ []
 unfolding unmixed_column
-column-back a b c d h i j k = rw (first a b c d h i j k, second a b c d h i j k, third a b c d h i j k, fourth a b c d h i j k) refl
+column-back a b c d ha hb hc hd = rows-back 14 11 13 9 2 3 1 1 a b c d unmixed_undoes ha hb hc hd
+
+pub column-again : (a b c d : ℕ) → a < 256 → b < 256 → c < 256 → d < 256 → mixed_column (combined 14 11 13 9 a b c d) (combined 9 14 11 13 a b c d) (combined 13 9 14 11 a b c d) (combined 11 13 9 14 a b c d) ≡ a ∷ b ∷ c ∷ d ∷ []
+unfolding mixed_column
+column-again a b c d ha hb hc hd = rows-back 2 3 1 1 14 11 13 9 a b c d mixed_undoes ha hb hc hd
 
 pub mix_columns-back : (s : List ℕ) → IsBlock s → inverse_mix_columns (mix_columns s) ≡ s
 unfolding mix_columns inverse_mix_columns mixed_column
@@ -175,7 +175,7 @@ mix_columns-back s b =
     let t = column-back (slice_index s 12) (slice_index s 13) (slice_index s 14) (slice_index s 15) (b.bytes 12) (b.bytes 13) (b.bytes 14) (b.bytes 15) in
     rw (p, q, r, t) (sixteen-elements s b.length_is)
 
-combined-lt : (j k l m a b c d : ℕ) → byte_product j a < 256 → byte_product k b < 256 → byte_product l c < 256 → byte_product m d < 256 → combined j k l m a b c d < 256
+pub combined-lt : (j k l m a b c d : ℕ) → byte_product j a < 256 → byte_product k b < 256 → byte_product l c < 256 → byte_product m d < 256 → combined j k l m a b c d < 256
 combined-lt j k l m a b c d p q r s = xor-lt _ _ (xor-lt _ _ p q) (xor-lt _ _ r s)
 
 one-lt : (b : ℕ) → b < 256 → byte_product 1 b < 256

@@ -4,8 +4,10 @@ pub mod Polynomials
 pub mod Written
 pub mod Schedules
 pub mod Inverses
+pub mod Redone
 pub mod Worked
 pub mod Running
+pub mod Closing
 pub mod Chaining
 pub mod Sealing
 pub mod Fronts

@@ -38,7 +38,7 @@ counted-again : (key iv : List ℕ) (p : ℕ) (t y : List ℕ) (i : ℕ) → i <
 counted-again key iv p t y i h k e =
     counted-at key iv p y i k ∙ ap (λ x. bit_xor x (stream_byte key iv ((p + i) % 2 ^ 64))) (e ∙ counted-at key iv p t i h) ∙ xor_cancel (slice_index t i) (stream_byte key iv ((p + i) % 2 ^ 64))
 
-counted-back : (key iv : List ℕ) (p : ℕ) (t : List ℕ) → counted key iv p (counted key iv p t) ≡ t
+pub counted-back : (key iv : List ℕ) (p : ℕ) (t : List ℕ) → counted key iv p (counted key iv p t) ≡ t
 counted-back key iv p t =
     let l = length-counted key iv p t in
     let m = length-counted key iv p (counted key iv p t) in

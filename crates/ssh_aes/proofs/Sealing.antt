@@ -6,8 +6,9 @@ use Rattle.std.proofs.lemmas.List.{get_or-take, get_or-drop, drop-drop}
 use Rattle.std.proofs.lemmas.List.Sums.{fold-append}
 use Rattle.std.proofs.lemmas.List.FromFn.{fill_by_all}
 use Rattle.ssh_aes.specs.Aes.{listed}
-use Rattle.ssh_aes.specs.Gcm.{nonce_stream, gcm_counted, cipher_tag, element, element_block, hashed, hash_step, hash_key, tag_blocks, blocks, padded_blocks, length_block}
-use Rattle.ssh_aes.specs.Laws.{GcmWell}
+use Rattle.ssh_aes.specs.Gcm.{nonce_block, nonce_stream, gcm_counted, cipher_tag, element, element_block, hashed, hash_step, hash_key, tag_blocks, blocks, padded_blocks, length_block}
+use Rattle.ssh_aes.specs.Laws.{IsBytes, GcmWell, GcmClosesWell}
+use Rattle.ssh_aes.proofs.Inverses.{IsBytes-listed, aes-block, xor-lt}
 use Rattle.ssh_aes.proofs.Polynomials.{xor_cancel}
 use Rattle.ssh_aes.proofs.Schedules.{length-listed, listed-at}
 use Rattle.ssh_aes.proofs.Running.{all-listed}
@@ -40,6 +41,22 @@ gcm_well key nonce = record {
   injective = λ aad s t b c l e. sym (gcm_counted-back key nonce s) ∙ ap (gcm_counted key nonce) e ∙ gcm_counted-back key nonce t;
   tag = λ aad t. length-cipher_tag key nonce aad (gcm_counted key nonce t);
   opens = λ aad t b. gcm_counted-back key nonce t;
+}
+
+nonce_stream-bytes : (key nonce : List ℕ) (n : ℕ) → IsBytes (nonce_stream key nonce n)
+unfolding nonce_stream
+nonce_stream-bytes key nonce n = let b = aes-block key (nonce_block nonce n) in b.bytes
+
+gcm_counted-bytes : (key nonce c : List ℕ) → IsBytes c → IsBytes (gcm_counted key nonce c)
+unfolding gcm_counted
+gcm_counted-bytes key nonce c b = IsBytes-listed (length c) _ (λ i l. xor-lt _ _ (b i) (nonce_stream-bytes key nonce (i / 16 + 2) (i % 16)))
+
+pub gcm_closes_well : (key nonce : List ℕ) → GcmClosesWell key nonce
+gcm_closes_well key nonce = record {
+  same_length = λ aad c. length-gcm_counted key nonce c;
+  bytes = λ aad c b. gcm_counted-bytes key nonce c b;
+  closes = λ aad c. gcm_counted-back key nonce c;
+  tag = λ aad c. ap (cipher_tag key nonce aad) (gcm_counted-back key nonce c);
 }
 
 -- ---- a block as a number

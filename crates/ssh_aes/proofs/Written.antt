@@ -40,8 +40,3 @@ four-fours p q r s hp hq hr hs =
     ∙ ap (λ x. p ++ x ++ (slice_index r 0 ∷ slice_index r 1 ∷ slice_index r 2 ∷ slice_index r 3 ∷ []) ++ (slice_index s 0 ∷ slice_index s 1 ∷ slice_index s 2 ∷ slice_index s 3 ∷ [])) (four-elements q hq)
     ∙ ap (λ x. p ++ q ++ x ++ (slice_index s 0 ∷ slice_index s 1 ∷ slice_index s 2 ∷ slice_index s 3 ∷ [])) (four-elements r hr)
     ∙ ap (λ x. p ++ q ++ r ++ x) (four-elements s hs)
-
-pub two-eights : (p q : List ℕ) → length p ≡ 8 → length q ≡ 8 → listed 8 (slice_index p) ++ listed 8 (slice_index q) ≡ p ++ q
-two-eights p q hp hq =
-    ap (λ x. x ++ listed 8 (slice_index q)) (sym (fill_by_all (slice_index p) p 8 0 hp (λ k l. refl)))
-    ∙ ap (λ x. p ++ x) (sym (fill_by_all (slice_index q) q 8 0 hq (λ k l. refl)))

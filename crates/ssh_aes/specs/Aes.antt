@@ -88,10 +88,6 @@ add_round_key w round s = listed 16 (λ i. bit_xor (slice_index s i) (slice_inde
 abbrev pub key_words : List ℕ → ℕ
 key_words key = if nat_le (length key) 16 then 4 else (if nat_le (length key) 24 then 6 else 8)
 
--- the number of rounds: 10, 12 or 14 (section 5)
-abbrev pub round_count : List ℕ → ℕ
-round_count key = key_words key + 6
-
 -- the round constant of number n + 1: x^n (5.5)
 unfoldable pub round_constant : ℕ → ℕ
 round_constant zero = 1

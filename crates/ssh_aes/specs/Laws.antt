@@ -2,7 +2,7 @@
 use Rattle.std.specs.Prelude.{◌≡◌, ℕ, ◌*◌, ◌<◌, ◌≤◌, List, ◌++◌, length, take, slice_index}
 use Rattle.ssh_aes.specs.Aes.{aes, inverse_aes}
 use Rattle.ssh_aes.specs.Modes.{Running, masked, unmasked, moved, passed, least}
-use Rattle.ssh_aes.specs.Gcm.{gcm_text, gcm_tag, gcm_plain}
+use Rattle.ssh_aes.specs.Gcm.{gcm_text, gcm_tag, gcm_plain, cipher_tag}
 
 -- each element is a byte
 abbrev pub IsBytes : List ℕ → Type 0
@@ -11,6 +11,10 @@ IsBytes bytes = (i : ℕ) → slice_index bytes i < 256
 -- decryption undoes encryption, under every key
 abbrev pub BlocksUndone : Type 0
 BlocksUndone = (key s : List ℕ) → IsBytes s → length s ≡ 16 → inverse_aes key (aes key s) ≡ s
+
+-- and encryption undoes decryption
+abbrev pub BlocksRedone : Type 0
+BlocksRedone = (key s : List ℕ) → IsBytes s → length s ≡ 16 → aes key (inverse_aes key s) ≡ s
 
 -- masking keeps the length, tells texts apart, and shows the first four bytes at the front
 pub record RunsWell (r : Running) : Type 0 where
@@ -24,6 +28,15 @@ pub record OpensWell (r : Running) : Type 0 where
   pub leaves : (t : List ℕ) → passed r (masked r t) ≡ moved r t
   pub early : (t x : List ℕ) → IsBytes t → least r ≤ length t → 16 ≤ length (masked r t ++ x) → take 4 (unmasked r (take 16 (masked r t ++ x))) ≡ take 4 t
 
+-- Masking undoes opening of any bytes and leaves the same state, and the first block of any bytes gives the first four
+-- that are opened.
+pub record ClosesWell (r : Running) : Type 0 where
+  pub same_length : (c : List ℕ) → length (unmasked r c) ≡ length c
+  pub bytes : (c : List ℕ) → IsBytes c → IsBytes (unmasked r c)
+  pub closes : (c : List ℕ) → IsBytes c → masked r (unmasked r c) ≡ c
+  pub leaves : (c : List ℕ) → IsBytes c → moved r (unmasked r c) ≡ passed r c
+  pub early : (c x : List ℕ) → least r ≤ length c → 16 ≤ length (c ++ x) → take 4 (unmasked r (take 16 (c ++ x))) ≡ take 4 (unmasked r c)
+
 -- a front of whole blocks of a masked text is the masked front
 abbrev pub FrontsKept : Type 0
 FrontsKept = (r : Running) (k : ℕ) (t : List ℕ) → take (16 * k) (masked r t) ≡ masked r (take (16 * k) t)
@@ -34,6 +47,13 @@ pub record GcmWell (key nonce : List ℕ) : Type 0 where
   pub injective : (aad s t : List ℕ) → IsBytes s → IsBytes t → length s ≡ length t → gcm_text key nonce aad s ≡ gcm_text key nonce aad t → s ≡ t
   pub tag : (aad t : List ℕ) → length (gcm_tag key nonce aad t) ≡ 16
   pub opens : (aad t : List ℕ) → IsBytes t → gcm_plain key nonce aad (gcm_text key nonce aad t) ≡ t
+
+-- sealing undoes opening of any bytes, and makes the tag that they have
+pub record GcmClosesWell (key nonce : List ℕ) : Type 0 where
+  pub same_length : (aad c : List ℕ) → length (gcm_plain key nonce aad c) ≡ length c
+  pub bytes : (aad c : List ℕ) → IsBytes c → IsBytes (gcm_plain key nonce aad c)
+  pub closes : (aad c : List ℕ) → gcm_text key nonce aad (gcm_plain key nonce aad c) ≡ c
+  pub tag : (aad c : List ℕ) → gcm_tag key nonce aad (gcm_plain key nonce aad c) ≡ cipher_tag key nonce aad c
 
 -- two ciphers at equal states: one decrypts what the other encrypts, whatever the length, and they
 -- are at equal states again

@@ -1,7 +1,7 @@
 //! Laws of the block cipher and of its modes, for proofs above to cite.
 
 ghost use Rattle.ssh_aes.specs.Examples.{SubstitutionExample, InversesExample, BlockExamples, SealedExamples};
-ghost use Rattle.ssh_aes.specs.Laws.{BlocksUndone, FrontsKept, RunsWell, OpensWell, GcmWell, StreamsUndone};
+ghost use Rattle.ssh_aes.specs.Laws.{BlocksUndone, BlocksRedone, FrontsKept, RunsWell, OpensWell, ClosesWell, GcmWell, GcmClosesWell, StreamsUndone};
 ghost use Rattle.ssh_aes.specs.Modes.{Running};
 ghost use Rattle.std.specs.Prelude.{ℕ, List};
 
@@ -20,6 +20,11 @@ pub fn blocks_undone()
     ensures { BlocksUndone }
 {}
 
+/// Encryption undoes decryption, under every key.
+pub fn blocks_redone()
+    ensures { BlocksRedone }
+{}
+
 /// Masking keeps the length, tells texts apart, and shows a text's front at the front.
 pub fn runs_well()
     ensures { (r : Running) → RunsWell r }
@@ -35,6 +40,11 @@ pub fn opens_well()
     ensures { (r : Running) → OpensWell r }
 {}
 
+/// Masking undoes opening of whatever bytes, and leaves the same state.
+pub fn closes_well()
+    ensures { (r : Running) → ClosesWell r }
+{}
+
 /// Two ciphers at equal states undo each other, whatever the length, and are at equal states again.
 pub fn streams_undone<C: BlockStreamCipher>()
     ensures { StreamsUndone C.running }
@@ -43,4 +53,9 @@ pub fn streams_undone<C: BlockStreamCipher>()
 /// Sealing in Galois counter mode keeps the length, makes a tag of 16 bytes, and is undone.
 pub fn gcm_well()
     ensures { (key nonce : List ℕ) → GcmWell key nonce }
+{}
+
+/// Galois counter mode seals what it opened from whatever bytes to those bytes, and to their tag.
+pub fn gcm_closes_well()
+    ensures { (key nonce : List ℕ) → GcmClosesWell key nonce }
 {}

@@ -18,7 +18,7 @@ const CLIENT_LINE: &str = "client wire 5353482d322e302d7373686c696e6b5f636c69656
 const SERVER_LINE: &str = "server wire 5353482d322e302d7373686c696e6b5f7365727665720d0a";
 
 /// Scripts of the command `clear`: the status, and what is written of the client and of the server.
-const SCRIPTS: [(&str, u8, &str, &str); 9] = [
+const SCRIPTS: [(&str, u8, &str, &str); 10] = [
     (
         "submit client 616263\ndeliver server 25\ndeliver server 100\n",
         0,
@@ -47,6 +47,7 @@ const SCRIPTS: [(&str, u8, &str, &str); 9] = [
         "script 4 Malformed\n",
         "",
     ),
+    ("# x\n\ndeliver server 01\n", 3, "script 3 Malformed\n", ""),
     ("deliver\tserver 1", 3, "script 1 NotBuilt\n", ""),
 ];
 

@@ -58,7 +58,7 @@ closed_parts Clear number t = sym (append-nil t)
 closed_parts (Block r mac) number t = enclosed_parts (is_encrypt_then_mac mac) r mac number t
 closed_parts (Gcm key nonce) number t = sym (append_assoc (take 4 t) (gcm_text key nonce (take 4 t) (drop 4 t)) _)
 
-length_headed : (t u : List ℕ) → 4 ≤ length t → length u ≡ length (drop 4 t) → length (take 4 t ++ u) ≡ length t
+pub length_headed : (t u : List ℕ) → 4 ≤ length t → length u ≡ length (drop 4 t) → length (take 4 t ++ u) ≡ length t
 length_headed t u h e = omega (arith, length-append (take 4 t) u, length_take4 t h, e, length-drop 4 t)
 
 length_body_by : (etm : Bool) (r : Running) (t : List ℕ) → 4 ≤ length t → length (body_by etm r t) ≡ length t
@@ -79,10 +79,10 @@ length_tag (Block r mac) number t = length-tag_of mac number _
 length_tag (Gcm key nonce) number t = (gcm_well key nonce).tag _ _
 
 -- the first four bytes of something headed by the first four of t are those
-take_headed : (t u : List ℕ) → 4 ≤ length t → take 4 (take 4 t ++ u) ≡ take 4 t
+pub take_headed : (t u : List ℕ) → 4 ≤ length t → take 4 (take 4 t ++ u) ≡ take 4 t
 take_headed t u h = subst (λ n. take n (take 4 t ++ u) ≡ take 4 t) (length_take4 t h) (take-append_seam (take 4 t) u)
 
-drop_headed : (t u : List ℕ) → 4 ≤ length t → drop 4 (take 4 t ++ u) ≡ u
+pub drop_headed : (t u : List ℕ) → 4 ≤ length t → drop 4 (take 4 t ++ u) ≡ u
 drop_headed t u h = subst (λ n. drop n (take 4 t ++ u) ≡ u) (length_take4 t h) (drop-append_seam (take 4 t) u)
 
 rejoined : (t u v : List ℕ) → 4 ≤ length t → u ≡ take 4 t → v ≡ drop 4 t → u ++ v ≡ t

@@ -6,4 +6,5 @@ pub mod Fronts
 pub mod Lent
 pub mod Padding
 pub mod Shapes
+pub mod Sound
 pub mod Streams

@@ -35,7 +35,7 @@ index_drop t k i = grind (arith, common_steps)
 pub bytes_drop : (t : List ℕ) (k : ℕ) → IsBytes t → IsBytes (drop k t)
 bytes_drop t k h i = let e = index_drop t k i in omega (arith, e, h (k + i))
 
-bytes_append : (a b : List ℕ) → IsBytes a → IsBytes b → IsBytes (a ++ b)
+pub bytes_append : (a b : List ℕ) → IsBytes a → IsBytes b → IsBytes (a ++ b)
 bytes_append [] b ha hb i = hb i
 bytes_append (x ∷ a) b ha hb zero = ha 0
 bytes_append (x ∷ a) b ha hb (suc i) = bytes_append a b (λ k. ha (suc k)) hb i

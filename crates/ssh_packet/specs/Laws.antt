@@ -14,9 +14,17 @@ OnePacket = (sealing : Sealing) (number : ℕ) (a b : Item) (x y : List ℕ) →
 abbrev pub FrontWhole : Type 0
 FrontWhole = (sealing : Sealing) (number : ℕ) (item : Item) (rest : List ℕ) → IsAdmissible sealing item → front_of sealing number (sealed sealing number item ++ rest) ≡ Whole item rest
 
+-- and what the reader finds in bytes is an admissible packet that stands there sealed
+abbrev pub FrontSound : Type 0
+FrontSound = (sealing : Sealing) (number : ℕ) (bytes rest : List ℕ) (item : Item) → IsBytes bytes → front_of sealing number bytes ≡ Whole item rest → IsAdmissible sealing item × (bytes ≡ sealed sealing number item ++ rest)
+
 -- A packet and its tag that a framed text was sealed to open to the text, and leave what sealing left.
 abbrev pub OpensAgain : Type 0
 OpensAgain = (sealing : Sealing) (number : ℕ) (text packet tag : List ℕ) → IsBytes text → 4 ≤ length text → length packet ≡ length text → packet ++ tag ≡ closed sealing number text → (tag ≡ tag_for sealing number packet) × (text_in sealing packet ≡ text) × (opened_past sealing packet ≡ moved_past sealing text)
+
+-- so does a pair of keys at one state, whatever their types: what one seals the other opens, and both are at one state again
+abbrev pub PairOpens : {S O : Type 0} → (S → Sealing) → (O → Sealing) → Type 0
+PairOpens {S} {O} sealing opening = (s : S) (o : O) (number : ℕ) (text packet tag : List ℕ) → sealing s ≡ opening o → IsBytes text → 4 ≤ length text → length packet ≡ length text → packet ++ tag ≡ closed (sealing s) number text → (tag ≡ tag_for (opening o) number packet) × (text_in (opening o) packet ≡ text) × (opened_past (opening o) packet ≡ moved_past (sealing s) text)
 
 -- behind a packet that was sealed, what a reader opens with is what the writer seals under
 abbrev pub StatesAgree : Type 0

@@ -1,7 +1,9 @@
 //! Laws of packets and of streams of packets, for proofs above to cite.
 
-ghost use Rattle.ssh_packet.specs.Laws.{OnePacket, FrontWhole, OpensAgain, StatesAgree, FrontStays};
+ghost use Rattle.ssh_packet.specs.Laws.{OnePacket, FrontWhole, FrontSound, OpensAgain, PairOpens, StatesAgree, FrontStays};
 ghost use Rattle.ssh_packet.specs.Laws.{OneReading, PlainReading, Carried, Padded};
+
+use crate::cipher::{OpeningKey, SealingKey};
 
 /// State, number and bytes determine a packet, whatever follows it.
 pub fn one_packet()
@@ -13,9 +15,19 @@ pub fn front_whole()
     ensures { FrontWhole }
 {}
 
+/// What a reader finds was sealed: an admissible packet, whose bytes stand at the front.
+pub fn front_sound()
+    ensures { FrontSound }
+{}
+
 /// At one key state and number, opening what was sealed gives what was sealed, and both leave one state.
 pub fn opens_again()
     ensures { OpensAgain }
+{}
+
+/// So do a sealing key and an opening key of whatever types.
+pub fn pair_opens<S: SealingKey, O: OpeningKey>()
+    ensures { PairOpens S.sealing O.opening }
 {}
 
 /// Behind a packet that was sealed, what a reader opens with is what the writer seals under.

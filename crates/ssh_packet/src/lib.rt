@@ -22,8 +22,8 @@ pub use crate::cipher::{OpeningKey, SealingKey};
 pub use crate::error::OpenError;
 pub use crate::keys::{CipherPair, OpenKey, SealKey};
 pub use crate::laws::{
-    carried, front_stays, front_whole, one_packet, one_reading, opens_again, padded, plain_reading,
-    states_agree,
+    carried, front_sound, front_stays, front_whole, one_packet, one_reading, opens_again, padded,
+    pair_opens, plain_reading, states_agree,
 };
 pub use crate::reader::{Incoming, PacketReader};
 pub use crate::writer::PacketWriter;

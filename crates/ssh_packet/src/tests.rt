@@ -1,6 +1,9 @@
 //! Clear packets sealed and opened, by rows worked out from RFC 4253 section 6, each call that takes
 //! memory, and each kind of key by packets of a real peer.
 
+mod names;
+mod peers;
+
 ghost use Rattle.std.specs.Prelude.{ℕ, ◌+◌, ◌%◌, ◌^◌};
 ghost use Rattle.rand_core.specs.Steps.{stream_of, steps_u32};
 

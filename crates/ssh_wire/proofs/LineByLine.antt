@@ -5,7 +5,7 @@ use Rattle.std.proofs.Math.Seq.{drop-append-add, take-length}
 use Rattle.std.proofs.lemmas.List.{drop-drop, length-drop}
 use Rattle.ssh_wire.specs.Lines.{IdFound, NotYet, Id, Version, behind, judged, id_of, line_end, line_text, is_id_text, Line, Unfinished, IdLine, OtherLine, TooLong, line_to, line_of, other_line_limit}
 use Rattle.ssh_wire.specs.Reading.{IdReading, Waiting, Heard, Failed, still_allowed, by_end, left_of, Decides, Feeds}
-use Rattle.ssh_wire.specs.Stepping.{ReadsTo, ReadsLine, may_pass, PassesOther, shifted, GoesOn, others_left}
+use Rattle.ssh_wire.specs.Stepping.{ReadsTo, ReadsLine, may_pass, PassesOther, shifted, GoesOn}
 use Rattle.ssh_wire.specs.declared.error.Error.{Error}
 use Rattle.ssh_wire.specs.declared.error.Error.TheVariants as error
 use Rattle.ssh_wire.specs.declared.read_id.IdProgress.{IdProgress}
@@ -212,28 +212,3 @@ pub shifted_none : (r : Result IdProgress Error) → shifted 0 r ≡ r
 shifted_none (Ok progress.NotYet) = refl
 shifted_none (Ok (progress.Id k)) = let same : 0 + k ≡ k = omega arith in ap (λ x. Ok (progress.Id x)) same
 shifted_none (Err e) = refl
-
-pub goes_from : (allow : Bool) (old : IdReading) (piece : List ℕ) → GoesOn allow old piece 0 old
-goes_from allow old piece = λ r last g. let Q : Result IdProgress Error → Type 0 = λ x. Feeds allow old piece x last in subst Q (sym (shifted_none r)) g
-
--- fewer other lines may come behind one
-fewer_left : (allow : Bool) (w p : List ℕ) (o more : ℕ) (mid new : IdReading) (line : Line) → ReadsTo line (length w) (w ++ p) o (read.OtherLine more) mid → PassesOther allow mid true new → others_left new < others_left (Waiting w o)
-fewer_left allow w p o more mid new Unfinished h f = let q = h.0 in cc
-fewer_left allow w p o more mid new (IdLine t n) h f = let q = h.0 in cc
-fewer_left allow w p o more mid new TooLong h f = let q = h.0 in cc
-fewer_left false w p o more mid new (OtherLine n) h f =
-    let P : IdReading → Type 0 = λ m. PassesOther false m true new in
-    let at : PassesOther false (Waiting [] o) true new = subst P h.1 f in
-    let q : true ≡ false = at.0 in
-    cc
-fewer_left true w p o more mid new (OtherLine n) h f =
-    let P : IdReading → Type 0 = λ m. PassesOther true m true new in
-    let at : PassesOther true (Waiting [] o) true new = subst P h.1 f in
-    let one = one_allowed o at.0 in
-    let same : others_left new ≡ other_line_limit - (o + 1) = ap others_left at.1 in
-    omega (arith, one.0)
-
-pub falls : (allow : Bool) (now mid new : IdReading) (p : List ℕ) (more : ℕ) → ReadsLine now p (read.OtherLine more) mid → PassesOther allow mid true new → others_left new < others_left now
-falls allow (Waiting w o) mid new p more h f = fewer_left allow w p o more mid new (line_of (w ++ p)) h f
-falls allow (Heard t) mid new p more h f = let q = h.0 in cc
-falls allow Failed mid new p more h f = let q = h.0 in cc

@@ -1,5 +1,5 @@
 -- Names taken from a text and joined again.
-use Rattle.std.proofs.Common.{◌≡◌, ℕ, zero, suc, ◌+◌, ◌-◌, ◌&&◌, ◌<◌, ◌≤◌, Bool, true, false, nat_lt, nat_le, List, [], ◌∷◌, ◌++◌, length, take, drop, slice_index, get_or, Option, Some, None, Result, Ok, Err, ◌⊎◌, All, if◌then◌else◌, refl, sym, ap, ◌∙◌, inl, inr, append_assoc, append-nil, arith}
+use Rattle.std.proofs.Common.{◌≡◌, ℕ, zero, suc, ◌+◌, ◌-◌, ◌&&◌, ◌<◌, ◌≤◌, Bool, true, false, nat_lt, nat_le, List, [], ◌∷◌, ◌++◌, length, take, drop, slice_index, get_or, Option, Some, None, Result, Ok, Err, ◌⊎◌, All, if◌then◌else◌, refl, sym, ap, ◌∙◌, inl, inr, append_assoc, arith}
 use Rattle.std.specs.List.{slice_split, list_all, position_or_len}
 use Rattle.std.specs.Prelude.{position}
 use Rattle.std.specs.Str.{IsAscii, is_utf8}
@@ -19,7 +19,7 @@ use Rattle.ssh_wire.specs.Naming.{behind_comma, Spelled}
 use Rattle.ssh_wire.proofs.FieldLaws.{bind_ok, same_pair, limited_takes, limited_again}
 use Rattle.ssh_wire.specs.declared.error.EncodingFault.{EncodingFault}
 use Rattle.ssh_wire.specs.declared.error.Error.{Error}
-use Rattle.ssh_wire.specs.declared.error.Error.TheVariants.{SshEncoding, Memory}
+use Rattle.ssh_wire.specs.declared.error.Error.TheVariants.{Memory}
 
 joined_snoc : (x y : List ℕ) (xs : List (List ℕ)) → joined ((x ∷ xs) ++ y ∷ []) ≡ joined (x ∷ xs) ++ 44 ∷ y
 joined_snoc x y [] = refl
@@ -101,21 +101,6 @@ pub name_utf8 : (name : List ℕ) → is_name name ≡ true → is_utf8 name ≡
 name_utf8 name h =
     let both = both_true (nat_lt 0 (length name)) (list_all (λ b. nat_lt b 128) name) h in
     is_utf8-from_IsUtf8 name (IsUtf8-from_ascii name (ascii_from_all name both.1))
-
--- one name taken off a text
-pub names_step : (names now ps all : List (List ℕ)) (name kept : List ℕ) → now ≡ name ∷ ps → kept ≡ name → fault_of (length names) name ≡ None → names ++ now ≡ all → first_fault (length names) now ≡ first_fault 0 all → ((names ++ kept ∷ []) ++ ps ≡ all) × (first_fault (length (names ++ kept ∷ [])) ps ≡ first_fault 0 all)
-names_step names now ps all name kept e k none parts faults = (
-  append_assoc names (kept ∷ []) ps ∙ (ap (λ x. names ++ x ∷ ps) k ∙ (ap (λ l. names ++ l) (sym e) ∙ parts)),
-  (ap (λ n. first_fault n ps) (length-append names (kept ∷ [])) ∙ ap (λ f. or_later f (first_fault (length names + 1) ps)) (sym none)) ∙ (ap (first_fault (length names)) (sym e) ∙ faults),
-)
-
-pub names_fault : (names now ps all : List (List ℕ)) (name : List ℕ) (f : EncodingFault) → now ≡ name ∷ ps → fault_of (length names) name ≡ Some f → first_fault (length names) now ≡ first_fault 0 all → answered (checked all) ≡ Err (SshEncoding f)
-names_fault names now ps all name f e some faults =
-    let found : first_fault 0 all ≡ Some f = sym faults ∙ (ap (first_fault (length names)) e ∙ ap (λ x. or_later x (first_fault (length names + 1) ps)) some) in
-    ap (λ x. answered (unless_faulty x all)) found
-
-pub names_done : (names all : List (List ℕ)) → names ++ [] ≡ all → first_fault (length names) [] ≡ first_fault 0 all → checked all ≡ Ok names
-names_done names all parts faults = ap (λ x. unless_faulty x all) (sym faults) ∙ ap (λ l. Ok l) (sym parts ∙ append-nil names)
 
 pub names_of_some : (text : List ℕ) → 0 < length text → names_of text ≡ checked (slice_split is_comma (without_last_comma text))
 names_of_some [] h = absurd (omega arith)

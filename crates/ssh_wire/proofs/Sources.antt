@@ -5,9 +5,9 @@ use Rattle.std.proofs.lemmas.List.{take-append-drop, length-take-le, drop-take}
 use Rattle.std.proofs.Math.Seq.{drop-append-add}
 use Rattle.ssh_wire.specs.Lines.{IdFound, NotYet, Id, Version, id_of, line_end, line_text, is_id_text, Line, Unfinished, IdLine, OtherLine, TooLong, line_to, line_of, other_line_limit}
 use Rattle.ssh_wire.specs.Outside.{Rose, IsAtEnd, TakesNext}
-use Rattle.ssh_wire.specs.Reading.{IdReading, Waiting, Heard, Failed, still_allowed, left_of, Decides, Feeds, IsShort, used_in, waits, finished}
+use Rattle.ssh_wire.specs.Reading.{IdReading, Waiting, Heard, Failed, still_allowed, left_of, Decides, Feeds, IsShort, used_in, finished}
 use Rattle.ssh_wire.specs.Stepping.{shifted}
-use Rattle.ssh_wire.specs.FromSource.{IdRead, WhileWaiting, Repeats, Took, Finds, Ends, Refuses, Stops, Fails, NoneTaken, SoFar, weight, room, turns_left}
+use Rattle.ssh_wire.specs.FromSource.{Took, Finds, Ends, Refuses, Stops, Fails, NoneTaken, SoFar, weight, room, turns_left}
 use Rattle.ssh_wire.specs.declared.error.Error.{Error}
 use Rattle.ssh_wire.specs.declared.error.Error.TheVariants as error
 use Rattle.ssh_wire.specs.declared.read_id.IdProgress.{IdProgress}
@@ -62,17 +62,6 @@ used_within buffer end x used within e h =
     let P : IdProgress → Type 0 = λ z. used_in z ≤ length (take end buffer) in
     let at : used ≤ length (take end buffer) = subst P e h in
     omega (arith, length-take-le end buffer within)
-
--- before an id or Version
-pub while_waiting : (i : IdReading) (P : Type 0) → P → WhileWaiting i P
-while_waiting (Waiting w o) P h = h
-while_waiting (Heard t) P h = tt
-while_waiting Failed P h = tt
-
-pub waiting_repeats : {R : Type 0} (i : IdReading) (old : IdRead R) (r : Result (Unit {0}) Error) (new : IdRead R) → waits i ≡ true → Repeats i old r new
-waiting_repeats (Waiting w o) old r new h = tt
-waiting_repeats (Heard t) old r new h = cc
-waiting_repeats Failed old r new h = cc
 
 -- an answer about a piece that decides is one about all bytes
 all_bytes : (allow : Bool) (old now new : IdReading) (bytes piece : List ℕ) (left : Option (List ℕ)) (r : Result IdProgress Error) → (s : SoFar allow old bytes left piece now) → (shifted (length s.fed) r ≡ Ok progress.NotYet → ⊥) → Feeds allow now piece r new → Feeds allow old bytes (shifted (length s.fed) r) new

@@ -40,10 +40,6 @@ Feeds allow (Waiting bytes others) piece result new =
 Feeds allow (Heard text) piece result new = (result ≡ Ok (Id 0)) × (new ≡ Heard text)
 Feeds allow Failed piece result new = (result ≡ Err Version) × (new ≡ Failed)
 
--- a piece fed, where no other line may stand before the id line
-abbrev pub FeedsLine : IdReading → List ℕ → Result IdProgress Error → IdReading → Type 0
-FeedsLine old piece result new = Feeds false old piece result new
-
 abbrev pub used_in : IdProgress → ℕ
 used_in NotYet = 0
 used_in (Id used) = used

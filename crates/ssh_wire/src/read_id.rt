@@ -60,7 +60,7 @@ impl Model for ReadSshIdBuffer {
 }
 
 impl ReadSshIdBuffer {
-    ghost use Rattle.ssh_wire.specs.Reading.{Waiting, Feeds, FeedsLine, used_in, text_heard, held, waits, finished, IsShort};
+    ghost use Rattle.ssh_wire.specs.Reading.{Waiting, Feeds, used_in, text_heard, held, waits, finished, IsShort};
     ghost use Rattle.ssh_wire.specs.Stepping.{ReadsLine, PassesOther, read_in};
 
     /// A buffer that has read nothing.

@@ -75,6 +75,21 @@ fn forms_refused(rt: HostRuntime) {
     assert_eq!(rt; fault_of(empty.read_u32()), length);
 }
 
+/// RFC 4251 section 5: a string whole, then none behind it; a string cut short, which stays.
+#[test]
+fn strings_read_and_refused(rt: HostRuntime) -> Result<(), Fail> {
+    let length = Some(EncodingFault::Length);
+    let mut whole = Reader::new(b"\x00\x00\x00\x03abc");
+    assert_eq!(rt; whole.read_string()?, b"abc".as_slice());
+    assert_eq!(rt; fault_of(whole.read_string()), length);
+    assert_eq!(rt; whole.remaining_len(), 0);
+    whole.ensure_end()?;
+    let mut cut = Reader::new(b"\x00\x00\x00\x03a");
+    assert_eq!(rt; fault_of(cut.read_string()), length);
+    assert_eq!(rt; cut.remaining_len(), 5);
+    Ok(())
+}
+
 /// RFC 4251 section 5: a string, and the examples of mpints that aren't negative.
 #[test]
 fn forms_written(rt: HostRuntime) -> Result<(), Fail> {
