@@ -31,8 +31,7 @@ impl ClearEnd {
         ensures err { IfErr result (λ e. e ≡ Memory) }
     {
         let mut writer = PacketWriter::clear(alloc);
-        let buffer = writer.buffer();
-        id.write(&mut buffer.buffer)?;
+        writer.buffer().send_ssh_id(id)?;
         Ok(ClearEnd {
             writer,
             receiver: Receiver::new(alloc),

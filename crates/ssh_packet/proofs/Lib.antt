@@ -1,6 +1,7 @@
 pub mod Built
 pub mod Ciphers
 pub mod Finding
+pub mod Flushed
 pub mod Framing
 pub mod Fronts
 pub mod Lent
@@ -8,3 +9,4 @@ pub mod Padding
 pub mod Shapes
 pub mod Sound
 pub mod Streams
+pub mod Written

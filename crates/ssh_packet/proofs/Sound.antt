@@ -12,10 +12,10 @@ use Rattle.ssh_aes.proofs.Sealing.{gcm_closes_well}
 use Rattle.ssh_aes.specs.Gcm.{gcm_plain, gcm_text, gcm_tag, cipher_tag}
 use Rattle.ssh_aes.specs.Modes.{Running, masked, unmasked}
 use Rattle.ssh_mac.specs.Tags.{MacOf, tag_of, is_encrypt_then_mac}
-use Rattle.ssh_packet.proofs.Fronts.{drop_headed, length_headed, take_headed}
+use Rattle.ssh_packet.proofs.Fronts.{drop_headed, length_headed, states_agree, take_headed}
 use Rattle.ssh_packet.proofs.Shapes.{bytes_append, bytes_drop, length_take4}
-use Rattle.ssh_packet.specs.Front.{Front, Whole, Unfinished, Refused, probed, length_in, is_bad_length, decrypted, text_in, covered, tag_for, tag_fault, parted, parted_by, checked, opened, measured, front_of}
-use Rattle.ssh_packet.specs.Sealing.{Item, Sealing, Clear, Block, Gcm, framed, packet_length, closed, enclosed, sealed, probe, shown_by, shortest, tag_size, IsAdmissible, IsBytes}
+use Rattle.ssh_packet.specs.Front.{Front, Whole, Unfinished, Refused, probed, length_in, is_bad_length, decrypted, text_in, covered, tag_for, tag_fault, parted, parted_by, checked, opened, measured, front_of, key_behind}
+use Rattle.ssh_packet.specs.Sealing.{Item, Sealing, Clear, Block, Gcm, framed, packet_length, closed, enclosed, sealed, moved_on, probe, shown_by, shortest, tag_size, IsAdmissible, IsBytes}
 
 -- ---- what was opened from any bytes is sealed to them
 
@@ -215,3 +215,7 @@ front_sounds s number bytes b =
 
 pub front_sound : (s : Sealing) (number : ℕ) (bytes rest : List ℕ) (item : Item) → IsBytes bytes → front_of s number bytes ≡ Whole item rest → IsSealed s number bytes item rest
 front_sound s number bytes rest item b e = subst (Sounds s number bytes) e (front_sounds s number bytes b)
+
+-- behind what was sealed, a reader opens with what the writer seals under
+pub moved_sound : (s : Sealing) (number : ℕ) (bytes rest : List ℕ) (item : Item) (s' : Sealing) → bytes ≡ sealed s number item ++ rest → s' ≡ key_behind s bytes rest → s' ≡ moved_on s item
+moved_sound s number bytes rest item s' e h = h ∙ (ap (λ b. key_behind s b rest) e ∙ states_agree s number item rest)

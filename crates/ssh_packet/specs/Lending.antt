@@ -1,11 +1,11 @@
 -- What a reader is once the packet that it lends is given back, and a writer once its buffer is.
-use Rattle.std.specs.Prelude.{◌≡◌, ◌<◌, true, false, length, Option, Some, None, Result, Ok, Err}
+use Rattle.std.specs.Prelude.{◌≡◌, ◌<◌, ◌++◌, true, false, length, Option, Some, None, Result, Ok, Err}
 use Rattle.std.specs.Borrow.{MutBor, Lends, Fml}
 use Rattle.std.specs.Io.BufRead.{Rests}
-use Rattle.ssh_packet.specs.Front.{PacketSize, IndexOutOfBounds, PacketAuth, DecryptionError, Whole, Unfinished, Refused, front_of, is_bad_length, key_behind}
+use Rattle.ssh_packet.specs.Front.{PacketSize, IndexOutOfBounds, PacketAuth, DecryptionError, Whole, Unfinished, Refused, front_of, is_bad_length}
 use Rattle.ssh_packet.specs.Keys.{opening_of}
 use Rattle.ssh_packet.specs.Reading.{Reader}
-use Rattle.ssh_packet.specs.Sealing.{Item, Sealing, next_number}
+use Rattle.ssh_packet.specs.Sealing.{Item, Sealing, IsAdmissible, sealed, moved_on, next_number}
 use Rattle.ssh_packet.specs.Writing.{Writer, Written, counted}
 use Rattle.ssh_packet.specs.declared.keys.OpenKey.{OpenKey}
 use Rattle.ssh_packet.specs.declared.error.OpenError.{OpenError}
@@ -17,7 +17,7 @@ use Rattle.ssh_packet.specs.contracts.buffer.SSHBuffer.{the_row as buffer_row}
 use Rattle.ssh_packet.specs.contracts.compression.Compress.{the_row as compress_row}
 use Rattle.ssh_packet.specs.declared.compression.Compress.{Compress}
 
--- a packet was handed out: its payload is lent, `seqn` is its number plus one
+-- A packet was handed out, whose bytes stood at the front: its payload is lent, `seqn` is its number plus one.
 pub record HandsOut (old : Reader) (key : Sealing) (item : Item) (incoming : Incoming) (new : Reader) (key' : Sealing) : Type 0 where
   pub live : old.failed ≡ false
   pub front : front_of key old.number old.waiting ≡ Whole item new.waiting
@@ -27,7 +27,9 @@ pub record HandsOut (old : Reader) (key : Sealing) (item : Item) (incoming : Inc
   pub count : new.count ≡ counted old.count (length item.payload)
   pub failed : new.failed ≡ false
   pub shorter : length new.waiting < length old.waiting
-  pub moved : key' ≡ key_behind key old.waiting new.waiting
+  pub admissible : IsAdmissible key item
+  pub bytes : old.waiting ≡ sealed key old.number item ++ new.waiting
+  pub moved : key' ≡ moved_on key item
 
 -- why `next` was refused
 abbrev pub Refuses : Reader → Sealing → OpenError → Type 0
@@ -62,7 +64,7 @@ abbrev pub LendsNext : MutBor Reader → OpenKey → OpenKey → Result (Option 
 LendsNext s key key' result = Rests the_row s (Leaves s.now (opening_of key) (opening_of key') result)
 
 abbrev pub with_buffer : Writer → Written → Writer
-with_buffer w b = record w { output = b.output; len = b.len; count = b.count; number = b.number }
+with_buffer w b = record w { output = b.output; len = b.len; count = b.count; number = b.number; room = b.room }
 
 abbrev pub LendsBuffer : MutBor Writer → MutBor Written → Fml
 LendsBuffer self result = Lends writer_row buffer_row self result (with_buffer self.now)

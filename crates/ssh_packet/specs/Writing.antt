@@ -1,16 +1,20 @@
 -- A writer, as contracts see it, and what a payload makes of it.
-use Rattle.std.specs.Prelude.{◌≡◌, ℕ, ◌+◌, ◌-◌, ◌^◌, ◌<◌, min, List, [], ◌∷◌, ◌++◌, length, ◌⊎◌}
+use Rattle.std.specs.Prelude.{◌≡◌, ℕ, ◌+◌, ◌-◌, ◌*◌, ◌^◌, ◌<◌, ◌≤◌, min, List, [], ◌∷◌, ◌++◌, length, take, drop, Option, Result, Ok, Err, OnOk, IfOk, OnErr, IfErr, ◌⊎◌}
+use Rattle.std.specs.Global.{Vec}
 use Rattle.rand_core.specs.Stream.{Stream}
+use Rattle.ssh_wire.specs.Outside.{Appends}
 use Rattle.ssh_wire.specs.declared.error.Error.{Error}
 use Rattle.ssh_wire.specs.declared.error.Error.TheVariants.{PacketSize, Memory}
-use Rattle.ssh_packet.specs.Sealing.{Item, Sealing, sealed, moved_on, next_number, item_of, longest_payload}
+use Rattle.ssh_packet.specs.Sealing.{Item, Sealing, IsAdmissible, sealed, moved_on, next_number, item_of, stream_after, tag_size, longest_payload}
 
--- the buffer that a writer fills: `count` is the payload bytes, `number` that of the next packet
+-- the buffer that a writer fills: `count` is the payload bytes, `number` that of the next packet, `room` how many
+-- bytes it takes without more memory
 pub record Written : Type 0 where
   pub output : List ℕ
   pub len : ℕ
   pub count : ℕ
   pub number : ℕ
+  pub room : ℕ
 
 pub record Writer : Type 0 where
   pub output : List ℕ
@@ -18,6 +22,11 @@ pub record Writer : Type 0 where
   pub count : ℕ
   pub number : ℕ
   pub sealing : Sealing
+  pub room : ℕ
+
+-- nothing changed, but maybe the room
+abbrev pub SameButRoom : Writer → Writer → Type 0
+SameButRoom old new = new ≡ record old { room = new.room }
 
 -- a count of bytes stands still at its end
 abbrev pub counted : ℕ → ℕ → ℕ
@@ -37,6 +46,61 @@ abbrev pub sent : Writer → List ℕ → Stream → Writer
 sent w [] stream = w
 sent w (b ∷ rest) stream = with_item w (item_of w.sealing (b ∷ rest) stream)
 
+-- a payload was sent; nothing is said of the room
+abbrev pub Sends : Writer → List ℕ → Stream → Writer → Type 0
+Sends old payload stream new = new ≡ record (sent old payload stream) { room = new.room }
+
+-- room for the packets of so many payloads that have so many bytes together: 37 bytes and a tag each are more than
+-- packet length, padding length and padding
+abbrev pub room_for : Sealing → ℕ → ℕ → ℕ
+room_for sealing payload_bytes packet_count = payload_bytes + packet_count * (37 + tag_size sealing)
+
 -- refused for its size of n bytes, or for want of memory
 abbrev pub IsSizeOrMemory : ℕ → Error → Type 0
 IsSizeOrMemory n error = ((longest_payload < n) × (error ≡ PacketSize n)) ⊎ (error ≡ Memory)
+
+-- the first n bytes of the output went behind what a sink held, and nothing else happened
+abbrev pub Flushes : ℕ → Writer → Option (List ℕ) → Option (List ℕ) → Writer → Type 0
+Flushes n old held held' new = (n ≤ length old.output) × Appends (take n old.output) held held' × (new ≡ record old { output = drop n old.output; room = old.room + n })
+
+-- ---- payloads that a closure makes
+
+-- what a call that seals this payload answers, and what it leaves of writer and generator
+pub record Seals {T : Type 0} (old : Writer) (payload : List ℕ) (before after : Stream) (result : Result T Error) (new : Writer) : Type 0 where
+  pub sent : OnOk result (Sends old payload before new)
+  pub stream : OnOk result (after ≡ stream_after old.sealing payload before)
+  pub admissible : OnOk result (0 < length payload → IsAdmissible old.sealing (item_of old.sealing payload before))
+  pub unchanged : OnErr result (SameButRoom old new)
+  pub causes : IfErr result (IsSizeOrMemory (length payload))
+  pub too_long : longest_payload < length payload → result ≡ Err (PacketSize (length payload))
+  pub undrawn : longest_payload < length payload → after ≡ before
+
+-- refused so, and nothing else happened
+pub record IsRefused {T : Type 0} (old : Writer) (before after : Stream) (error : Error) (result : Result T Error) (new : Writer) : Type 0 where
+  pub answer : result ≡ Err error
+  pub unchanged : SameButRoom old new
+  pub undrawn : after ≡ before
+
+-- a closure's own error is the answer; where it has none, its payload is sealed
+abbrev pub Follows : {T : Type 0} → Result (Unit {0}) Error → List ℕ → Writer → Stream → Stream → Result T Error → Writer → Type 0
+Follows (Err error) payload old before after result new = IsRefused old before after error result new
+Follows (Ok u) payload old before after result new = Seals old payload before after result new
+
+-- The closure ran, answered and left a payload, of which the rest follows; or there was no memory to call it. `Leaves`
+-- says which answers and payloads it may give.
+abbrev pub SealsWith : {T : Type 0} → (Result (Unit {0}) Error → List ℕ → Type 0) → (List ℕ → T) → Writer → Stream → Stream → Result T Error → Writer → Type 0
+SealsWith Leaves answer_of old before after result new =
+    IsRefused old before after Memory result new
+    ⊎ ((answer : Result (Unit {0}) Error) × (payload : List ℕ) × Leaves answer payload × Follows answer payload old before after result new × IfOk result (λ x. x ≡ answer_of payload))
+
+-- what a closure may do: from the first vector to the second, with an answer
+abbrev pub Runs : Type 1
+Runs = Vec ℕ → Result (Unit {0}) Error → Vec ℕ → Type 0
+
+-- it only appends
+abbrev pub OnlyAppends : Runs → Type 0
+OnlyAppends runs = (v v' : Vec ℕ) (answer : Result (Unit {0}) Error) → runs v answer v' → (payload : List ℕ) × (v'.items ≡ v.items ++ payload)
+
+-- a payload that it may append to these bytes
+abbrev pub AppendsPayload : Runs → List ℕ → Result (Unit {0}) Error → List ℕ → Type 0
+AppendsPayload runs bytes answer payload = (v : Vec ℕ) × (v' : Vec ℕ) × (v.items ≡ bytes) × runs v answer v' × (v'.items ≡ bytes ++ payload)

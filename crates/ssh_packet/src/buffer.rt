@@ -1,7 +1,12 @@
-//! The buffer that a writer fills.
+//! The buffer that a writer fills, and what a closure writes a payload into.
 
-ghost use Rattle.std.specs.Prelude.{◌≡◌, ◌≤◌, [], drop, vec_len};
+ghost use Rattle.std.specs.Prelude.{◌≡◌, ◌==◌, ◌≤◌, ◌<◌, ◌-◌, ◌++◌, ◌∷◌, [], length, take, drop};
+ghost use Rattle.std.specs.Prelude.{vec_len, vec_capacity, OnOk, OnErr, IfErr};
+ghost use Rattle.ssh_wire.specs.Lines.{id_line};
+ghost use Rattle.ssh_wire.specs.Outside.{Appends, Rose};
+ghost use Rattle.ssh_wire.specs.declared.error.Error.TheVariants.{Memory};
 
+use ssh_wire::{Error, Sink, SshId};
 use std::alloc::Global;
 use std::marker::Model;
 
@@ -19,17 +24,18 @@ pub struct SSHBuffer {
 }
 
 impl Model for SSHBuffer {
+    ghost use Rattle.std.specs.Prelude.{◌-◌, vec_len, vec_capacity};
     ghost use Rattle.ssh_packet.specs.Writing.{Written};
 
     ghost Value = { Written };
 
-    ghost view = { λ b. record { output = b.buffer.items; len = b.len; count = b.bytes; number = b.seqn } };
+    ghost view = { λ b. record { output = b.buffer.items; len = b.len; count = b.bytes; number = b.seqn; room = vec_capacity b.buffer - vec_len b.buffer } };
 }
 
 impl SSHBuffer {
     /// An empty buffer, before packet 0.
     pub fn new(alloc: Global) -> SSHBuffer
-        ensures { result ≡ record { output = []; len = 0; count = 0; number = 0 } }
+        ensures { result ≡ record { output = []; len = 0; count = 0; number = 0; room = result.room } }
     {
         SSHBuffer {
             buffer: Vec::new(alloc),
@@ -38,14 +44,110 @@ impl SSHBuffer {
             seqn: 0,
         }
     }
+
+    /// Appends the version line with its ending (RFC 4253 section 4.2). Number and count stay. Memory
+    /// leaves the buffer as it was.
+    pub fn send_ssh_id(&mut self, id: &SshId) -> Result<(), Error>
+        ensures ok { OnOk result (self.new
+            ≡ record self.old { output = self.old.output ++ id_line id.now; room = self.new.room }) }
+        ensures unchanged { OnErr result (self.new ≡ record self.old { room = self.new.room }) }
+        ensures err { IfErr result (λ e. e ≡ Memory) }
+    {
+        id.write(&mut self.buffer)
+    }
 }
 
 /// Drops the first n bytes.
 pub(crate) fn drop_front(bytes: &mut Vec<u8>, n: usize)
     requires { n ≤ vec_len bytes.old }
-    ensures { bytes.new.items ≡ drop n bytes.old.items }
+    ensures items { bytes.new.items ≡ drop n bytes.old.items }
+    ensures len { vec_len bytes.new ≡ vec_len bytes.old - n }
+    ensures capacity { vec_capacity bytes.new ≡ vec_capacity bytes.old }
 {
     let len = bytes.len();
     bytes.copy_within(n..len, 0);
     bytes.truncate(len - n);
+}
+
+/// Writes the bytes out, at least one a turn. Where the sink fails, the error is how many went out before.
+pub(crate) fn write_out<W: Sink>(w: &mut W, bytes: &[u8]) -> Result<(), usize>
+    ensures all { OnOk result (Appends bytes.now (W.held w.old) (W.held w.new)) }
+    ensures within { IfErr result (λ n. n < length bytes.now) }
+    ensures front { IfErr result (λ n. Appends (take n bytes.now) (W.held w.old) (W.held w.new)) }
+    ensures failed { OnErr result (Rose (W.faults w.old) (W.faults w.new)) }
+    ensures count { W.faults w.old ≤ W.faults w.new }
+{
+    let mut written = 0;
+    while written < bytes.len() {
+        match w.write(&bytes[written..]) {
+            Ok(n) => written += n,
+            Err(_) => return Err(written),
+        }
+    }
+    Ok(())
+}
+
+/// A payload in the making.
+#[derive(Debug, Drop)]
+pub struct PacketBytesWriter {
+    bytes: Vec<u8>,
+}
+
+impl Model for PacketBytesWriter {
+    ghost use Rattle.std.specs.Prelude.{ℕ, List};
+
+    ghost Value = { List ℕ };
+
+    ghost view = { λ w. w.bytes.items };
+}
+
+impl PacketBytesWriter {
+    pub(crate) fn new(alloc: Global) -> PacketBytesWriter
+        ensures { result ≡ [] }
+    {
+        PacketBytesWriter {
+            bytes: Vec::new(alloc),
+        }
+    }
+
+    /// Appends a byte. Memory leaves the payload as it was.
+    pub fn push(&mut self, byte: u8) -> Result<(), Error>
+        ensures ok { OnOk result (self.new ≡ self.old ++ byte ∷ []) }
+        ensures unchanged { OnErr result (self.new ≡ self.old) }
+        ensures err { IfErr result (λ e. e ≡ Memory) }
+    {
+        self.bytes.push(byte)?;
+        Ok(())
+    }
+
+    /// Appends bytes. Memory leaves the payload as it was.
+    pub fn extend_from_slice(&mut self, bytes: &[u8]) -> Result<(), Error>
+        ensures ok { OnOk result (self.new ≡ self.old ++ bytes.now) }
+        ensures unchanged { OnErr result (self.new ≡ self.old) }
+        ensures err { IfErr result (λ e. e ≡ Memory) }
+    {
+        self.bytes.extend_from_slice(bytes)?;
+        Ok(())
+    }
+
+    /// How many bytes it has.
+    pub fn len(&self) -> usize
+        ensures { result ≡ length self.now }
+    {
+        self.bytes.len()
+    }
+
+    /// Whether it has none.
+    pub fn is_empty(&self) -> bool
+        ensures { result ≡ (length self.now == 0) }
+    {
+        self.bytes.is_empty()
+    }
+
+    /// The bytes.
+    pub(crate) fn into_bytes(self) -> Vec<u8>
+        ensures { result.items ≡ self }
+    {
+        self.bytes
+    }
 }

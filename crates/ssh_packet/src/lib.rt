@@ -17,7 +17,7 @@ mod sealing;
 mod tests;
 mod writer;
 
-pub use crate::buffer::SSHBuffer;
+pub use crate::buffer::{PacketBytesWriter, SSHBuffer};
 pub use crate::cipher::{OpeningKey, SealingKey};
 pub use crate::error::OpenError;
 pub use crate::keys::{CipherPair, OpenKey, SealKey};

@@ -1,6 +1,6 @@
 //! Sealing in place, under any key.
 
-ghost use Rattle.std.specs.Prelude.{◌≡◌, ◌+◌, ◌-◌, ◌<◌, ◌≤◌, ◌++◌, length, take, drop, OnOk, OnErr, IfErr, vec_len};
+ghost use Rattle.std.specs.Prelude.{◌≡◌, ◌+◌, ◌-◌, ◌<◌, ◌≤◌, ◌++◌, length, take, drop, OnOk, OnErr, IfErr, IsOk, vec_len, vec_capacity};
 ghost use Rattle.ssh_wire.specs.declared.error.Error.TheVariants.{Memory};
 ghost use Rattle.ssh_packet.specs.Sealing.{IsAdmissible, IsBytes, framed, sealed, moved_on, item_of, padding_from, filling, framing, tag_size, longest_payload};
 
@@ -72,6 +72,8 @@ pub(crate) fn seal_behind<K: SealingKey, R: Rng>(
     ensures key { OnErr result (key.new ≡ key.old) }
     ensures undrawn { OnErr result (rng.new ≡ rng.old) }
     ensures err { IfErr result (λ e. e ≡ Memory) }
+    ensures ready { vec_len out.old + 19 + tag_size (K.sealing key.old) ≤ vec_capacity out.old → IsOk result }
+    ensures capacity { vec_capacity out.old ≤ vec_capacity out.new }
 {
     let end = out.len();
     let padding = key.padding_length(&out[start + HEAD..]);

@@ -18,6 +18,8 @@ use ssh_wire::Error;
 use std::marker::Model;
 use std::test::Fail;
 
+mod writing;
+
 /// A generator whose words count up, so that a drawn word shows.
 #[derive(Drop)]
 struct Counter(u32);

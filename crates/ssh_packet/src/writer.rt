@@ -1,27 +1,36 @@
 //! Sealing payloads into packets.
 
-ghost use Rattle.std.specs.Prelude.{◌≡◌, ◌+◌, ◌<◌, ◌≤◌, ◌++◌, ◌∷◌, [], length, drop, OnOk, OnErr, IfErr, Err};
+ghost use Rattle.std.specs.Prelude.{◌≡◌, ◌⊎◌, ◌+◌, ◌^◌, ◌<◌, ◌≤◌, ◌++◌, ◌∷◌, [], ℕ, List, length, take, drop};
+ghost use Rattle.std.specs.Prelude.{IsOk, OnOk, IfOk, OnErr, IfErr, Err, vec_len, vec_capacity};
 ghost use Rattle.std.specs.Borrow.{sem};
-ghost use Rattle.ssh_wire.specs.declared.error.Error.TheVariants.{PacketSize, Memory};
-ghost use Rattle.ssh_packet.specs.Sealing.{Clear, IsAdmissible, item_of, stream_after, longest_payload};
-ghost use Rattle.ssh_packet.specs.Writing.{sent, IsSizeOrMemory};
+ghost use Rattle.std.specs.Fn.{FnOnceReturnsAtMut};
+ghost use Rattle.ssh_wire.specs.Outside.{Rose};
+ghost use Rattle.ssh_wire.specs.declared.error.Error.TheVariants.{PacketSize, Memory, IO};
+ghost use Rattle.ssh_packet.specs.Sealing.{Clear, IsAdmissible, item_of, stream_after, tag_size, longest_payload};
+ghost use Rattle.ssh_packet.specs.Writing.{AppendsPayload, Flushes, IsSizeOrMemory, OnlyAppends, SameButRoom};
+ghost use Rattle.ssh_packet.specs.Writing.{Seals, SealsWith, Sends, room_for};
 
-use crate::buffer::{SSHBuffer, drop_front};
+use crate::buffer::{PacketBytesWriter, SSHBuffer, drop_front, write_out};
+use crate::cipher::SealingKey;
 use crate::clear;
 use crate::compression::Compress;
 use crate::front::HEAD;
 use crate::keys::SealKey;
 use crate::sealing::seal_behind;
+use bytes::Bytes;
 use rand_core::Rng;
-use ssh_wire::{Error, put_u8, put_u32};
+use ssh_wire::{Error, Sink};
 use std::alloc::Global;
 use std::marker::Model;
 
 /// The longest payload of a packet, in bytes.
 const LONGEST_PAYLOAD: usize = 262157;
 
-/// The longest padding and tag behind a payload, in bytes.
-const LONGEST_TAIL: usize = 19 + 64;
+/// The longest padding, in bytes.
+const LONGEST_PADDING: usize = 19;
+
+/// What a packet has at most beside payload and tag, in bytes, rounded up.
+const ROOM_BESIDE: usize = 37;
 
 /// Seals payloads one after the other, behind what its buffer holds.
 #[derive(Drop)]
@@ -37,7 +46,7 @@ impl Model for PacketWriter {
 
     ghost Value = { Writer };
 
-    ghost view = { λ w. record { output = w.buffer.output; len = w.buffer.len; count = w.buffer.count; number = w.buffer.number; sealing = sealing_of w.cipher } };
+    ghost view = { λ w. record { output = w.buffer.output; len = w.buffer.len; count = w.buffer.count; number = w.buffer.number; sealing = sealing_of w.cipher; room = w.buffer.room } };
 }
 
 impl PacketWriter {
@@ -46,7 +55,8 @@ impl PacketWriter {
 
     /// A writer under a key, before packet 0.
     pub fn new(cipher: SealKey, compress: Compress, alloc: Global) -> PacketWriter
-        ensures { result ≡ record { output = []; len = 0; count = 0; number = 0; sealing = sealing_of cipher } }
+        ensures { result
+            ≡ record { output = []; len = 0; count = 0; number = 0; sealing = sealing_of cipher; room = result.room } }
     {
         PacketWriter {
             buffer: SSHBuffer::new(alloc),
@@ -57,7 +67,8 @@ impl PacketWriter {
 
     /// A writer under the clear key, before packet 0.
     pub fn clear(alloc: Global) -> PacketWriter
-        ensures { result ≡ record { output = []; len = 0; count = 0; number = 0; sealing = Clear } }
+        ensures { result
+            ≡ record { output = []; len = 0; count = 0; number = 0; sealing = Clear; room = result.room } }
     {
         PacketWriter::new(SealKey::Clear(clear::Key), Compress::None, alloc)
     }
@@ -66,14 +77,17 @@ impl PacketWriter {
     /// over 262157 bytes; Memory. A refusal leaves the writer as it was. The clear key pads with zeros
     /// and draws nothing from the generator.
     pub fn packet_raw<R: Rng>(&mut self, rng: &mut R, buf: &[u8]) -> Result<(), Error>
-        ensures sent { OnOk result (self.new ≡ sent self.old buf.now (R.stream rng.old)) }
+        ensures sent { OnOk result (Sends self.old buf.now (R.stream rng.old) self.new) }
         ensures stream { OnOk result (R.stream rng.new ≡ stream_after self.old.sealing buf.now (R.stream rng.old)) }
         ensures admissible { OnOk result (0 < length buf.now
             → IsAdmissible self.old.sealing (item_of self.old.sealing buf.now (R.stream rng.old))) }
-        ensures unchanged { OnErr result (self.new ≡ self.old) }
+        ensures unchanged { OnErr result (SameButRoom self.old self.new) }
         ensures causes { IfErr result (IsSizeOrMemory (length buf.now)) }
         ensures too_long { longest_payload < length buf.now → result ≡ Err (PacketSize (length buf.now)) }
         ensures undrawn { longest_payload < length buf.now → R.stream rng.new ≡ R.stream rng.old }
+        ensures room { length buf.now ≤ longest_payload
+            → room_for self.old.sealing (length buf.now) 1 ≤ self.old.room → IsOk result }
+        ensures spare { self.old.room + length self.old.output ≤ self.new.room + length self.new.output }
     {
         if buf.is_empty() {
             return Ok(());
@@ -81,15 +95,131 @@ impl PacketWriter {
         if buf.len() > LONGEST_PAYLOAD {
             return Err(Error::PacketSize(buf.len()));
         }
+        self.append_packet(rng, buf)
+    }
+
+    /// Appends one packet of the payload. Memory leaves the writer as it was.
+    fn append_packet<R: Rng>(&mut self, rng: &mut R, payload: &[u8]) -> Result<(), Error>
+        requires some { 0 < length payload.now }
+        requires short { length payload.now ≤ longest_payload }
+        ensures seals { Seals self.old payload.now (R.stream rng.old) (R.stream rng.new) result self.new }
+        ensures room { room_for self.old.sealing (length payload.now) 1 ≤ self.old.room → IsOk result }
+        ensures spare { self.old.room + length self.old.output ≤ self.new.room + length self.new.output }
+    {
+        let start = self.buffer.buffer.len();
+        let tag_len = self.cipher.tag_len();
+        append_behind_room(&mut self.buffer.buffer, payload, tag_len)?;
+        self.seal_payload(rng, start)
+    }
+
+    /// Appends one packet of what the closure appends to the vector that it is handed, the output itself:
+    /// nothing is copied. The closure's own error, and else as `packet_raw`. A refusal leaves the writer as
+    /// it was.
+    pub fn write_packet<R: Rng, F: FnOnce(&mut Vec<u8>) -> Result<(), Error>>(
+        &mut self,
+        rng: &mut R,
+        f: F,
+    ) -> Result<(), Error>
+        requires callable { F.IsAlwaysCallable f }
+        requires appends { OnlyAppends (FnOnceReturnsAtMut F.FnOnce f) }
+        ensures { SealsWith (AppendsPayload (FnOnceReturnsAtMut F.FnOnce f) (self.old.output ++ 0 ∷ 0 ∷ 0 ∷ 0 ∷ 0 ∷ [])) (λ _. tt)
+            self.old (R.stream rng.old) (R.stream rng.new) result self.new }
+    {
+        let start = self.buffer.buffer.len();
+        append_with(&mut self.buffer.buffer, f)?;
+        let payload = self.buffer.buffer.len() - start - HEAD;
+        if payload == 0 {
+            self.buffer.buffer.truncate(start);
+            return Ok(());
+        }
+        if payload > LONGEST_PAYLOAD {
+            self.buffer.buffer.truncate(start);
+            return Err(Error::PacketSize(payload));
+        }
+        self.seal_payload(rng, start)
+    }
+
+    /// Appends one packet of what the closure appends to the empty vector that it is handed, and answers
+    /// the payload. The closure's own error, and else as `packet_raw`. A refusal leaves the writer as it was.
+    pub fn packet<R: Rng, F: FnOnce(&mut Vec<u8>) -> Result<(), Error>>(
+        &mut self,
+        rng: &mut R,
+        f: F,
+    ) -> Result<Bytes, Error>
+        requires callable { F.IsAlwaysCallable f }
+        requires appends { OnlyAppends (FnOnceReturnsAtMut F.FnOnce f) }
+        ensures { SealsWith (AppendsPayload (FnOnceReturnsAtMut F.FnOnce f) []) (λ payload. payload)
+            self.old (R.stream rng.old) (R.stream rng.new) result self.new }
+    {
+        let mut payload = Vec::new(*self.buffer.buffer.allocator());
+        call_with(&mut payload, f)?;
+        self.send(rng, payload)
+    }
+
+    /// Appends one packet of what the closure writes, and answers the payload. The closure's own error, and
+    /// else as `packet_raw`. A refusal leaves the writer as it was.
+    pub fn packet_bytes<R: Rng, F: FnOnce(&mut PacketBytesWriter) -> Result<(), Error>>(
+        &mut self,
+        rng: &mut R,
+        f: F,
+    ) -> Result<Bytes, Error>
+        requires { F.IsAlwaysCallable f }
+        ensures { SealsWith (FnOnceReturnsAtMut F.FnOnce f []) (λ payload. payload)
+            self.old (R.stream rng.old) (R.stream rng.new) result self.new }
+    {
+        let mut payload = PacketBytesWriter::new(*self.buffer.buffer.allocator());
+        fill_with(&mut payload, f)?;
+        self.send(rng, payload.into_bytes())
+    }
+
+    /// Appends one packet of the payload, and answers it.
+    fn send<R: Rng>(&mut self, rng: &mut R, payload: Vec<u8>) -> Result<Bytes, Error>
+        ensures seals { Seals self.old payload.items (R.stream rng.old) (R.stream rng.new) result self.new }
+        ensures answer { IfOk result (λ bytes. bytes ≡ payload.items) }
+    {
+        if payload.is_empty() {
+            return Ok(Bytes::new());
+        }
+        if payload.len() > LONGEST_PAYLOAD {
+            return Err(Error::PacketSize(payload.len()));
+        }
+        let bytes = Bytes::from_vec(payload)?;
+        self.append_packet(rng, bytes.as_slice())?;
+        Ok(bytes)
+    }
+
+    /// Seals the payload that stands behind `start` and five bytes of room. Memory takes all from `start`
+    /// on away.
+    fn seal_payload<R: Rng>(&mut self, rng: &mut R, start: usize) -> Result<(), Error>
+        requires room { start + 5 < length self.old.output }
+        requires short { length self.old.output ≤ start + 5 + longest_payload }
+        ensures seals { Seals (record self.old { output = take start self.old.output }) (drop (start + 5) self.old.output)
+            (R.stream rng.old) (R.stream rng.new) result self.new }
+        ensures ready { 19 + tag_size self.old.sealing ≤ self.old.room → IsOk result }
+        ensures spare { self.old.room + length self.old.output ≤ self.new.room + length self.new.output }
+    {
         let out = &mut self.buffer.buffer;
-        let start = out.len();
-        append_behind_room(out, buf)?;
+        let payload = out.len() - start - HEAD;
         if let Err(error) = seal_behind(out, start, self.buffer.seqn, &mut self.cipher, rng) {
             out.truncate(start);
             return Err(error);
         }
-        self.buffer.bytes = self.buffer.bytes.saturating_add(buf.len());
+        self.buffer.bytes = self.buffer.bytes.saturating_add(payload);
         self.buffer.seqn = self.buffer.seqn.wrapping_add(1);
+        Ok(())
+    }
+
+    /// Makes room for the packets of so many payloads, which have so many bytes together. Memory.
+    pub fn reserve_output(&mut self, payload_bytes: usize, packet_count: usize) -> Result<(), Error>
+        requires { room_for self.old.sealing payload_bytes packet_count < 2 ^ 64 }
+        ensures room { OnOk result (room_for self.old.sealing payload_bytes packet_count ≤ self.new.room) }
+        ensures unchanged { SameButRoom self.old self.new }
+        ensures spare { self.old.room ≤ self.new.room }
+        ensures ready { room_for self.old.sealing payload_bytes packet_count ≤ self.old.room → IsOk result }
+        ensures err { IfErr result (λ e. e ≡ Memory) }
+    {
+        let room = payload_bytes + packet_count * (ROOM_BESIDE + self.cipher.tag_len());
+        self.buffer.buffer.reserve(room)?;
         Ok(())
     }
 
@@ -103,9 +233,31 @@ impl PacketWriter {
     /// Drops the first n bytes of the output.
     pub fn consume_output(&mut self, n: usize)
         requires { n ≤ length self.old.output }
-        ensures { self.new ≡ record self.old { output = drop n self.old.output } }
+        ensures { self.new ≡ record self.old { output = drop n self.old.output; room = self.old.room + n } }
     {
         drop_front(&mut self.buffer.buffer, n);
+    }
+
+    /// Writes the output out, at least a byte a turn. IO where the sink failed, and has counted it: what
+    /// went out before is dropped, and the rest stays. It takes no memory.
+    pub fn flush_into<W: Sink>(&mut self, w: &mut W) -> Result<(), Error>
+        ensures flushes { (n : ℕ) × Flushes n self.old (W.held w.old) (W.held w.new) self.new }
+        ensures all { OnOk result (self.new.output ≡ []) }
+        ensures err { IfErr result (λ e. e ≡ IO) }
+        ensures failed { OnErr result (Rose (W.faults w.old) (W.faults w.new)) }
+        ensures count { W.faults w.old ≤ W.faults w.new }
+    {
+        let out = &mut self.buffer.buffer;
+        match write_out(w, out.as_slice()) {
+            Ok(()) => {
+                out.clear();
+                Ok(())
+            }
+            Err(n) => {
+                drop_front(out, n);
+                Err(Error::IO)
+            }
+        }
     }
 
     /// How many bytes of payload were written under the key; the count stands still at its end.
@@ -149,15 +301,64 @@ impl PacketWriter {
     }
 }
 
-/// Appends five bytes of room and a payload. Memory leaves `out` as it was.
-fn append_behind_room(out: &mut Vec<u8>, payload: &[u8]) -> Result<(), Error>
-    requires { length payload.now ≤ longest_payload }
+/// Appends five bytes of room and a payload, and leaves room for padding and tag. Memory leaves `out` as
+/// it was.
+fn append_behind_room(out: &mut Vec<u8>, payload: &[u8], tag_len: usize) -> Result<(), Error>
+    requires short { length payload.now ≤ longest_payload }
+    requires tag { tag_len ≤ 64 }
     ensures ok { OnOk result (out.new.items ≡ (out.old.items ++ 0 ∷ 0 ∷ 0 ∷ 0 ∷ 0 ∷ []) ++ payload.now) }
     ensures unchanged { OnErr result (out.new.items ≡ out.old.items) }
     ensures err { IfErr result (λ e. e ≡ Memory) }
+    ensures ready { vec_len out.old + 5 + length payload.now + 19 + tag_len ≤ vec_capacity out.old → IsOk result }
+    ensures room { OnOk result (vec_len out.new + 19 + tag_len ≤ vec_capacity out.new) }
+    ensures capacity { vec_capacity out.old ≤ vec_capacity out.new }
 {
-    out.reserve(HEAD + payload.len() + LONGEST_TAIL)?;
+    out.reserve(HEAD + payload.len() + LONGEST_PADDING + tag_len)?;
     out.extend_from_slice(&[0; HEAD])?;
     out.extend_from_slice(payload)?;
     Ok(())
+}
+
+/// Appends five bytes of room and what the closure appends. A refusal leaves `out` as it was.
+fn append_with<F: FnOnce(&mut Vec<u8>) -> Result<(), Error>>(
+    out: &mut Vec<u8>,
+    f: F,
+) -> Result<(), Error>
+    requires callable { F.IsAlwaysCallable f }
+    requires appends { OnlyAppends (FnOnceReturnsAtMut F.FnOnce f) }
+    ensures ok { OnOk result ((payload : List ℕ) × AppendsPayload (FnOnceReturnsAtMut F.FnOnce f) (out.old.items ++ 0 ∷ 0 ∷ 0 ∷ 0 ∷ 0 ∷ []) result payload
+        × (out.new.items ≡ (out.old.items ++ 0 ∷ 0 ∷ 0 ∷ 0 ∷ 0 ∷ []) ++ payload)) }
+    ensures unchanged { OnErr result (out.new.items ≡ out.old.items) }
+    ensures err { IfErr result (λ e. (e ≡ Memory)
+        ⊎ ((payload : List ℕ) × AppendsPayload (FnOnceReturnsAtMut F.FnOnce f) (out.old.items ++ 0 ∷ 0 ∷ 0 ∷ 0 ∷ 0 ∷ []) (Err e) payload)) }
+{
+    let start = out.len();
+    out.extend_from_slice(&[0; HEAD])?;
+    if let Err(error) = call_with(out, f) {
+        out.truncate(start);
+        return Err(error);
+    }
+    Ok(())
+}
+
+/// Calls the closure on the vector.
+fn call_with<F: FnOnce(&mut Vec<u8>) -> Result<(), Error>>(
+    out: &mut Vec<u8>,
+    f: F,
+) -> Result<(), Error>
+    requires { F.IsAlwaysCallable f }
+    ensures { FnOnceReturnsAtMut F.FnOnce f out.old result out.new }
+{
+    f(out)
+}
+
+/// Calls the closure on the payload.
+fn fill_with<F: FnOnce(&mut PacketBytesWriter) -> Result<(), Error>>(
+    payload: &mut PacketBytesWriter,
+    f: F,
+) -> Result<(), Error>
+    requires { F.IsAlwaysCallable f }
+    ensures { FnOnceReturnsAtMut F.FnOnce f payload.old result payload.new }
+{
+    f(payload)
 }

@@ -1,7 +1,9 @@
 use Rattle.std.proofs.Common.{◌≡◌, refl, sym, ap, ◌∙◌, arith, length-drop, ◌+◌, length, min, take, drop, true}
 use Rattle.ssh_packet.specs.Keys.{opening_of}
-use Rattle.ssh_packet.specs.Sealing.{Item}
+use Rattle.ssh_packet.specs.Sealing.{Item, IsBytes}
 use Rattle.ssh_packet.specs.Reading.{Reader}
+use Rattle.ssh_packet.proofs.Shapes.{bytes_drop}
+use Rattle.ssh_packet.proofs.Sound.{front_sound, moved_sound}
 use Rattle.ssh_packet.proofs.Lent.{ends_at, found_is, moved_is, part_is, length_part}
 use Rattle.ssh_packet.proofs.reader.PacketReader.next.Goals as goal
 
@@ -15,6 +17,7 @@ returns-in-Ok-Some c =
     let start = c.self.inside.start in
     let size : length c.open_behind.new.bytes.items ≡ length c.self.inside.bytes.items = omega (arith, c.open_behind.ensures.size, c.self.inside.bytes.ok.0, c.open_behind.new.bytes.ok.0) in
     let item : Item = record { payload = take c.in-Ok-Some.field-0-0.payload (drop 5 (drop c.self.inside.start c.open_behind.new.bytes.items)); padding = found.padding } in
+    let whole = front_sound (opening_of c.args.key.now) c.self.inside.number (drop start there) (drop (start + part.end) now) item c.in-Ok-Some.ensures.bytes (found_is (opening_of c.args.key.now) c.self.inside.number start there now part found) in
     let long = length_part now start part.payload (omega (arith, found.within, found.fits, size, length-drop start there)) in (
       (
         refl,
@@ -30,7 +33,9 @@ returns-in-Ok-Some c =
             count = c.saturating_add-self-inside.ensures ∙ ap (λ n. min (c.self.inside.count + n) 18446744073709551615) (sym long);
             failed = c.if-self.false;
             shorter = omega (arith, found.within, found.fits, size, length-drop start there, length-drop (start + part.end) now);
-            moved = moved_is (opening_of c.args.key.now) (opening_of c.open_behind.new.key) start part.end there now found.rest opened.1;
+            admissible = whole.admissible;
+            bytes = whole.bytes_are;
+            moved = moved_sound (opening_of c.args.key.now) c.self.inside.number (drop start there) (drop (start + part.end) now) item (opening_of c.open_behind.new.key) whole.bytes_are (moved_is (opening_of c.args.key.now) (opening_of c.open_behind.new.key) start part.end there now found.rest opened.1);
           },
         ),
       ),
