@@ -19,11 +19,10 @@ fn ciphers_named(rt: HostRuntime) {
         (cipher::AES_192_CBC, "aes192-cbc", true, 24, 16),
         (cipher::AES_256_CBC, "aes256-cbc", true, 32, 16),
     ];
-    for i in 0..10 {
-        let (name, text, needs_mac, key_len, nonce_len) = rows[i];
-        assert_eq!(rt; cipher::ALL_CIPHERS[i], name);
+    for (i, (name, text, needs_mac, key_len, nonce_len)) in rows.into_iter().enumerate() {
+        assert_eq!(rt; cipher::ALL_CIPHERS.get(i).copied(), Some(name), "{text}");
         assert_eq!(rt; name.as_str(), text);
-        assert_eq!(rt; cipher::Name::from_str(text), Some(name));
+        assert_eq!(rt; cipher::Name::from_str(text), Some(name), "{text}");
         assert_eq!(rt; name.needs_mac(), needs_mac, "{text}");
         assert_eq!(rt;
             (name.key_len(), name.nonce_len()),
