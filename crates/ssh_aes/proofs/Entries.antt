@@ -1,11 +1,11 @@
 -- The tables and the small products against the field, computed for all bytes.
 use Rattle.std.proofs.Common.{◌≡◌, ℕ, ◌+◌, ◌*◌, ◌-◌, ◌<◌, true, ◌&&◌, eqb, ltb, cond, refl}
 use Rattle.std.specs.Prelude.{bit_xor, slice_index}
-use Rattle.std.proofs.lemmas.Bool.{eqb-true, ltb-true}
+use Rattle.std.proofs.lemmas.Bool.{eqb-true, ltb-true, and_parts}
 use Rattle.ssh_aes.specs.declared.tables.TheConstants.{SUBSTITUTION, INVERSE_SUBSTITUTION, ROUND_CONSTANTS}
 use Rattle.ssh_aes.specs.Field.{byte_product, product_modulo, polynomial_product, remainder}
 use Rattle.ssh_aes.specs.Aes.{substitute, inverse_substitute, round_constant, inverse, times_squares, combined}
-use Rattle.ssh_aes.proofs.Below.{all_below, all_below-at, and_left, and_right}
+use Rattle.ssh_aes.proofs.Below.{all_below, all_below-at}
 
 -- ---- the inverse is one
 
@@ -128,30 +128,30 @@ pub small : (b : ℕ) → b < 256 → (ltb (byte_product 2 b) 256 && ltb (byte_p
 small b h = all_below-at 256 (λ b. ltb (byte_product 2 b) 256 && ltb (byte_product 3 b) 256) small_test b h
 
 pub two-lt : (b : ℕ) → b < 256 → byte_product 2 b < 256
-two-lt b h = ltb-true _ _ (and_left _ _ (small b h))
+two-lt b h = ltb-true _ _ (and_parts _ _ (small b h)).0
 
 pub three-lt : (b : ℕ) → b < 256 → byte_product 3 b < 256
-three-lt b h = ltb-true _ _ (and_right _ _ (small b h))
+three-lt b h = ltb-true _ _ (and_parts _ _ (small b h)).1
 
 nine-lt_test : all_below 256 (λ b. ltb (byte_product 9 b) 256 && ltb (byte_product 11 b) 256) ≡ true
 unfolding product_modulo polynomial_product remainder
 nine-lt_test = refl
 
 pub nine-lt : (b : ℕ) → b < 256 → byte_product 9 b < 256
-nine-lt b h = ltb-true _ _ (and_left _ _ (all_below-at 256 (λ b. ltb (byte_product 9 b) 256 && ltb (byte_product 11 b) 256) nine-lt_test b h))
+nine-lt b h = ltb-true _ _ (and_parts _ _ (all_below-at 256 (λ b. ltb (byte_product 9 b) 256 && ltb (byte_product 11 b) 256) nine-lt_test b h)).0
 
 pub eleven-lt : (b : ℕ) → b < 256 → byte_product 11 b < 256
-eleven-lt b h = ltb-true _ _ (and_right _ _ (all_below-at 256 (λ b. ltb (byte_product 9 b) 256 && ltb (byte_product 11 b) 256) nine-lt_test b h))
+eleven-lt b h = ltb-true _ _ (and_parts _ _ (all_below-at 256 (λ b. ltb (byte_product 9 b) 256 && ltb (byte_product 11 b) 256) nine-lt_test b h)).1
 
 thirteen-lt_test : all_below 256 (λ b. ltb (byte_product 13 b) 256 && ltb (byte_product 14 b) 256) ≡ true
 unfolding product_modulo polynomial_product remainder
 thirteen-lt_test = refl
 
 pub thirteen-lt : (b : ℕ) → b < 256 → byte_product 13 b < 256
-thirteen-lt b h = ltb-true _ _ (and_left _ _ (all_below-at 256 (λ b. ltb (byte_product 13 b) 256 && ltb (byte_product 14 b) 256) thirteen-lt_test b h))
+thirteen-lt b h = ltb-true _ _ (and_parts _ _ (all_below-at 256 (λ b. ltb (byte_product 13 b) 256 && ltb (byte_product 14 b) 256) thirteen-lt_test b h)).0
 
 pub fourteen-lt : (b : ℕ) → b < 256 → byte_product 14 b < 256
-fourteen-lt b h = ltb-true _ _ (and_right _ _ (all_below-at 256 (λ b. ltb (byte_product 13 b) 256 && ltb (byte_product 14 b) 256) thirteen-lt_test b h))
+fourteen-lt b h = ltb-true _ _ (and_parts _ _ (all_below-at 256 (λ b. ltb (byte_product 13 b) 256 && ltb (byte_product 14 b) 256) thirteen-lt_test b h)).1
 
 -- ---- two rows of MixColumns and InvMixColumns together
 

@@ -1,6 +1,7 @@
 -- Fronts of masked texts.
-use Rattle.std.proofs.Common.{◌++◌, ◌≡◌, ℕ, zero, suc, ◌+◌, ◌*◌, ◌/◌, ◌%◌, ◌^◌, ◌<◌, ◌≤◌, ◌⊎◌, inl, inr, List, length, take, drop, slice_index, arith, refl, sym, ap, ◌∙◌, subst}
+use Rattle.std.proofs.Common.{◌++◌, ◌≡◌, ℕ, zero, suc, ◌+◌, ◌*◌, ◌/◌, ◌%◌, ◌^◌, ◌≤◌, inl, inr, List, length, take, drop, slice_index, arith, refl, sym, ap, ◌∙◌, subst}
 use Rattle.std.specs.Prelude.{bit_xor}
+use Rattle.std.proofs.lemmas.Bool.{cases_lt}
 use Rattle.std.proofs.lemmas.List.{get_or-take, length-drop, length-take-le, take_all, drop-take}
 use Rattle.std.proofs.Math.Seq.{take-append-add}
 use Rattle.ssh_aes.specs.Aes.{listed, block, aes}
@@ -43,12 +44,9 @@ kept (Cbc key last) k t h =
     let e : length (take (16 * k) t) / 16 ≡ k = omega (arith, length-take-le (16 * k) t h) in
     chained-take key last k (length t / 16) t (omega arith) (omega arith) ∙ ap (λ m. chained key last m (take (16 * k) t)) (sym e)
 
-shorter : (n m : ℕ) → (n ≤ m) ⊎ (m < n)
-shorter n m = grind arith
-
 pub fronts_kept : FrontsKept
 fronts_kept r k t =
-    elim (shorter (16 * k) (length t)) [
-      | inl h ↦ kept r k t h
-      | inr h ↦ take_all (16 * k) (masked r t) (omega (arith, length-masked r t)) ∙ ap (masked r) (sym (take_all (16 * k) t (omega arith)))
+    elim (cases_lt (length t) (16 * k)) [
+      | inl h ↦ take_all (16 * k) (masked r t) (omega (arith, length-masked r t)) ∙ ap (masked r) (sym (take_all (16 * k) t (omega arith)))
+      | inr h ↦ kept r k t h
     ]

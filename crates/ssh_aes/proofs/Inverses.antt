@@ -1,7 +1,8 @@
 -- Decryption undoes encryption, step by step.
-use Rattle.std.proofs.Common.{[], ◌∷◌, ◌++◌, ◌≡◌, ℕ, zero, suc, ◌+◌, ◌-◌, ◌*◌, ◌/◌, ◌%◌, ◌<◌, ◌≤◌, ◌⊎◌, inl, inr, Bool, true, false, cond, eqb, ◌&&◌, List, length, slice_index, arith, refl, sym, ap, ◌∙◌, subst}
+use Rattle.std.proofs.Common.{[], ◌∷◌, ◌++◌, ◌≡◌, ℕ, zero, suc, ◌+◌, ◌-◌, ◌*◌, ◌/◌, ◌%◌, ◌<◌, inl, inr, Bool, true, false, cond, eqb, ◌&&◌, List, length, slice_index, arith, refl, sym, ap, ◌∙◌, subst}
 use Rattle.std.specs.Prelude.{bit_xor}
 use Rattle.std.specs.Int.Bits.{xor_zero_r}
+use Rattle.std.proofs.lemmas.Bool.{cases_lt}
 use Rattle.std.proofs.lemmas.Nat.{xor_comm, xor_of_8}
 use Rattle.std.proofs.lemmas.List.{get_or_past, length-append}
 use Rattle.ssh_aes.specs.Field.{byte_product}
@@ -13,18 +14,15 @@ use Rattle.ssh_aes.proofs.Entries.{substitution_is, inverse_substitution_is, sub
 use Rattle.ssh_aes.proofs.Schedules.{length-listed, listed-at, listed-same, block-same}
 use Rattle.ssh_aes.proofs.Written.{sixteen-elements}
 
-le_or_gt : (n i : ℕ) → (n ≤ i) ⊎ (i < n)
-le_or_gt n i = grind arith
-
 -- 16 bytes
 pub record IsBlock (s : List ℕ) : Type 0 where
   pub length_is : length s ≡ 16
   pub bytes : IsBytes s
 
 pub IsBytes-listed : (n : ℕ) (f : ℕ → ℕ) → ((i : ℕ) → i < n → f i < 256) → IsBytes (listed n f)
-IsBytes-listed n f h i = elim (le_or_gt n i) [
-  | inl l ↦ let e = get_or_past (listed n f) i 0 (omega (arith, length-listed n f)) in rw e (omega arith)
-  | inr l ↦ rw (listed-at n f i l) (h i l)
+IsBytes-listed n f h i = elim (cases_lt i n) [
+  | inl l ↦ rw (listed-at n f i l) (h i l)
+  | inr l ↦ let e = get_or_past (listed n f) i 0 (omega (arith, length-listed n f)) in rw e (omega arith)
 ]
 
 pub IsBlock-listed : (f : ℕ → ℕ) → ((i : ℕ) → i < 16 → f i < 256) → IsBlock (listed 16 f)

@@ -1,8 +1,8 @@
 -- What is answered to a text that was read is what is answered to all that was left.
-use Rattle.std.proofs.Common.{◌≡◌, ℕ, ◌<◌, ◌≤◌, ◌⊎◌, inl, inr, Bool, true, false, nat_lt, if◌then◌else◌, List, [], ◌++◌, length, Option, Some, None, Err, refl, sym, ap, subst, ◌∙◌, arith, append-nil, length-append}
+use Rattle.std.proofs.Common.{◌≡◌, ℕ, ◌<◌, ◌≤◌, inl, inr, true, nat_lt, List, [], ◌++◌, length, Option, Some, None, Err, refl, sym, ap, subst, ◌∙◌, arith, append-nil, length-append}
 use Rattle.std.proofs.lemmas.Bool.Decides.{nat_tests}
 use Rattle.std.specs.Str.{is_utf8, chars}
-use borrow.Author.Tests.{ltb-true, ltb-false}
+use Rattle.std.proofs.lemmas.Bool.{cases_lt, cond-true}
 use lib.Utf8.{encode}
 use Rattle.ssh_wire.specs.declared.ssh_id.SshId.{SshId}
 use Rattle.ssh_link.specs.ClearRun.{IsWholeLine}
@@ -26,30 +26,20 @@ whole_client id e = subst IsWholeLine (sym e) client_whole
 pub whole_server : (id : SshId) → id ≡ server_id → IsWholeLine id
 whole_server id e = subst IsWholeLine (sym e) server_whole
 
-chosen : {X : Type 0} (b : Bool) (x y : X) → b ≡ true → (if b then x else y) ≡ x
-chosen b x y e = rw e refl
-
 too_long : (text : List ℕ) → 67108864 < length text → clear_script text ≡ Err (record { line = 0; kind = TooLong })
-too_long text h = let t : nat_lt 67108864 (length text) ≡ true = grind (arith, nat_tests) in chosen _ _ _ t
-
-by_test : (n m : ℕ) (b : Bool) → nat_lt n m ≡ b → (n < m) ⊎ (m ≤ n)
-by_test n m true e = inl (ltb-true n m e)
-by_test n m false e = inr (ltb-false n m e)
-
-short_or_long : (n : ℕ) → (n < 67108865) ⊎ (67108864 < n)
-short_or_long n = by_test n 67108865 (nat_lt n 67108865) refl
+too_long text h = let t : nat_lt 67108864 (length text) ≡ true = grind (arith, nat_tests) in cond-true _ _ _ t
 
 none_left : (rest : List ℕ) (new : Option (List ℕ)) → new ≡ Some rest → new ≡ Some [] → rest ≡ []
 none_left rest new e h = cc
 
 pub answers_left : (text : List ℕ) (old new : Option (List ℕ)) (answer : Answer) → TakesFront text old new → (length text < 67108865 → ReachesEnd old new) → AnswersScript (clear_script text) answer → AnswersLeft old answer
 answers_left text None new answer taken whole right = (text, tt, right)
-answers_left text (Some left) new answer (rest, split, at) whole right = elim (short_or_long (length text)) [ inl short ↦ read_all short | inr long ↦ read_on long ]
+answers_left text (Some left) new answer (rest, split, at) whole right = elim (cases_lt (length text) 67108865) [ inl short ↦ read_all short | inr long ↦ read_on long ]
   where
     read_all : length text < 67108865 → AnswersLeft (Some left) answer
     read_all short = (text, split ∙ (ap (λ r. text ++ r) (none_left rest new at (whole short)) ∙ append-nil text), right)
 
-    read_on : 67108864 < length text → AnswersLeft (Some left) answer
+    read_on : 67108865 ≤ length text → AnswersLeft (Some left) answer
     read_on long =
         let longer : 67108864 < length left = omega (arith, long, ap length split, length-append text rest) in
-        (left, refl, subst (λ script. AnswersScript script answer) (too_long text long ∙ sym (too_long left longer)) right)
+        (left, refl, subst (λ script. AnswersScript script answer) (too_long text (omega (arith, long)) ∙ sym (too_long left longer)) right)

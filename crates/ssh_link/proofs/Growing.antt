@@ -1,5 +1,5 @@
 -- A side that took some of what the other sent: when more is sent, and at the end.
-use Rattle.std.proofs.Common.{◌≡◌, ℕ, ◌+◌, ◌-◌, ◌≤◌, List, [], ◌∷◌, ◌++◌, length, drop, refl, sym, ◌∙◌, ap, arith, true, false, nat_le, append_assoc, append-nil, length-append, if◌then◌else◌}
+use Rattle.std.proofs.Common.{◌≡◌, ℕ, ◌+◌, ◌-◌, ◌≤◌, List, [], ◌∷◌, ◌++◌, length, drop, refl, sym, ◌∙◌, ap, arith, true, false, nat_le, append_assoc, append-nil, if◌then◌else◌}
 use Rattle.std.proofs.lemmas.Bool.Decides.{nat_tests}
 use Rattle.std.proofs.lemmas.List.{drop-append-le}
 use Rattle.ssh_wire.specs.Lines.{id_line}
@@ -8,7 +8,7 @@ use Rattle.ssh_wire.specs.declared.ssh_id.SshId.{SshId}
 use Rattle.ssh_packet.specs.Sealing.{Clear, sealed, next_number, IsAdmissible}
 use Rattle.ssh_link.specs.ClearRun.{clear_item, packet_size, clear_wire, whole_in}
 use Rattle.ssh_link.specs.declared.receiver.Receiver.{Receiver}
-use Rattle.ssh_link.proofs.Sent.{sent_from, AreSent, size_of, IsShort, length_packet}
+use Rattle.ssh_link.proofs.Sent.{sent_from, AreSent, size_of, IsShort}
 use Rattle.ssh_link.proofs.Carried.{ReadsBy}
 
 -- the number of the packet behind some
@@ -25,14 +25,6 @@ sent_from-push number (p ∷ payloads) payload =
 pub number_behind-push : (number : ℕ) (payloads : List (List ℕ)) (payload : List ℕ) → number_behind number (payloads ++ payload ∷ []) ≡ next_number (number_behind number payloads)
 number_behind-push number [] payload = refl
 number_behind-push number (p ∷ payloads) payload = number_behind-push (next_number number) payloads payload
-
--- in clear the number stands in no byte
-any_number : (m n : ℕ) (payload : List ℕ) → sealed Clear m (clear_item payload) ≡ sealed Clear n (clear_item payload)
-any_number m n payload = refl
-
-pub length_sent : (number : ℕ) (payloads : List (List ℕ)) → length (sent_from number payloads) ≡ size_of payloads
-length_sent number [] = refl
-length_sent number (p ∷ payloads) = omega (arith, length-append (sealed Clear number (clear_item p)) (sent_from (next_number number) payloads), length_packet number p, length_sent (next_number number) payloads)
 
 pub are_sent_push : (payloads : List (List ℕ)) (payload : List ℕ) → AreSent payloads → IsAdmissible Clear (clear_item payload) → AreSent (payloads ++ payload ∷ [])
 are_sent_push [] payload h k = (k, tt)

@@ -1,24 +1,16 @@
 -- Taking of a source, and appending to a sink, piece by piece.
-use Rattle.std.proofs.Common.{drop-drop, ◌≡◌, ℕ, ◌+◌, ◌-◌, ◌≤◌, List, [], ◌++◌, length, take, drop, Option, Some, None, refl, sym, ap, subst, ◌∙◌, append_assoc, arith}
+use Rattle.std.proofs.Common.{drop-drop, ◌≡◌, ℕ, ◌+◌, ◌-◌, ◌≤◌, List, ◌++◌, length, take, drop, Option, Some, None, sym, ap, subst, ◌∙◌, append_assoc, arith}
 use Rattle.std.proofs.lemmas.Grind.{common_steps}
 use Rattle.std.proofs.Math.Seq.{take-add}
 use Rattle.std.proofs.lemmas.List.{take_rest}
 use Rattle.ssh_wire.specs.Outside.{Appends}
-use Rattle.ssh_link.specs.Stream.{TakesFront, TakesAtMost, ReachesEnd}
+use Rattle.ssh_link.specs.Stream.{TakesFront, TakesAtMost}
 
 pub takes_more : (bytes piece : List ℕ) (old mid new : Option (List ℕ)) → TakesFront bytes old mid → TakesFront piece mid new → TakesFront (bytes ++ piece) old new
 takes_more bytes piece None mid new h k = tt
 takes_more bytes piece (Some left) mid new (rest, split, at) k =
     let more = subst (λ m. TakesFront piece m new) at k in
     (more.0, split ∙ (ap (λ r. bytes ++ r) more.1 ∙ sym (append_assoc bytes piece more.0)), more.2)
-
-pub takes_none : (old : Option (List ℕ)) → TakesFront [] old old
-takes_none None = tt
-takes_none (Some left) = (left, refl, refl)
-
-pub reaches : (bytes : List ℕ) (old mid new : Option (List ℕ)) → TakesFront bytes old mid → ReachesEnd mid new → ReachesEnd old new
-reaches bytes None mid new h k = tt
-reaches bytes (Some left) mid new (rest, split, at) k = subst (λ m. ReachesEnd m new) at k
 
 pub bounded_more : (bytes : List ℕ) (most more : ℕ) (old mid new : Option (List ℕ)) → TakesFront bytes old mid → TakesAtMost more mid new → length bytes + more ≤ most → TakesAtMost most old new
 bounded_more bytes most more old mid new h (piece, short, k) fits = (bytes ++ piece, grind (arith, common_steps), takes_more bytes piece old mid new h k)

@@ -1,5 +1,5 @@
 -- What is taken of a source, and what of a text goes to a sink.
-use Rattle.std.specs.Prelude.{◌≡◌, ℕ, ◌+◌, ◌-◌, ◌^◌, ◌≤◌, nat_lt, if◌then◌else◌, List, [], ◌++◌, length, take, Option, Some, IfSome}
+use Rattle.std.specs.Prelude.{◌≡◌, ℕ, ◌≤◌, List, [], ◌++◌, length, take, Option, Some, IfSome}
 use Rattle.ssh_wire.specs.Outside.{Appends}
 
 -- these bytes are the front of what was left, where that is told; the rest stays
@@ -17,10 +17,6 @@ ReachesEnd old new = IfSome old (λ left. new ≡ Some [])
 -- some front of the text went behind what was held
 abbrev pub AppendsFront : List ℕ → Option (List ℕ) → Option (List ℕ) → Type 0
 AppendsFront text old new = (n : ℕ) × (n ≤ length text) × Appends (take n text) old new
-
--- one more, of a count that stops at its end
-abbrev pub counted : ℕ → ℕ
-counted n = if nat_lt n (2 ^ 64 - 1) then n + 1 else n
 
 -- a reader or a writer, and how many of its calls failed
 pub record Counted (X : Type 0) : Type 0 where

@@ -2,8 +2,7 @@
 
 ghost use Rattle.std.specs.Prelude.{◌≡◌, ◌≤◌, length, take, None, IfOk, IfSome, OnErr, OnOk};
 ghost use Rattle.std.specs.Io.KnownBytes.{ReadConsumes, Appends};
-ghost use Rattle.ssh_wire.specs.Outside.{IsPartOf};
-ghost use Rattle.ssh_link.specs.Stream.{counted};
+ghost use Rattle.ssh_wire.specs.Outside.{IsPartOf, counted};
 
 use ssh_wire::{Failed, Sink, Source};
 use std::io::{Read, Write};

@@ -5,7 +5,7 @@ use Rattle.std.proofs.lemmas.List.{length-take-le, drop-drop, drop-append-le, ta
 use Rattle.std.proofs.Math.Seq.{take-append-add, take-append_seam, drop-append_seam}
 use Rattle.rand_core.specs.Stream.{Stream}
 use Rattle.ssh_wire.specs.Forms.{u32be}
-use Rattle.ssh_packet.proofs.Shapes.{bytes_drop}
+use Rattle.ssh_aes.proofs.Running.{IsBytes-drop}
 use Rattle.ssh_packet.specs.Sealing.{Sealing, IsBytes, framed, framing, item_of, padding_length}
 use borrow.Rule.Slice.PartMut.{put_mid}
 
@@ -99,4 +99,4 @@ part_behind old now n same = rest_from now n ∙ ap (drop n) same
 pub bytes_behind : (a : ℕ) (xs ys : List ℕ) → IsBytes (put_mid a (length xs - a) xs ys) → IsBytes ys
 bytes_behind a xs ys h =
     let joined : IsBytes (take a xs ++ ys) = subst IsBytes (put_behind a (length xs - a) xs ys (omega arith)) h in
-    subst IsBytes (drop-append_seam (take a xs) ys) (bytes_drop (take a xs ++ ys) (length (take a xs)) joined)
+    subst IsBytes (drop-append_seam (take a xs) ys) (IsBytes-drop (length (take a xs)) (take a xs ++ ys) joined)

@@ -11,8 +11,9 @@ use Rattle.ssh_aes.specs.Gcm.{gcm_text, gcm_tag, gcm_plain, cipher_tag}
 use Rattle.ssh_aes.specs.Modes.{Running, masked, unmasked, moved, passed}
 use Rattle.ssh_mac.specs.TagLaws.{length-tag_of}
 use Rattle.ssh_mac.specs.Tags.{MacOf, tag_of, is_encrypt_then_mac}
-use Rattle.ssh_packet.proofs.Ciphers.{runs_well, opens_well, gcm_well}
-use Rattle.ssh_packet.proofs.Shapes.{cut_alike, front_framed, length_framed, framed_bytes, bytes_drop, length_take4, item_alike}
+use Rattle.ssh_aes.proofs.Running.{IsBytes-drop, opens_well, runs_well}
+use Rattle.ssh_aes.proofs.Sealing.{gcm_well}
+use Rattle.ssh_packet.proofs.Shapes.{cut_alike, front_framed, length_framed, framed_bytes, length_take4, item_alike}
 use Rattle.ssh_packet.specs.Front.{Fault, Front, Whole, Unfinished, Refused, probed, length_in, is_bad_length, decrypted, text_in, opened_past, packet_of, key_behind, covered, tag_for, tag_fault, parted, parted_by, checked, opened, measured, front_of}
 use Rattle.ssh_packet.specs.Sealing.{Item, Sealing, Clear, Block, Gcm, framed, packet_length, hidden, moved_past, moved_on, closed, enclosed, sealed, probe, shown_by, shortest, tag_size, IsAdmissible, IsBytes}
 
@@ -92,7 +93,7 @@ rejoined t u v h e f = ap (λ x. x ++ v) e ∙ (ap (λ x. take 4 t ++ x) f ∙ t
 decrypted_back : (etm : Bool) (r : Running) (t : List ℕ) → IsBytes t → 4 ≤ length t → decrypted etm r (body_by etm r t) ≡ t
 unfolding body_by
 decrypted_back true r t b h =
-    rejoined t _ _ h (take_headed t _ h) (ap (unmasked r) (drop_headed t _ h) ∙ (opens_well r).opens (drop 4 t) (bytes_drop t 4 b))
+    rejoined t _ _ h (take_headed t _ h) (ap (unmasked r) (drop_headed t _ h) ∙ (opens_well r).opens (drop 4 t) (IsBytes-drop 4 t b))
 decrypted_back false r t b h = (opens_well r).opens t b
 
 text_back : (s : Sealing) (t : List ℕ) → IsBytes t → 4 ≤ length t → text_in s (body s t) ≡ t
@@ -103,7 +104,7 @@ text_back (Gcm key nonce) t b h =
     let hidden = gcm_text key nonce (take 4 t) (drop 4 t) in
     rejoined t _ _ h (take_headed t hidden h)
     (ap (λ a. gcm_plain key nonce a (drop 4 (take 4 t ++ hidden))) (take_headed t hidden h)
-    ∙ (ap (gcm_plain key nonce (take 4 t)) (drop_headed t hidden h) ∙ (gcm_well key nonce).opens (take 4 t) (drop 4 t) (bytes_drop t 4 b)))
+    ∙ (ap (gcm_plain key nonce (take 4 t)) (drop_headed t hidden h) ∙ (gcm_well key nonce).opens (take 4 t) (drop 4 t) (IsBytes-drop 4 t b)))
 
 -- the tag that belongs to it is the one behind it
 covered_back : (etm : Bool) (r : Running) (t : List ℕ) → IsBytes t → covered etm r (body_by etm r t) ≡ over etm r t

@@ -1,5 +1,3 @@
-pub mod Built
-pub mod Ciphers
 pub mod Finding
 pub mod Flushed
 pub mod Framing

@@ -9,7 +9,9 @@ use Rattle.ssh_aes.specs.Laws.{RunsWell}
 use Rattle.ssh_aes.specs.Modes.{Running, masked, least}
 use Rattle.ssh_mac.specs.TagLaws.{length-tag_of}
 use Rattle.ssh_mac.specs.Tags.{MacOf, tag_of, is_encrypt_then_mac}
-use Rattle.ssh_packet.proofs.Ciphers.{runs_well, gcm_well}
+use Rattle.ssh_aes.proofs.Inverses.{IsBytes-append, IsBytes-cons, IsBytes-four}
+use Rattle.ssh_aes.proofs.Running.{IsBytes-drop, runs_well}
+use Rattle.ssh_aes.proofs.Sealing.{gcm_well}
 use Rattle.ssh_packet.specs.Sealing.{Item, Sealing, Clear, Block, Gcm, framed, packet_length, enclosed, sealed, shown_by, shortest, IsAdmissible, IsBytes}
 
 -- ---- lists
@@ -29,26 +31,8 @@ cut_alike (p ∷ a) (q ∷ b) x y h e =
 pub length_take4 : (t : List ℕ) → 4 ≤ length t → length (take 4 t) ≡ 4
 length_take4 t h = grind (arith, common_steps)
 
-index_drop : (t : List ℕ) (k i : ℕ) → slice_index (drop k t) i ≡ slice_index t (k + i)
-index_drop t k i = grind (arith, common_steps)
-
-pub bytes_drop : (t : List ℕ) (k : ℕ) → IsBytes t → IsBytes (drop k t)
-bytes_drop t k h i = let e = index_drop t k i in omega (arith, e, h (k + i))
-
-pub bytes_append : (a b : List ℕ) → IsBytes a → IsBytes b → IsBytes (a ++ b)
-bytes_append [] b ha hb i = hb i
-bytes_append (x ∷ a) b ha hb zero = ha 0
-bytes_append (x ∷ a) b ha hb (suc i) = bytes_append a b (λ k. ha (suc k)) hb i
-
-bytes_cons : (x : ℕ) (a : List ℕ) → x < 256 → IsBytes a → IsBytes (x ∷ a)
-bytes_cons x a hx ha zero = hx
-bytes_cons x a hx ha (suc i) = ha i
-
-bytes_four : (a b c d : ℕ) → a < 256 → b < 256 → c < 256 → d < 256 → IsBytes (a ∷ b ∷ c ∷ d ∷ [])
-bytes_four a b c d ha hb hc hd = bytes_cons a (b ∷ c ∷ d ∷ []) ha (bytes_cons b (c ∷ d ∷ []) hb (bytes_cons c (d ∷ []) hc (bytes_cons d [] hd (λ i. lit< tt))))
-
 bytes_u32 : (n : ℕ) → IsBytes (to_be_bytes w32 n)
-bytes_u32 n = bytes_four (n / 16777216 % 256) (n / 65536 % 256) (n / 256 % 256) (n % 256) (omega arith) (omega arith) (omega arith) (omega arith)
+bytes_u32 n = IsBytes-four (n / 16777216 % 256) (n / 65536 % 256) (n / 256 % 256) (n % 256) (omega arith) (omega arith) (omega arith) (omega arith)
 
 pub u32_injective : (m n : ℕ) → m < 2 ^ 32 → n < 2 ^ 32 → to_be_bytes w32 m ≡ to_be_bytes w32 n → m ≡ n
 u32_injective m n hm hn e = sym (from_be_bytes-to_be_bytes_4 m hm) ∙ (ap (from_be_bytes w32) e ∙ from_be_bytes-to_be_bytes_4 n hn)
@@ -72,8 +56,8 @@ length_framed a = omega (arith, length-append a.payload a.padding)
 pub framed_bytes : (sealing : Sealing) (a : Item) → IsAdmissible sealing a → IsBytes (framed a)
 unfolding framed
 framed_bytes sealing a h =
-    bytes_append (to_be_bytes w32 (packet_length a)) (length a.padding ∷ (a.payload ++ a.padding)) (bytes_u32 (packet_length a))
-    (bytes_cons (length a.padding) (a.payload ++ a.padding) h.padding (bytes_append a.payload a.padding h.payload_bytes h.padding_bytes))
+    IsBytes-append (to_be_bytes w32 (packet_length a)) (length a.padding ∷ (a.payload ++ a.padding)) (bytes_u32 (packet_length a))
+    (IsBytes-cons (length a.padding) (a.payload ++ a.padding) h.padding (IsBytes-append a.payload a.padding h.payload_bytes h.padding_bytes))
 
 framed_injective : (a b : Item) → packet_length a ≡ packet_length b → framed a ≡ framed b → a ≡ b
 unfolding framed
@@ -138,7 +122,7 @@ headed_injective body tag same injective s t os ot h e =
     let even : length (drop 4 s) ≡ length (drop 4 t) = omega (arith, length-drop {A = ℕ}, h) in
     let bodies = cut_alike (body (take 4 s) (drop 4 s)) (body (take 4 t) (drop 4 t)) _ _ (same (take 4 s) (drop 4 s) ∙ (even ∙ sym (same (take 4 t) (drop 4 t)))) heads.1 in
     let one_head : body (take 4 s) (drop 4 s) ≡ body (take 4 s) (drop 4 t) = bodies.0 ∙ ap (λ k. body k (drop 4 t)) (sym heads.0) in
-    let tails : drop 4 s ≡ drop 4 t = injective (take 4 s) (drop 4 s) (drop 4 t) (bytes_drop s 4 os.bytes) (bytes_drop t 4 ot.bytes) even one_head in
+    let tails : drop 4 s ≡ drop 4 t = injective (take 4 s) (drop 4 s) (drop 4 t) (IsBytes-drop 4 s os.bytes) (IsBytes-drop 4 t ot.bytes) even one_head in
     sym (take-append-drop 4 s) ∙ ((ap (λ k. k ++ drop 4 s) heads.0 ∙ ap (λ k. take 4 t ++ k) tails) ∙ take-append-drop 4 t)
 
 -- four bytes in clear, then a body and a tag that these four and the rest determine

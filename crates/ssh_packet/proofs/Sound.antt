@@ -8,12 +8,14 @@ use Rattle.std.proofs.lemmas.Slice.Eq.{bytes_eq-Decides}
 use Rattle.std.specs.Int.{w32, from_be_bytes, to_be_bytes}
 use Rattle.std.specs.Str.{bytes_eq}
 use Rattle.ssh_aes.proofs.Closing.{closes_well}
+use Rattle.ssh_aes.proofs.Inverses.{IsBytes-append}
+use Rattle.ssh_aes.proofs.Running.{IsBytes-drop}
 use Rattle.ssh_aes.proofs.Sealing.{gcm_closes_well}
 use Rattle.ssh_aes.specs.Gcm.{gcm_plain, gcm_text, gcm_tag, cipher_tag}
 use Rattle.ssh_aes.specs.Modes.{Running, masked, unmasked}
 use Rattle.ssh_mac.specs.Tags.{MacOf, tag_of, is_encrypt_then_mac}
 use Rattle.ssh_packet.proofs.Fronts.{drop_headed, length_headed, states_agree, take_headed}
-use Rattle.ssh_packet.proofs.Shapes.{bytes_append, bytes_drop, length_take4}
+use Rattle.ssh_packet.proofs.Shapes.{length_take4}
 use Rattle.ssh_packet.specs.Front.{Front, Whole, Unfinished, Refused, probed, length_in, is_bad_length, decrypted, text_in, covered, tag_for, tag_fault, parted, parted_by, checked, opened, measured, front_of, key_behind}
 use Rattle.ssh_packet.specs.Sealing.{Item, Sealing, Clear, Block, Gcm, framed, packet_length, closed, enclosed, sealed, moved_on, probe, shown_by, shortest, tag_size, IsAdmissible, IsBytes}
 
@@ -35,13 +37,13 @@ length_text (Block r mac) p h = length_decrypted (is_encrypt_then_mac mac) r p h
 length_text (Gcm key nonce) p h = length_headed p _ h ((gcm_closes_well key nonce).same_length (take 4 p) (drop 4 p))
 
 decrypted_bytes : (etm : Bool) (r : Running) (p : List ℕ) → IsBytes p → IsBytes (decrypted etm r p)
-decrypted_bytes true r p b = bytes_append (take 4 p) _ (bytes_take p 4 b) ((closes_well r).bytes (drop 4 p) (bytes_drop p 4 b))
+decrypted_bytes true r p b = IsBytes-append (take 4 p) _ (bytes_take p 4 b) ((closes_well r).bytes (drop 4 p) (IsBytes-drop 4 p b))
 decrypted_bytes false r p b = (closes_well r).bytes p b
 
 text_bytes : (s : Sealing) (p : List ℕ) → IsBytes p → IsBytes (text_in s p)
 text_bytes Clear p b = b
 text_bytes (Block r mac) p b = decrypted_bytes (is_encrypt_then_mac mac) r p b
-text_bytes (Gcm key nonce) p b = bytes_append (take 4 p) _ (bytes_take p 4 b) ((gcm_closes_well key nonce).bytes (take 4 p) (drop 4 p) (bytes_drop p 4 b))
+text_bytes (Gcm key nonce) p b = IsBytes-append (take 4 p) _ (bytes_take p 4 b) ((gcm_closes_well key nonce).bytes (take 4 p) (drop 4 p) (IsBytes-drop 4 p b))
 
 -- a head of four bytes and something behind it, made of the two parts of p
 headed_again : (p u : List ℕ) (f g : List ℕ → List ℕ → List ℕ) → 4 ≤ length p → (let t : List ℕ = take 4 p ++ u in take 4 t ++ (f (take 4 t) (drop 4 t) ++ g (take 4 t) (drop 4 t))) ≡ take 4 p ++ (f (take 4 p) u ++ g (take 4 p) u)
@@ -54,7 +56,7 @@ headed_whole p u x e = ap (λ d. take 4 p ++ (d ++ x)) e ∙ (sym (append_assoc 
 
 enclosed_again : (etm : Bool) (r : Running) (tag : List ℕ → List ℕ) (p : List ℕ) → IsBytes p → 4 ≤ length p → enclosed etm (masked r) tag (decrypted etm r p) ≡ p ++ tag (covered etm r p)
 enclosed_again true r tag p b h =
-    let again = (closes_well r).closes (drop 4 p) (bytes_drop p 4 b) in
+    let again = (closes_well r).closes (drop 4 p) (IsBytes-drop 4 p b) in
     headed_again p (unmasked r (drop 4 p)) (λ a d. masked r d) (λ a d. tag (a ++ masked r d)) h
     ∙ (ap (λ d. take 4 p ++ (d ++ tag (take 4 p ++ d))) again
     ∙ (headed_whole p (drop 4 p) _ refl ∙ ap (λ d. p ++ tag d) (take-append-drop 4 p)))
@@ -181,8 +183,8 @@ found s number n padding bytes b long shown good whole tag at fits =
         short = omega (arith, total, good_short);
         probed = omega (arith, total, good_probed);
         shown = omega (arith, total, good_shown);
-        payload_bytes = bytes_take (drop 5 text) (n - 1 - padding) (bytes_drop text 5 tb);
-        padding_bytes = bytes_drop (drop 5 text) (n - 1 - padding) (bytes_drop text 5 tb);
+        payload_bytes = bytes_take (drop 5 text) (n - 1 - padding) (IsBytes-drop 5 text tb);
+        padding_bytes = IsBytes-drop (n - 1 - padding) (drop 5 text) (IsBytes-drop 5 text tb);
       };
       bytes_are = sym (ap (λ x. x ++ drop (tag_size s) behind) bytes_there
           ∙ (append_assoc p (take (tag_size s) behind) (drop (tag_size s) behind)

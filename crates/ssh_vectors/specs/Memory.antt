@@ -1,12 +1,9 @@
 -- A source and a sink in memory, of which chosen calls fail.
-use Rattle.std.specs.Prelude.{ℕ, ◌+◌, ◌-◌, ◌^◌, ◌==◌, nat_le, nat_lt, ◌&&◌, ◌||◌, Bool, List, ◌++◌, length, take, drop, min, Result, Ok, Err, if◌then◌else◌}
+use Rattle.std.specs.Prelude.{ℕ, ◌-◌, ◌==◌, nat_le, ◌&&◌, ◌||◌, Bool, List, ◌++◌, length, take, drop, min, Result, Ok, Err, if◌then◌else◌}
 use Rattle.std.specs.List.{list_any}
+use Rattle.ssh_wire.specs.Outside.{counted}
 use Rattle.ssh_wire.specs.declared.outside.Failed.{Failed}
 use Rattle.ssh_wire.specs.declared.outside.Failed.TheVariants as failed
-
--- one more, of a count that stops at its end
-abbrev pub counted : ℕ → ℕ
-counted n = if nat_lt n (2 ^ 64 - 1) then n + 1 else n
 
 -- whether a call's number is among those that fail
 abbrev pub is_listed : List ℕ → ℕ → Bool

@@ -2,7 +2,7 @@
 
 ghost use Rattle.std.specs.Prelude.{◌≡◌, [], ◌+◌, ◌≤◌, take, length, min, OnOk, IfOk, IfErr, Some, replicate};
 ghost use Rattle.ssh_wire.specs.declared.error.Error.TheVariants.{Memory};
-ghost use Rattle.ssh_vectors.specs.Memory.{counted, is_listed};
+ghost use Rattle.ssh_vectors.specs.Memory.{is_listed};
 
 use ssh_wire::{Error, Failed, Sink, Source};
 use std::alloc::Global;

@@ -3,6 +3,7 @@ use Rattle.std.proofs.Common.{◌≡◌, ℕ, zero, suc, ◌+◌, ◌-◌, ◌&&
 use Rattle.std.specs.List.{slice_split, list_all, position_or_len}
 use Rattle.std.specs.Prelude.{position}
 use Rattle.std.specs.Str.{IsAscii, is_utf8}
+use Rattle.std.proofs.lemmas.Bool.{and_parts, and_right}
 use Rattle.std.proofs.lemmas.Bool.Decides.{nat_tests}
 use Rattle.std.proofs.lemmas.Grind.{take_at_read}
 use Rattle.std.proofs.lemmas.List.{length-append, get_or-append_right}
@@ -93,13 +94,9 @@ ascii_from_all (b ∷ bytes) h = step (nat_lt b 128) refl (ascii_from_all bytes)
     step false e more q = cc
     step true e more q = IsAscii-cons b bytes (grind (arith, nat_tests)) (more q)
 
-both_true : (t u : Bool) → (t && u) ≡ true → (t ≡ true) × (u ≡ true)
-both_true true u h = (refl, h)
-both_true false u h = cc
-
 pub name_utf8 : (name : List ℕ) → is_name name ≡ true → is_utf8 name ≡ true
 name_utf8 name h =
-    let both = both_true (nat_lt 0 (length name)) (list_all (λ b. nat_lt b 128) name) h in
+    let both = and_parts (nat_lt 0 (length name)) (list_all (λ b. nat_lt b 128) name) h in
     is_utf8-from_IsUtf8 name (IsUtf8-from_ascii name (ascii_from_all name both.1))
 
 pub names_of_some : (text : List ℕ) → 0 < length text → names_of text ≡ checked (slice_split is_comma (without_last_comma text))
@@ -107,12 +104,8 @@ names_of_some [] h = absurd (omega arith)
 names_of_some (b ∷ text) h = refl
 
 -- names that were joined
-and_false : (t u : Bool) → u ≡ false → (t && u) ≡ false
-and_false true u h = h
-and_false false u h = refl
-
 no_last_comma : (text : List ℕ) → is_comma (slice_index text (length text - 1)) ≡ false → without_last_comma text ≡ text
-no_last_comma text h = ap (λ t. if t then take (length text - 1) text else text) (and_false (nat_lt 1 (length text)) (is_comma (slice_index text (length text - 1))) h)
+no_last_comma text h = ap (λ t. if t then take (length text - 1) text else text) (and_right (nat_lt 1 (length text)) (is_comma (slice_index text (length text - 1))) h)
 
 joined_some : (name : List ℕ) (names : List (List ℕ)) → 0 < length name → 0 < length (joined (name ∷ names))
 joined_some name [] h = h

@@ -1,9 +1,13 @@
 -- What is known of a source and of a sink: a count of faults, and bytes where they are told.
-use Rattle.std.specs.Prelude.{◌≡◌, ℕ, ◌+◌, ◌-◌, ◌^◌, ◌≤◌, ◌<◌, List, ◌++◌, [], length, take, drop, min, Option, Some, IfSome}
+use Rattle.std.specs.Prelude.{◌≡◌, ℕ, ◌+◌, ◌-◌, ◌^◌, ◌≤◌, ◌<◌, nat_lt, if◌then◌else◌, List, ◌++◌, [], length, take, drop, min, Option, Some, IfSome}
 
 -- a count that rose; one that stands at its end counts as risen
 abbrev pub Rose : ℕ → ℕ → Type 0
 Rose before now = min (before + 1) (2 ^ 64 - 1) ≤ now
+
+-- one more, of a count that stops at its end
+abbrev pub counted : ℕ → ℕ
+counted n = if nat_lt n (2 ^ 64 - 1) then n + 1 else n
 
 -- the next n bytes were taken, and stand at the front of the buffer
 abbrev pub TakesNext : ℕ → List ℕ → Option (List ℕ) → Option (List ℕ) → Type 0

@@ -19,15 +19,24 @@ fn ciphers_named(rt: HostRuntime) {
         (cipher::AES_192_CBC, "aes192-cbc", true, 24, 16),
         (cipher::AES_256_CBC, "aes256-cbc", true, 32, 16),
     ];
-    for i in 0..10 {
-        let (name, text, needs_mac, key_len, nonce_len) = rows[i];
-        assert_eq!(rt; cipher::ALL_CIPHERS[i], name);
+    for (i, (name, text, needs_mac, key_len, nonce_len)) in rows.into_iter().enumerate() {
+        assert_eq!(rt; cipher::ALL_CIPHERS.get(i).copied(), Some(name), "{text}");
         assert_eq!(rt; name.as_str(), text);
-        assert_eq!(rt; cipher::Name::from_str(text), Some(name));
+        assert_eq!(rt; cipher::Name::from_str(text), Some(name), "{text}");
         assert_eq!(rt; name.needs_mac(), needs_mac, "{text}");
-        assert_eq!(rt; (name.key_len(), name.nonce_len()), (key_len, nonce_len), "{text}");
+        assert_eq!(rt;
+            (name.key_len(), name.nonce_len()),
+            (key_len, nonce_len),
+            "{text}"
+        );
     }
-    for text in ["", "aes128", "aes128-ctr ", "AES128-CTR", "aes192-gcm@openssh.com"] {
+    for text in [
+        "",
+        "aes128",
+        "aes128-ctr ",
+        "AES128-CTR",
+        "aes192-gcm@openssh.com",
+    ] {
         assert_eq!(rt; cipher::Name::from_str(text), None, "{text}");
     }
 }
@@ -35,7 +44,10 @@ fn ciphers_named(rt: HostRuntime) {
 #[test]
 fn compression_named(rt: HostRuntime) {
     assert_eq!(rt; compression::NONE.as_str(), "none");
-    assert_eq!(rt; compression::Name::from_str("none"), Some(compression::NONE));
+    assert_eq!(rt;
+        compression::Name::from_str("none"),
+        Some(compression::NONE)
+    );
     assert_eq!(rt; compression::Name::from_str("zlib"), None);
     assert_eq!(rt; compression::Name::from_str(""), None);
 }
@@ -69,7 +81,11 @@ fn keys_made(rt: HostRuntime) {
         let opening = cipher.make_opening_key(key, nonce, mac_key, mac);
         assert_eq!(rt; sealing.tag_len(), tag_len, "{cipher:?}, {mac:?}");
         assert_eq!(rt; opening.tag_len(), tag_len, "{cipher:?}, {mac:?}");
-        assert_eq!(rt; sealing.padding_length(b"five "), padding, "{cipher:?}, {mac:?}");
+        assert_eq!(rt;
+            sealing.padding_length(b"five "),
+            padding,
+            "{cipher:?}, {mac:?}"
+        );
         assert_eq!(rt;
             opening.packet_length_to_read_for_block_length(),
             probe,

@@ -123,14 +123,29 @@ fn is_opened(alloc: Global, recorded: &Recorded, piece_len: usize) -> Result<boo
     let mut opened = 0;
     for piece in recorded.sealed.chunks(piece_len.max(1)) {
         reader.push(piece)?;
-        while let Some(incoming) = reader.next(&mut key)? {
-            if opened == 2 || incoming.payload != recorded.payloads[opened] {
-                return Ok(false);
-            }
-            opened += 1;
+        if !is_next(&mut reader, &mut key, &recorded.payloads, &mut opened)? {
+            return Ok(false);
         }
     }
-    Ok(opened == 2 && reader.waiting() == 0)
+    let is_next = is_next(&mut reader, &mut key, &recorded.payloads, &mut opened)?;
+    Ok(is_next && opened == 2 && reader.waiting() == 0)
+}
+
+/// Whether the reader gives the next of these payloads, or none.
+fn is_next(
+    reader: &mut PacketReader,
+    key: &mut OpenKey,
+    payloads: &[&[u8]; 2],
+    opened: &mut usize,
+) -> Result<bool, Error> {
+    match reader.next(key)? {
+        Some(incoming) => {
+            let payload = payloads.get(*opened).copied();
+            *opened = opened.saturating_add(1);
+            Ok(payload == Some(incoming.payload))
+        }
+        None => Ok(true),
+    }
 }
 
 /// aes128-gcm@openssh.com.
