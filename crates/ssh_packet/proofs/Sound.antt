@@ -1,8 +1,8 @@
 -- What a reader finds is a packet that was sealed: its bytes stand at the front.
-use Rattle.std.proofs.Common.{◌≡◌, ℕ, ◌+◌, ◌-◌, ◌<◌, ◌≤◌, List, [], ◌∷◌, ◌++◌, length, take, drop, slice_index, refl, sym, ◌∙◌, ap, subst, arith, Bool, true, false, if◌then◌else◌, ◌||◌, nat_lt, append_assoc, append-nil, length-append, length-drop}
+use Rattle.std.proofs.Common.{◌≡◌, ℕ, ◌+◌, ◌-◌, ◌<◌, ◌≤◌, List, [], ◌∷◌, ◌++◌, length, take, drop, slice_index, refl, sym, ◌∙◌, ap, subst, arith, Bool, true, false, if◌then◌else◌, ◌||◌, nat_lt, append_assoc, append-nil, length-drop}
 use Rattle.std.proofs.lemmas.Bool.Decides.{nat_tests}
 use Rattle.std.proofs.lemmas.Grind.{common_steps}
-use Rattle.std.proofs.lemmas.List.{take-append-drop, length-take-le, get_or-take, take-take, drop-drop}
+use Rattle.std.proofs.lemmas.List.{take-append-drop, length-take-le, get_or-take, take-take}
 use Rattle.std.proofs.lemmas.Nat.{be_bytes_4}
 use Rattle.std.proofs.lemmas.Slice.Eq.{bytes_eq-Decides}
 use Rattle.std.specs.Int.{w32, from_be_bytes, to_be_bytes}
@@ -11,12 +11,12 @@ use Rattle.ssh_aes.proofs.Closing.{closes_well}
 use Rattle.ssh_aes.proofs.Inverses.{IsBytes-append}
 use Rattle.ssh_aes.proofs.Running.{IsBytes-drop}
 use Rattle.ssh_aes.proofs.Sealing.{gcm_closes_well}
-use Rattle.ssh_aes.specs.Gcm.{gcm_plain, gcm_text, gcm_tag, cipher_tag}
+use Rattle.ssh_aes.specs.Gcm.{gcm_plain, gcm_text, gcm_tag}
 use Rattle.ssh_aes.specs.Modes.{Running, masked, unmasked}
-use Rattle.ssh_mac.specs.Tags.{MacOf, tag_of, is_encrypt_then_mac}
+use Rattle.ssh_mac.specs.Tags.{tag_of, is_encrypt_then_mac}
 use Rattle.ssh_packet.proofs.Fronts.{drop_headed, length_headed, states_agree, take_headed}
 use Rattle.ssh_packet.proofs.Shapes.{length_take4}
-use Rattle.ssh_packet.specs.Front.{Front, Whole, Unfinished, Refused, probed, length_in, is_bad_length, decrypted, text_in, covered, tag_for, tag_fault, parted, parted_by, checked, opened, measured, front_of, key_behind}
+use Rattle.ssh_packet.specs.Front.{Front, Whole, Unfinished, Refused, probed, length_in, is_bad_length, decrypted, text_in, covered, tag_for, parted, checked, front_of, key_behind}
 use Rattle.ssh_packet.specs.Sealing.{Item, Sealing, Clear, Block, Gcm, framed, packet_length, closed, enclosed, sealed, moved_on, probe, shown_by, shortest, tag_size, IsAdmissible, IsBytes}
 
 -- ---- what was opened from any bytes is sealed to them

@@ -1,6 +1,6 @@
 use Rattle.std.proofs.Common.{◌≡◌, refl, sym, ap, ◌∙◌, arith, length-drop, ◌+◌, length, min, take, drop, true}
 use Rattle.ssh_packet.specs.Keys.{opening_of}
-use Rattle.ssh_packet.specs.Sealing.{Item, IsBytes}
+use Rattle.ssh_packet.specs.Sealing.{Item}
 use Rattle.ssh_packet.specs.Reading.{Reader}
 use Rattle.ssh_packet.proofs.Sound.{front_sound, moved_sound}
 use Rattle.ssh_packet.proofs.Lent.{ends_at, found_is, moved_is, part_is, length_part}
