@@ -197,7 +197,7 @@ shown_at (Block r mac) number item rest h =
 shown_at (Gcm key nonce) number item rest h =
     length_at _ item h.short (ap (take 4) (append_assoc (take 4 (framed item)) (gcm_text key nonce (take 4 (framed item)) (drop 4 (framed item))) _) ∙ take_headed (framed item) _ (omega (arith, length_framed item)))
 
-pub three_false : (a b c : Bool) → a ≡ false → b ≡ false → c ≡ false → (a || (b || c)) ≡ false
+three_false : (a b c : Bool) → a ≡ false → b ≡ false → c ≡ false → (a || (b || c)) ≡ false
 three_false a b c e f g = ap (λ x. x || (b || c)) e ∙ (ap (λ x. x || c) f ∙ g)
 
 good_length : (s : Sealing) (item : Item) → IsAdmissible s item → is_bad_length s (packet_length item) ≡ false
