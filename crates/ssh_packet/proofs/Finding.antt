@@ -1,12 +1,13 @@
 -- The packet that the code opens is the one that stands there.
 use Rattle.std.proofs.Common.{◌≡◌, ℕ, ◌+◌, ◌-◌, ◌<◌, ◌≤◌, Bool, true, false, nat_lt, ◌||◌, List, ◌++◌, length, take, drop, slice_index, refl, sym, ◌∙◌, ap, arith, length-drop}
+use Rattle.std.proofs.lemmas.Bool.{cond-false, cond-true}
 use Rattle.std.proofs.lemmas.Bool.Decides.{nat_tests}
 use Rattle.std.proofs.lemmas.Grind.{common_steps}
 use Rattle.std.proofs.lemmas.List.{take-append-le, drop-append-le, take-append-drop, length-take-le, drop-drop}
 use Rattle.std.proofs.lemmas.Slice.Eq.{bytes_eq-Decides}
 use Rattle.std.proofs.Math.Seq.{drop-append-add}
 use Rattle.std.specs.Str.{bytes_eq}
-use Rattle.ssh_packet.proofs.Fronts.{not_below, left_out, taken_in, length_stays}
+use Rattle.ssh_packet.proofs.Fronts.{not_below, length_stays}
 use Rattle.ssh_packet.specs.Errors.{open_error}
 use Rattle.ssh_packet.specs.Finding.{RefusesBy, IsBadLength, IsSizeOnly, StandsWhole, OpensPart}
 use Rattle.ssh_packet.specs.Front as front
@@ -25,7 +26,7 @@ at_most a b h = grind (arith, nat_tests)
 
 pub few : (s : Sealing) (number p : ℕ) (bytes : List ℕ) → p ≡ probe s → length bytes < p → front_of s number bytes ≡ Unfinished
 unfolding front_of
-few s number p bytes asked h = taken_in _ _ _ (below (length bytes) (probe s) (omega (arith, asked, h)))
+few s number p bytes asked h = cond-true _ _ _ (below (length bytes) (probe s) (omega (arith, asked, h)))
 
 -- the bytes that the reader asks for show the packet length
 length_shown : (s : Sealing) (bytes : List ℕ) → probe s ≤ length bytes → length_in s (take (probe s) bytes) ≡ length_in s bytes
@@ -38,14 +39,14 @@ unfolding front_of
 front_measured s number p n bytes asked h shown =
     let there : probe s ≤ length bytes = omega (arith, asked, h) in
     let size : n ≡ length_in s bytes = shown ∙ (ap (λ q. length_in s (take q bytes)) asked ∙ length_shown s bytes there) in
-    left_out _ _ _ (not_below (length bytes) (probe s) there) ∙ ap (λ k. measured s number k bytes) (sym size)
+    cond-false _ _ _ (not_below (length bytes) (probe s) there) ∙ ap (λ k. measured s number k bytes) (sym size)
 
 pub bad_length : (s : Sealing) (number n : ℕ) (bytes : List ℕ) → front_of s number bytes ≡ measured s number n bytes → is_bad_length s n ≡ true → RefusesBy (front_of s number bytes) (PacketSize n) × IsBadLength s (PacketSize n)
-bad_length s number n bytes there bad = ((front.PacketSize n, refl, there ∙ taken_in _ _ _ bad), (n, refl, bad))
+bad_length s number n bytes there bad = ((front.PacketSize n, refl, there ∙ cond-true _ _ _ bad), (n, refl, bad))
 
 pub less_than_whole : (s : Sealing) (number n t : ℕ) (bytes : List ℕ) → front_of s number bytes ≡ measured s number n bytes → is_bad_length s n ≡ false → t ≡ tag_size s → length bytes < 4 + n + t → front_of s number bytes ≡ Unfinished
 less_than_whole s number n t bytes there good tag h =
-    there ∙ (left_out _ _ _ good ∙ taken_in _ _ _ (below (length bytes) (4 + n + tag_size s) (omega (arith, tag, h))))
+    there ∙ (cond-false _ _ _ good ∙ cond-true _ _ _ (below (length bytes) (4 + n + tag_size s) (omega (arith, tag, h))))
 
 first_false : (a b : Bool) → (a || b) ≡ false → a ≡ false
 first_false true b h = h
@@ -56,7 +57,7 @@ short_of s n good = at_most longest_packet n (first_false (nat_lt longest_packet
 
 pub stands_whole : (s : Sealing) (number n t : ℕ) (bytes : List ℕ) → front_of s number bytes ≡ measured s number n bytes → is_bad_length s n ≡ false → t ≡ tag_size s → 4 + n + t ≤ length bytes → StandsWhole s number bytes n
 stands_whole s number n t bytes there good tag h = record {
-  front = there ∙ (left_out _ _ _ good ∙ left_out _ _ _ (not_below (length bytes) (4 + n + tag_size s) (omega (arith, tag, h))));
+  front = there ∙ (cond-false _ _ _ good ∙ cond-false _ _ _ (not_below (length bytes) (4 + n + tag_size s) (omega (arith, tag, h))));
   good = good;
   short = short_of s n good;
   there = omega (arith, tag, h);
@@ -65,13 +66,13 @@ stands_whole s number n t bytes there good tag h = record {
 -- ---- the tag
 
 pub wrong_tag : (s : Sealing) (number n : ℕ) (packet behind : List ℕ) → (take (tag_size s) behind ≡ tag_for s number packet → ⊥) → checked s number n packet behind ≡ Refused (tag_fault s)
-wrong_tag s number n packet behind other = left_out _ _ _ (by_test (bytes_eq (tag_for s number packet) (take (tag_size s) behind)) refl) where
+wrong_tag s number n packet behind other = cond-false _ _ _ (by_test (bytes_eq (tag_for s number packet) (take (tag_size s) behind)) refl) where
   by_test : (b : Bool) → bytes_eq (tag_for s number packet) (take (tag_size s) behind) ≡ b → bytes_eq (tag_for s number packet) (take (tag_size s) behind) ≡ false
   by_test true e = absurd (other (sym ((bytes_eq-Decides (tag_for s number packet) (take (tag_size s) behind)).0 e)))
   by_test false e = e
 
 pub right_tag : (s : Sealing) (number n : ℕ) (packet behind : List ℕ) → take (tag_size s) behind ≡ tag_for s number packet → checked s number n packet behind ≡ parted n (text_in s packet) (drop (tag_size s) behind)
-right_tag s number n packet behind same = taken_in _ _ _ ((bytes_eq-Decides (tag_for s number packet) (take (tag_size s) behind)).1 (sym same))
+right_tag s number n packet behind same = cond-true _ _ _ ((bytes_eq-Decides (tag_for s number packet) (take (tag_size s) behind)).1 (sym same))
 
 -- a wrong tag is no refusal of a size
 pub tag_no_size : (s : Sealing) (n : ℕ) (error : OpenError) → error ≡ open_error (tag_fault s) → IsSizeOnly n error
@@ -130,4 +131,4 @@ opens_part s front old packet behind n payload t tag there size rest fits found 
 pub parted_short : (n padding : ℕ) (text rest : List ℕ) → padding ≡ slice_index text 4 → padding ≤ n → n < padding + 2 → parted n text rest ≡ Refused (front.PacketSize n)
 parted_short n padding text rest at fits h =
     ap (λ p. parted_by p n (drop 5 text) rest) (sym at)
-    ∙ (left_out _ _ _ (not_below n padding fits) ∙ taken_in _ _ _ (below n (padding + 2) h))
+    ∙ (cond-false _ _ _ (not_below n padding fits) ∙ cond-true _ _ _ (below n (padding + 2) h))

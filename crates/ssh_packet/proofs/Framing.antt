@@ -1,7 +1,8 @@
 -- A packet's text in its place: the packet length and the padding's length before a payload, the padding behind it.
 use Rattle.std.proofs.Common.{◌≡◌, ℕ, ◌+◌, ◌-◌, ◌≤◌, List, [], ◌∷◌, ◌++◌, length, take, drop, slice_index, replicate, sym, ◌∙◌, ap, subst, arith, append-nil, append_assoc, length-append, length-drop}
 use Rattle.std.proofs.lemmas.Grind.{common_steps}
-use Rattle.std.proofs.lemmas.List.{length-take-le, drop-drop, drop-append-le, take-append-le}
+use Rattle.std.proofs.lemmas.List.{length-take-le, drop-drop, drop-append-le, take-append-le, take_rest}
+use Rattle.std.proofs.Math.ListN.{drop_of_length-le}
 use Rattle.std.proofs.Math.Seq.{take-append-add, take-append_seam, drop-append_seam}
 use Rattle.rand_core.specs.Stream.{Stream}
 use Rattle.ssh_wire.specs.Forms.{u32be}
@@ -9,13 +10,10 @@ use Rattle.ssh_aes.proofs.Running.{IsBytes-drop}
 use Rattle.ssh_packet.specs.Sealing.{Sealing, IsBytes, framed, framing, item_of, padding_length}
 use borrow.Rule.Slice.PartMut.{put_mid}
 
-pub none_left : (n : ℕ) (xs : List ℕ) → length xs ≤ n → drop n xs ≡ []
-none_left n xs h = grind (arith, common_steps)
-
 -- what was written from a place to the end
 pub put_behind : (a k : ℕ) (xs ys : List ℕ) → length xs ≤ a + k → put_mid a k xs ys ≡ take a xs ++ ys
 put_behind a k xs ys h =
-    let nothing : drop k (drop a xs) ≡ [] = none_left k (drop a xs) (omega (arith, h, length-drop a xs)) in
+    let nothing : drop k (drop a xs) ≡ [] = drop_of_length-le (drop a xs) (omega (arith, h, length-drop a xs)) in
     ap (λ t. take a xs ++ (ys ++ t)) nothing ∙ ap (λ t. take a xs ++ t) (append-nil ys)
 
 front_kept : (head rest : List ℕ) (n : ℕ) → length head ≡ 5 → 5 ≤ n → take n (head ++ rest) ≡ head ++ take (n - 5) rest
@@ -56,10 +54,6 @@ widened old items more total size made same sum =
     let zeros : total - size ≡ more = omega (arith, same, sum) in
     made ∙ (ap (λ t. t ++ replicate (total - size) 0) (all_of total old (omega (arith, sum))) ∙ ap (λ n. old ++ replicate n 0) zeros)
 
--- the part from a place on is all that is behind it
-rest_from : (now : List ℕ) (start : ℕ) → take (length now - start) (drop start now) ≡ drop start now
-rest_from now start = all_of (length now - start) (drop start now) (omega (arith, length-drop start now))
-
 payload_in : (old now zeros : List ℕ) (start n : ℕ) → now ≡ old ++ zeros → start + 5 ≤ length old → n ≡ length old - start - 5 → take n (drop 5 (drop start now)) ≡ drop (start + 5) old
 payload_in old now zeros start n there room size =
     let long : n ≡ length (drop (start + 5) old) = omega (arith, size, length-drop (start + 5) old) in
@@ -72,7 +66,7 @@ payload_behind : (old now zeros : List ℕ) (start padding tag : ℕ) → now �
 payload_behind old now zeros start padding tag there size room =
     let all : length now ≡ length old + length zeros = ap length there ∙ length-append old zeros in
     let part : length (drop start now) ≡ length old + padding + tag - start = omega (arith, all, size, length-drop start now) in
-    ap (λ p. take (length p - 5 - padding - tag) (drop 5 p)) (rest_from now start)
+    ap (λ p. take (length p - 5 - padding - tag) (drop 5 p)) (take_rest now start)
     ∙ payload_in old now zeros start (length (drop start now) - 5 - padding - tag) there room (omega (arith, part, room))
 
 pub packet_behind : (old now items packet zeros : List ℕ) (start size : ℕ) → now ≡ old ++ zeros → size ≡ length now → start ≤ length old → length packet ≡ length now - start → take size (put_mid start (length now - start) now packet ++ drop (length (put_mid start (length now - start) now packet)) items) ≡ take start old ++ packet
@@ -93,7 +87,7 @@ item_behind sealing old now zeros part start padding tag stream there size room 
     ∙ ap (λ n. framing sealing n (drop (start + 5) old) stream) (padded ∙ ap (λ p. padding_length sealing (length p)) same)
 
 pub part_behind : (old now : List ℕ) (n : ℕ) → now ≡ old → take (length now - n) (drop n now) ≡ drop n old
-part_behind old now n same = rest_from now n ∙ ap (drop n) same
+part_behind old now n same = take_rest now n ∙ ap (drop n) same
 
 -- what was written to the end is bytes where all is
 pub bytes_behind : (a : ℕ) (xs ys : List ℕ) → IsBytes (put_mid a (length xs - a) xs ys) → IsBytes ys

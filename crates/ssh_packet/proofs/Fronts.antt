@@ -1,5 +1,6 @@
 -- What a reader finds at the front: a packet that stands there, and the same when bytes come behind.
 use Rattle.std.proofs.Common.{◌≡◌, ℕ, ◌+◌, ◌-◌, ◌<◌, ◌≤◌, List, [], ◌++◌, length, take, drop, refl, sym, ◌∙◌, ap, subst, arith, Bool, true, false, if◌then◌else◌, ◌||◌, nat_lt, append_assoc, append-nil, length-append, length-drop}
+use Rattle.std.proofs.lemmas.Bool.{cond-false, cond-true}
 use Rattle.std.proofs.lemmas.Bool.Decides.{nat_tests}
 use Rattle.std.proofs.lemmas.List.{take-append-le, drop-append-le, take-append-drop}
 use Rattle.std.proofs.lemmas.Nat.{from_be_bytes-to_be_bytes_4}
@@ -19,13 +20,6 @@ use Rattle.ssh_packet.specs.Sealing.{Item, Sealing, Clear, Block, Gcm, framed, p
 
 pub not_below : (a b : ℕ) → b ≤ a → nat_lt a b ≡ false
 not_below a b h = grind (arith, nat_tests)
-
--- a choice whose test is known
-pub left_out : {A : Type 0} (b : Bool) (x y : A) → b ≡ false → (if b then x else y) ≡ y
-left_out b x y h = ap (λ t. if t then x else y) h
-
-pub taken_in : {A : Type 0} (b : Bool) (x y : A) → b ≡ true → (if b then x else y) ≡ x
-taken_in b x y h = ap (λ t. if t then x else y) h
 
 -- ---- a packet in its parts
 
@@ -167,8 +161,8 @@ parted_framed : (item : Item) (rest : List ℕ) → 0 < length item.payload → 
 unfolding framed
 parted_framed item rest h =
     let cut : packet_length item - 1 - length item.padding ≡ length item.payload = omega arith in
-    left_out (nat_lt (packet_length item) (length item.padding)) _ _ (not_below _ _ (omega arith))
-    ∙ (left_out (nat_lt (packet_length item) (length item.padding + 2)) _ _ (not_below _ _ (omega arith))
+    cond-false (nat_lt (packet_length item) (length item.padding)) _ _ (not_below _ _ (omega arith))
+    ∙ (cond-false (nat_lt (packet_length item) (length item.padding + 2)) _ _ (not_below _ _ (omega arith))
     ∙ (ap (λ n. Whole (record { payload = take n (item.payload ++ item.padding); padding = drop n (item.payload ++ item.padding) }) rest) cut
     ∙ whole_is item rest _ _ (take-append_seam item.payload item.padding) (drop-append_seam item.payload item.padding)))
 
@@ -215,7 +209,7 @@ checked_whole s number item rest h =
     let given : take (tag_size s) (tag ++ rest) ≡ tag = subst (λ n. take n (tag ++ rest) ≡ tag) (length_tag s number t) (take-append_seam tag rest) in
     let behind : drop (tag_size s) (tag ++ rest) ≡ rest = subst (λ n. drop n (tag ++ rest) ≡ rest) (length_tag s number t) (drop-append_seam tag rest) in
     let right = (bytes_eq-Decides (tag_for s number (body s t)) (take (tag_size s) (tag ++ rest))).1 (tag_back s number t bytes four ∙ sym given) in
-    taken_in _ _ _ right
+    cond-true _ _ _ right
     ∙ (ap (λ u. parted (packet_length item) u (drop (tag_size s) (tag ++ rest))) (text_back s t bytes four)
     ∙ (ap (parted (packet_length item) t) behind ∙ parted_framed item rest h.payload))
 
@@ -227,7 +221,7 @@ opened_whole s number item rest h =
     let all = length_behind s number item rest in
     let front : take (4 + packet_length item) (b ++ x) ≡ b = subst (λ n. take n (b ++ x) ≡ b) size (take-append_seam b x) in
     let behind : drop (4 + packet_length item) (b ++ x) ≡ x = subst (λ n. drop n (b ++ x) ≡ x) size (drop-append_seam b x) in
-    left_out (nat_lt (length (b ++ x)) (4 + packet_length item + tag_size s)) _ _ (not_below _ _ (omega (arith, all)))
+    cond-false (nat_lt (length (b ++ x)) (4 + packet_length item + tag_size s)) _ _ (not_below _ _ (omega (arith, all)))
     ∙ (ap (λ p. checked s number (packet_length item) p (drop (4 + packet_length item) (b ++ x))) front
     ∙ (ap (checked s number (packet_length item) b) behind ∙ checked_whole s number item rest h))
 
@@ -237,9 +231,9 @@ front_of_parts s number item rest h =
     let w = body s (framed item) ++ (tag_made s number (framed item) ++ rest) in
     let all = length_behind s number item rest in
     let probe_fits = h.probed in
-    left_out (nat_lt (length w) (probe s)) _ _ (not_below _ _ (omega (arith, all, probe_fits)))
+    cond-false (nat_lt (length w) (probe s)) _ _ (not_below _ _ (omega (arith, all, probe_fits)))
     ∙ (ap (λ n. measured s number n w) (shown_at s number item rest h)
-    ∙ (left_out (is_bad_length s (packet_length item)) _ _ (good_length s item h) ∙ opened_whole s number item rest h))
+    ∙ (cond-false (is_bad_length s (packet_length item)) _ _ (good_length s item h) ∙ opened_whole s number item rest h))
 
 pub front_whole : (s : Sealing) (number : ℕ) (item : Item) (rest : List ℕ) → IsAdmissible s item → front_of s number (sealed s number item ++ rest) ≡ Whole item rest
 front_whole s number item rest h =
@@ -270,7 +264,7 @@ short_or_stays a b limit y y' more h k = by_test (nat_lt a limit) refl where
   by_test false e =
       let above : limit ≤ a = grind (arith, nat_tests) in
       let P : Front → Type 0 = λ f. Stays y f more in
-      subst P (sym (left_out (nat_lt b limit) Unfinished y' (not_below b limit (omega arith)))) (k above)
+      subst P (sym (cond-false (nat_lt b limit) Unfinished y' (not_below b limit (omega arith)))) (k above)
 
 checked_stays : (s : Sealing) (number n : ℕ) (packet behind more : List ℕ) → tag_size s ≤ length behind → Stays (checked s number n packet behind) (checked s number n packet (behind ++ more)) more
 checked_stays s number n packet behind more h =

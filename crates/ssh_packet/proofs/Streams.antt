@@ -25,26 +25,6 @@ reads_more at [] x y w h = ap (λ t. t ++ w) h
 reads_more None (i ∷ a) x y w h = absurd h
 reads_more (Some at) (i ∷ a) x y w h = (h.0 ++ w, h.1, ap (λ t. t ++ w) h.2 ∙ append_assoc (bytes_at at i) h.0 w, reads_more (place_after at i) a h.0 y w h.3)
 
--- two readings from one place are one
-pub one_reading : (at : Option Place) (a b : List Item) (bytes x y : List ℕ) → Reads at a bytes x → Reads at b bytes y → IsEnd (place_behind at a) x → IsEnd (place_behind at b) y → (a ≡ b) × (x ≡ y)
-one_reading at [] [] bytes x y h k e f = (refl, sym h ∙ k)
-one_reading None (i ∷ a) b bytes x y h k e f = absurd h
-one_reading None [] (j ∷ b) bytes x y h k e f = absurd k
-one_reading (Some at) [] (j ∷ b) bytes x y h k e f = absurd (e j k.0 k.1 (sym h ∙ k.2))
-one_reading (Some at) (i ∷ a) [] bytes x y h k e f = absurd (f i h.0 h.1 (sym k ∙ h.2))
-one_reading (Some at) (i ∷ a) (j ∷ b) bytes x y h k e f =
-    let one = one_packet at.sealing at.number i j h.0 k.0 h.1 k.1 (sym h.2 ∙ k.2) in
-    let same : Reads (place_after at i) b h.0 y = subst (λ (q : Item × List ℕ). Reads (place_after at q.0) b q.1 y) (pair_alike _ _ _ _ (sym one.0) (sym one.1)) k.3 in
-    let ends : IsEnd (place_behind (place_after at i) b) y = subst (λ q. IsEnd (place_behind (place_after at q) b) y) (sym one.0) f in
-    let rest = one_reading (place_after at i) a b h.0 x y h.3 same e ends in
-    (cons_alike i j a b one.0 rest.0, rest.1)
-  where
-    pair_alike : (p q : Item) (r s : List ℕ) → p ≡ q → r ≡ s → (let t : Item × List ℕ = (p, r) in t) ≡ (q, s)
-    pair_alike p q r s e f = cc
-
-    cons_alike : (p q : Item) (r s : List Item) → p ≡ q → r ≡ s → p ∷ r ≡ q ∷ s
-    cons_alike p q r s e f = cc
-
 first_alike : (a b : Opening) (m n : ℕ) → a ≡ b → m ≡ n → kept_number a.strict m ≡ kept_number b.strict n
 first_alike a b m n e f = ap (λ (o : Opening). kept_number o.strict m) e ∙ ap (kept_number b.strict) f
 
@@ -69,23 +49,6 @@ nothing_read p i more y e =
     let n : bytes_at p i ≡ [] = nil_of_append (bytes_at p i) more (nil_of_append (bytes_at p i ++ more) y e) in
     let l : length (bytes_at p i) ≡ 0 = ap length n in
     omega (arith, l, length_sealed p.sealing p.number i)
-
--- What a reader takes off an honest carrier is what was written, through the epochs whose openings are known to agree.
-pub read_same : (left : Option ℕ) (p q : Option Place) (a b : List Item) (fed rest wire y : List ℕ) → PlacesAgree left p q → Reads p a fed rest → Reads q b wire [] → fed ++ y ≡ wire → SameFor left a b
-read_same None p q a b fed rest wire y h r w e = tt
-read_same (Some k) p q [] b fed rest wire y h r w e = tt
-read_same (Some k) None q (i ∷ a) b fed rest wire y h r w e = absurd r
-read_same (Some k) (Some p) q (i ∷ a) [] fed rest wire y h r w e = absurd (nothing_read p i r.0 y (ap (λ t. t ++ y) (sym r.2) ∙ (e ∙ w)))
-read_same (Some k) (Some p) None (i ∷ a) (j ∷ b) fed rest wire y h r w e = absurd w
-read_same (Some k) (Some p) (Some q) (i ∷ a) (j ∷ b) fed rest wire y h r w e =
-    let there : bytes_at q j ≡ bytes_at p j = ap (λ s. sealed s q.number j) (sym h.sealing) ∙ ap (λ n. sealed p.sealing n j) (sym h.number) in
-    let joined : bytes_at p i ++ (r.0 ++ y) ≡ bytes_at p j ++ w.0 =
-    sym (append_assoc (bytes_at p i) r.0 y) ∙ (ap (λ t. t ++ y) (sym r.2) ∙ (e ∙ (w.2 ∙ ap (λ t. t ++ w.0) there))) in
-    let admitted : IsAdmissible p.sealing j = subst (λ s. IsAdmissible s j) (sym h.sealing) w.1 in
-    let one = one_packet p.sealing p.number i j (r.0 ++ y) w.0 r.1 admitted joined in
-    let agree = agree_after k p q i h in
-    let onward : Reads (place_after q i) b w.0 [] = subst (λ t. Reads (place_after q t) b w.0 []) (sym one.0) w.3 in
-    (one.0, read_same (used (is_newkeys i) k) (place_after p i) (place_after q i) a b r.0 rest w.0 y agree r.3 onward one.1)
 
 item_and_rest : (p q : Item) (r s : List ℕ) → p ≡ q → r ≡ s → (let t : Item × List ℕ = (p, r) in t) ≡ (q, s)
 item_and_rest p q r s e f = cc

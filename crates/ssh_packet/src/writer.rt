@@ -139,15 +139,14 @@ impl PacketWriter {
         self.seal_payload(rng, start)
     }
 
-    /// Appends one packet of what the closure appends to the empty vector that it is handed, and answers
+    /// Appends one packet of what the closure leaves in the empty vector that it is handed, and answers
     /// the payload. The closure's own error, and else as `packet_raw`. A refusal leaves the writer as it was.
     pub fn packet<R: Rng, F: FnOnce(&mut Vec<u8>) -> Result<(), Error>>(
         &mut self,
         rng: &mut R,
         f: F,
     ) -> Result<Bytes, Error>
-        requires callable { F.IsAlwaysCallable f }
-        requires appends { OnlyAppends (FnOnceReturnsAtMut F.FnOnce f) }
+        requires { F.IsAlwaysCallable f }
         ensures { SealsWith (AppendsPayload (FnOnceReturnsAtMut F.FnOnce f) []) (λ payload. payload)
             self.old (R.stream rng.old) (R.stream rng.new) result self.new }
     {
