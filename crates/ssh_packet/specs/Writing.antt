@@ -75,7 +75,7 @@ pub record Seals {T : Type 0} (old : Writer) (payload : List ℕ) (before after 
   pub too_long : longest_payload < length payload → result ≡ Err (PacketSize (length payload))
   pub undrawn : longest_payload < length payload → after ≡ before
 
--- refused so, and nothing else happened
+-- the error is the answer, and writer and generator are as they were
 pub record IsRefused {T : Type 0} (old : Writer) (before after : Stream) (error : Error) (result : Result T Error) (new : Writer) : Type 0 where
   pub answer : result ≡ Err error
   pub unchanged : SameButRoom old new

@@ -1,6 +1,7 @@
 //! Clear packets sealed and opened, by rows worked out from RFC 4253 section 6, each call that takes
 //! memory, and each kind of key by packets of a real peer.
 
+mod keyed;
 mod names;
 mod peers;
 

@@ -296,6 +296,7 @@ impl PacketWriter {
         ensures len { result.now.len ≡ self.old.len }
         ensures count { result.now.count ≡ self.old.count }
         ensures number { result.now.number ≡ self.old.number }
+        ensures room { result.now.room ≡ self.old.room }
     {
         &mut self.buffer
     }
