@@ -77,7 +77,13 @@ fn main(rt: HostRuntime) -> io::Result<()> {
     };
     let length = length.as_str().parse::<usize>().unwrap_or(0);
     let count = count.as_str().parse::<u32>().unwrap_or(0);
-    match run(rt.alloc(), keys(cipher, mac), how.as_str() == "open", length, count) {
+    match run(
+        rt.alloc(),
+        keys(cipher, mac),
+        how.as_str() == "open",
+        length,
+        count,
+    ) {
         Ok(bytes) => println!(rt; "{bytes}")?,
         Err(error) => println!(rt; "{error}")?,
     }
