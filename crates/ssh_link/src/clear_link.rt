@@ -14,7 +14,7 @@ use std::alloc::Global;
 use std::mem;
 
 /// One side of a clear link.
-#[derive(Drop)]
+#[derive(Debug, Drop)]
 pub struct ClearEnd {
     pub writer: PacketWriter,
     pub receiver: Receiver,
@@ -83,7 +83,7 @@ impl ClearEnd {
 }
 
 /// Both sides.
-#[derive(Drop)]
+#[derive(Debug, Drop)]
 pub struct ClearLink {
     pub client: ClearEnd,
     pub server: ClearEnd,

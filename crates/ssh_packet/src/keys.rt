@@ -12,6 +12,7 @@ use rand_core::Rng;
 use ssh_aes::{CbcWrapper, CtrWrapper};
 use ssh_mac::mac;
 use ssh_mac::mac::MacKey;
+use std::fmt;
 
 /// What a writer seals under.
 #[derive(Drop)]
@@ -32,10 +33,34 @@ pub enum OpenKey {
 }
 
 /// The keys of one end: what it seals under and what it opens with.
-#[derive(Drop)]
+#[derive(Debug, Drop)]
 pub struct CipherPair {
     pub local_to_remote: SealKey,
     pub remote_to_local: OpenKey,
+}
+
+/// Shows the kind alone, and no byte of a key.
+impl fmt::Debug for SealKey {
+    fn fmt<W: fmt::Write>(&self, f: &mut fmt::Formatter<W>) -> fmt::Result {
+        f.write_str(match self {
+            SealKey::Clear(_) => "Clear",
+            SealKey::Ctr(_) => "Ctr",
+            SealKey::Cbc(_) => "Cbc",
+            SealKey::Gcm(_) => "Gcm",
+        })
+    }
+}
+
+/// Shows the kind alone, and no byte of a key.
+impl fmt::Debug for OpenKey {
+    fn fmt<W: fmt::Write>(&self, f: &mut fmt::Formatter<W>) -> fmt::Result {
+        f.write_str(match self {
+            OpenKey::Clear(_) => "Clear",
+            OpenKey::Ctr(_) => "Ctr",
+            OpenKey::Cbc(_) => "Cbc",
+            OpenKey::Gcm(_) => "Gcm",
+        })
+    }
 }
 
 impl SealingKey for SealKey {

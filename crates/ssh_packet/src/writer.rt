@@ -33,7 +33,7 @@ const LONGEST_PADDING: usize = 19;
 const ROOM_BESIDE: usize = 37;
 
 /// Seals payloads one after the other, behind what its buffer holds.
-#[derive(Drop)]
+#[derive(Debug, Drop)]
 pub struct PacketWriter {
     buffer: SSHBuffer,
     cipher: SealKey,

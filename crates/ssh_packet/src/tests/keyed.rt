@@ -73,16 +73,22 @@ fn changed_packets_refused(rt: HostRuntime) -> Result<(), Fail> {
     Ok(())
 }
 
-/// The longest payload, by a closure, in Galois counter mode: the packet length stands in clear.
+/// Writes a packet of so many letters, by a closure.
+fn write_letters(writer: &mut PacketWriter, rng: &mut Counter, count: usize) -> Result<(), Error> {
+    writer.write_packet(rng, |out| {
+        let end = out.len().saturating_add(count);
+        Ok(out.resize(end, 97)?)
+    })
+}
+
+/// The longest payload, by a closure, in Galois counter mode: the packet length stands in clear. One byte more is
+/// refused.
 #[test]
 fn longest_payload_under_a_key(rt: HostRuntime) -> Result<(), Fail> {
     let mut rng = Counter(0);
     let keys = keys(cipher::AES_128_GCM, mac::NONE);
     let mut writer = PacketWriter::new(keys.local_to_remote, Compress::None, rt.alloc());
-    writer.write_packet(&mut rng, |out| {
-        let end = out.len().saturating_add(262157);
-        Ok(out.resize(end, 97)?)
-    })?;
+    write_letters(&mut writer, &mut rng, 262157)?;
     assert_eq!(rt;
         writer.output().get(..4),
         Some(b"\x00\x04\x00\x20".as_slice())
@@ -93,6 +99,37 @@ fn longest_payload_under_a_key(rt: HostRuntime) -> Result<(), Fail> {
     let mut key = keys.remote_to_local;
     let found = reader.next(&mut key)?;
     assert_eq!(rt; found.map(|incoming| incoming.payload.len()), Some(262157));
+    let longer = write_letters(&mut writer, &mut rng, 262158);
+    assert!(rt; matches!(longer, Err(Error::PacketSize(262158))));
+    assert_eq!(rt; writer.output().len(), 262196);
+    Ok(())
+}
+
+/// What `Debug` shows of keys is their kind.
+#[test]
+fn keys_not_shown(rt: HostRuntime) -> Result<(), Fail> {
+    let rows = [
+        (
+            cipher::NONE,
+            "CipherPair { local_to_remote: Clear, remote_to_local: Clear }",
+        ),
+        (
+            cipher::AES_128_CTR,
+            "CipherPair { local_to_remote: Ctr, remote_to_local: Ctr }",
+        ),
+        (
+            cipher::AES_192_CBC,
+            "CipherPair { local_to_remote: Cbc, remote_to_local: Cbc }",
+        ),
+        (
+            cipher::AES_256_GCM,
+            "CipherPair { local_to_remote: Gcm, remote_to_local: Gcm }",
+        ),
+    ];
+    for (cipher, wanted) in rows {
+        let shown = format!(in rt.alloc(); "{:?}", keys(cipher, mac::HMAC_SHA1))?;
+        assert_eq!(rt; shown.as_str(), wanted);
+    }
     Ok(())
 }
 
