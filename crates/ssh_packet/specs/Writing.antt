@@ -93,6 +93,10 @@ SealsWith Leaves answer_of old before after result new =
     IsRefused old before after Memory result new
     ⊎ ((answer : Result (Unit {0}) Error) × (payload : List ℕ) × Leaves answer payload × Follows answer payload old before after result new × IfOk result (λ x. x ≡ answer_of payload))
 
+-- the room before a payload, for packet length and padding length
+abbrev pub head_room : List ℕ
+head_room = 0 ∷ 0 ∷ 0 ∷ 0 ∷ 0 ∷ []
+
 -- what a closure may do: from the first vector to the second, with an answer
 abbrev pub Runs : Type 1
 Runs = Vec ℕ → Result (Unit {0}) Error → Vec ℕ → Type 0

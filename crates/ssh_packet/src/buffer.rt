@@ -29,7 +29,13 @@ impl Model for SSHBuffer {
 
     ghost Value = { Written };
 
-    ghost view = { λ b. record { output = b.buffer.items; len = b.len; count = b.bytes; number = b.seqn; room = vec_capacity b.buffer - vec_len b.buffer } };
+    ghost view = { λ b. record {
+      output = b.buffer.items;
+      len = b.len;
+      count = b.bytes;
+      number = b.seqn;
+      room = vec_capacity b.buffer - vec_len b.buffer;
+    } };
 }
 
 impl SSHBuffer {

@@ -1,8 +1,10 @@
 //! Sealing in place, under any key.
 
-ghost use Rattle.std.specs.Prelude.{◌≡◌, ◌+◌, ◌-◌, ◌<◌, ◌≤◌, ◌++◌, length, take, drop, OnOk, OnErr, IfErr, IsOk, vec_len, vec_capacity};
+ghost use Rattle.std.specs.Prelude.{◌≡◌, ◌+◌, ◌-◌, ◌<◌, ◌≤◌, ◌++◌, length, take, drop};
+ghost use Rattle.std.specs.Prelude.{OnOk, OnErr, IfErr, IsOk, vec_len, vec_capacity};
 ghost use Rattle.ssh_wire.specs.declared.error.Error.TheVariants.{Memory};
-ghost use Rattle.ssh_packet.specs.Sealing.{IsAdmissible, IsBytes, framed, sealed, moved_on, item_of, padding_from, filling, framing, tag_size, longest_payload};
+ghost use Rattle.ssh_packet.specs.Sealing.{IsAdmissible, IsBytes, framed, sealed, moved_on, item_of};
+ghost use Rattle.ssh_packet.specs.Sealing.{padding_from, filling, framing, tag_size, longest_payload};
 
 use crate::cipher::SealingKey;
 use crate::front::HEAD;
@@ -14,7 +16,10 @@ fn frame<K: SealingKey, R: Rng>(text: &mut [u8], padding: usize, key: &K, rng: &
     requires room { 5 + padding ≤ length text.old }
     requires short { length text.old ≤ 262181 }
     requires byte { padding < 256 }
-    ensures text { text.new ≡ framed (record { payload = take (length text.old - 5 - padding) (drop 5 text.old); padding = (filling (K.sealing key.now) padding (R.stream rng.old)).0 }) }
+    ensures text { text.new ≡ framed (record {
+      payload = take (length text.old - 5 - padding) (drop 5 text.old);
+      padding = (filling (K.sealing key.now) padding (R.stream rng.old)).0;
+    }) }
     ensures stream { R.stream rng.new ≡ (filling (K.sealing key.now) padding (R.stream rng.old)).1 }
     ensures size { length (filling (K.sealing key.now) padding (R.stream rng.old)).0 ≡ padding }
     ensures bytes { IsBytes (filling (K.sealing key.now) padding (R.stream rng.old)).0 }
@@ -38,8 +43,10 @@ fn seal_in_place<K: SealingKey, R: Rng>(
     requires short { length packet.old ≤ 262181 + tag_len }
     requires byte { padding < 256 }
     requires tag { tag_len ≡ tag_size (K.sealing key.old) }
-    ensures packet { packet.new ≡ sealed (K.sealing key.old) seqn (framing (K.sealing key.old) padding (take (length packet.old - 5 - padding - tag_len) (drop 5 packet.old)) (R.stream rng.old)) }
-    ensures moved { K.sealing key.new ≡ moved_on (K.sealing key.old) (framing (K.sealing key.old) padding (take (length packet.old - 5 - padding - tag_len) (drop 5 packet.old)) (R.stream rng.old)) }
+    ensures packet { packet.new ≡ sealed (K.sealing key.old) seqn (framing (K.sealing key.old) padding
+        (take (length packet.old - 5 - padding - tag_len) (drop 5 packet.old)) (R.stream rng.old)) }
+    ensures moved { K.sealing key.new ≡ moved_on (K.sealing key.old) (framing (K.sealing key.old) padding
+        (take (length packet.old - 5 - padding - tag_len) (drop 5 packet.old)) (R.stream rng.old)) }
     ensures stream { R.stream rng.new ≡ (filling (K.sealing key.old) padding (R.stream rng.old)).1 }
     ensures size { length (filling (K.sealing key.old) padding (R.stream rng.old)).0 ≡ padding }
     ensures bytes { IsBytes (filling (K.sealing key.old) padding (R.stream rng.old)).0 }

@@ -1,6 +1,6 @@
 //! Sealing payloads into packets.
 
-ghost use Rattle.std.specs.Prelude.{◌≡◌, ◌⊎◌, ◌+◌, ◌^◌, ◌<◌, ◌≤◌, ◌++◌, ◌∷◌, [], ℕ, List, length, take, drop};
+ghost use Rattle.std.specs.Prelude.{◌≡◌, ◌⊎◌, ◌+◌, ◌^◌, ◌<◌, ◌≤◌, ◌++◌, [], ℕ, List, length, take, drop};
 ghost use Rattle.std.specs.Prelude.{IsOk, OnOk, IfOk, OnErr, IfErr, Err, vec_len, vec_capacity};
 ghost use Rattle.std.specs.Borrow.{sem};
 ghost use Rattle.std.specs.Fn.{FnOnceReturnsAtMut};
@@ -8,7 +8,7 @@ ghost use Rattle.ssh_wire.specs.Outside.{Rose};
 ghost use Rattle.ssh_wire.specs.declared.error.Error.TheVariants.{PacketSize, Memory, IO};
 ghost use Rattle.ssh_packet.specs.Sealing.{Clear, IsAdmissible, item_of, stream_after, tag_size, longest_payload};
 ghost use Rattle.ssh_packet.specs.Writing.{AppendsPayload, Flushes, IsSizeOrMemory, OnlyAppends, SameButRoom};
-ghost use Rattle.ssh_packet.specs.Writing.{Seals, SealsWith, Sends, room_for};
+ghost use Rattle.ssh_packet.specs.Writing.{Seals, SealsWith, Sends, head_room, room_for};
 
 use crate::buffer::{PacketBytesWriter, SSHBuffer, drop_front, write_out};
 use crate::cipher::SealingKey;
@@ -46,7 +46,14 @@ impl Model for PacketWriter {
 
     ghost Value = { Writer };
 
-    ghost view = { λ w. record { output = w.buffer.output; len = w.buffer.len; count = w.buffer.count; number = w.buffer.number; sealing = sealing_of w.cipher; room = w.buffer.room } };
+    ghost view = { λ w. record {
+      output = w.buffer.output;
+      len = w.buffer.len;
+      count = w.buffer.count;
+      number = w.buffer.number;
+      sealing = sealing_of w.cipher;
+      room = w.buffer.room;
+    } };
 }
 
 impl PacketWriter {
@@ -122,7 +129,7 @@ impl PacketWriter {
     ) -> Result<(), Error>
         requires callable { F.IsAlwaysCallable f }
         requires appends { OnlyAppends (FnOnceReturnsAtMut F.FnOnce f) }
-        ensures { SealsWith (AppendsPayload (FnOnceReturnsAtMut F.FnOnce f) (self.old.output ++ 0 ∷ 0 ∷ 0 ∷ 0 ∷ 0 ∷ [])) (λ _. tt)
+        ensures { SealsWith (AppendsPayload (FnOnceReturnsAtMut F.FnOnce f) (self.old.output ++ head_room)) (λ _. tt)
             self.old (R.stream rng.old) (R.stream rng.new) result self.new }
     {
         let start = self.buffer.buffer.len();
@@ -306,7 +313,7 @@ impl PacketWriter {
 fn append_behind_room(out: &mut Vec<u8>, payload: &[u8], tag_len: usize) -> Result<(), Error>
     requires short { length payload.now ≤ longest_payload }
     requires tag { tag_len ≤ 64 }
-    ensures ok { OnOk result (out.new.items ≡ (out.old.items ++ 0 ∷ 0 ∷ 0 ∷ 0 ∷ 0 ∷ []) ++ payload.now) }
+    ensures ok { OnOk result (out.new.items ≡ (out.old.items ++ head_room) ++ payload.now) }
     ensures unchanged { OnErr result (out.new.items ≡ out.old.items) }
     ensures err { IfErr result (λ e. e ≡ Memory) }
     ensures ready { vec_len out.old + 5 + length payload.now + 19 + tag_len ≤ vec_capacity out.old → IsOk result }
@@ -326,11 +333,13 @@ fn append_with<F: FnOnce(&mut Vec<u8>) -> Result<(), Error>>(
 ) -> Result<(), Error>
     requires callable { F.IsAlwaysCallable f }
     requires appends { OnlyAppends (FnOnceReturnsAtMut F.FnOnce f) }
-    ensures ok { OnOk result ((payload : List ℕ) × AppendsPayload (FnOnceReturnsAtMut F.FnOnce f) (out.old.items ++ 0 ∷ 0 ∷ 0 ∷ 0 ∷ 0 ∷ []) result payload
-        × (out.new.items ≡ (out.old.items ++ 0 ∷ 0 ∷ 0 ∷ 0 ∷ 0 ∷ []) ++ payload)) }
+    ensures ok { OnOk result ((payload : List ℕ)
+        × AppendsPayload (FnOnceReturnsAtMut F.FnOnce f) (out.old.items ++ head_room) result payload
+        × (out.new.items ≡ (out.old.items ++ head_room) ++ payload)) }
     ensures unchanged { OnErr result (out.new.items ≡ out.old.items) }
     ensures err { IfErr result (λ e. (e ≡ Memory)
-        ⊎ ((payload : List ℕ) × AppendsPayload (FnOnceReturnsAtMut F.FnOnce f) (out.old.items ++ 0 ∷ 0 ∷ 0 ∷ 0 ∷ 0 ∷ []) (Err e) payload)) }
+        ⊎ ((payload : List ℕ)
+        × AppendsPayload (FnOnceReturnsAtMut F.FnOnce f) (out.old.items ++ head_room) (Err e) payload)) }
 {
     let start = out.len();
     out.extend_from_slice(&[0; HEAD])?;
