@@ -1,5 +1,5 @@
 -- The packet that the code opens is the one that stands there.
-use Rattle.std.proofs.Common.{◌≡◌, ℕ, ◌+◌, ◌-◌, ◌<◌, ◌≤◌, Bool, true, false, nat_lt, ◌||◌, List, ◌++◌, length, take, drop, slice_index, refl, sym, ◌∙◌, ap, arith, length-drop}
+use Rattle.std.proofs.Common.{◌≡◌, ℕ, ◌+◌, ◌-◌, ◌<◌, ◌≤◌, Bool, true, false, nat_lt, ◌||◌, List, ◌++◌, length, take, drop, slice_index, refl, sym, ◌∙◌, ap, subst, arith, inl, inr, if◌then◌else◌, length-drop}
 use Rattle.std.proofs.lemmas.Bool.{cond-false, cond-true}
 use Rattle.std.proofs.lemmas.Bool.Decides.{nat_tests}
 use Rattle.std.proofs.lemmas.Grind.{common_steps}
@@ -11,16 +11,18 @@ use Rattle.ssh_packet.proofs.Fronts.{not_below, length_stays}
 use Rattle.ssh_packet.specs.Errors.{open_error}
 use Rattle.ssh_packet.specs.Finding.{RefusesBy, IsBadLength, IsSizeOnly, StandsWhole, OpensPart}
 use Rattle.ssh_packet.specs.Front as front
-use Rattle.ssh_packet.specs.Front.{Front, Whole, Unfinished, Refused, front_of, length_in, is_bad_length, measured, opened, checked, parted, parted_by, text_in, tag_for, tag_fault, opened_past, packet_of, key_behind}
-use Rattle.ssh_packet.specs.Sealing.{Sealing, Clear, Block, Gcm, probe, tag_size, longest_packet}
+use Rattle.ssh_packet.specs.Front.{Front, Whole, Unfinished, Refused, front_of, length_in, is_bad_length, measured, opened, checked, parted, parted_by, text_in, tag_for, tag_fault, opened_past, packet_of, key_behind, refused_past, RunsOn}
+use Rattle.ssh_aes.specs.Modes.{Running, passed}
+use Rattle.ssh_mac.specs.Tags.{MacOf, is_encrypt_then_mac}
+use Rattle.ssh_packet.specs.Sealing.{Sealing, Clear, Block, Gcm, hidden, probe, tag_size, longest_packet}
 use Rattle.ssh_packet.specs.declared.error.OpenError.{OpenError}
 use Rattle.ssh_packet.specs.declared.error.OpenError.TheVariants.{PacketSize, PacketAuth, DecryptionError}
 
 below : (a b : ℕ) → a < b → nat_lt a b ≡ true
 below a b h = grind (arith, nat_tests)
 
-at_most : (a b : ℕ) → nat_lt a b ≡ false → b ≤ a
-at_most a b h = grind (arith, nat_tests)
+pub at_least : (a b : ℕ) → nat_lt a b ≡ false → b ≤ a
+at_least a b h = grind (arith, nat_tests)
 
 -- ---- the packet length
 
@@ -53,7 +55,7 @@ first_false true b h = h
 first_false false b h = refl
 
 short_of : (s : Sealing) (n : ℕ) → is_bad_length s n ≡ false → n ≤ longest_packet
-short_of s n good = at_most longest_packet n (first_false (nat_lt longest_packet n) _ good)
+short_of s n good = at_least longest_packet n (first_false (nat_lt longest_packet n) _ good)
 
 pub stands_whole : (s : Sealing) (number n t : ℕ) (bytes : List ℕ) → front_of s number bytes ≡ measured s number n bytes → is_bad_length s n ≡ false → t ≡ tag_size s → 4 + n + t ≤ length bytes → StandsWhole s number bytes n
 stands_whole s number n t bytes there good tag h = record {
@@ -86,6 +88,16 @@ wrong_tag_refused s number n t error packet rest old front behind tag cause othe
       (tag_fault s, cause, wrong_tag s number n (take (4 + n) old) (drop (4 + n) old) wrong),
       tag_no_size s n error cause,
     )
+
+-- behind a wrong tag the key is as it was, or has run on past the packet
+run_past : (etm : Bool) (running : Running) (mac : MacOf) (bytes packet : List ℕ) (k : ℕ) → is_encrypt_then_mac mac ≡ etm → packet ≡ take k bytes → RunsOn (Block running mac) bytes (if etm then Block running mac else Block (passed running packet) mac)
+run_past true running mac bytes packet k e at = inl refl
+run_past false running mac bytes packet k e at = inr (k, ap (λ p. Block (passed running p) mac) at ∙ ap (λ b. Block (passed running (hidden b (take k bytes))) mac) (sym e))
+
+pub refused_runs : (s : Sealing) (bytes packet : List ℕ) (k : ℕ) (s' : Sealing) → packet ≡ take k bytes → s' ≡ refused_past s packet → RunsOn s bytes s'
+refused_runs Clear bytes packet k s' at h = inl h
+refused_runs (Block running mac) bytes packet k s' at h = subst (RunsOn (Block running mac) bytes) (sym h) (run_past (is_encrypt_then_mac mac) running mac bytes packet k refl at)
+refused_runs (Gcm key nonce) bytes packet k s' at h = inl h
 
 -- behind its own tag, what is found is the text taken apart
 pub opened_text : (s : Sealing) (number n t : ℕ) (packet text rest old : List ℕ) → packet ≡ take (4 + n) old → rest ≡ drop (4 + n) old → t ≡ tag_size s → take t rest ≡ tag_for s number packet → text ≡ text_in s packet → checked s number n (take (4 + n) old) (drop (4 + n) old) ≡ parted n text (drop (tag_size s) rest)

@@ -4,7 +4,7 @@ use Rattle.std.proofs.lemmas.Grind.{common_steps}
 use Rattle.std.proofs.lemmas.List.{drop-drop}
 use Rattle.ssh_packet.specs.Errors.{open_error}
 use Rattle.ssh_packet.specs.Finding.{RefusesBy, IsBadLength, OpensPart}
-use Rattle.ssh_packet.specs.Front.{Fault, PacketSize, PacketAuth, DecryptionError, IndexOutOfBounds, Whole, Refused, front_of, key_behind}
+use Rattle.ssh_packet.specs.Front.{Fault, PacketSize, PacketAuth, DecryptionError, IndexOutOfBounds, Whole, Refused, front_of, key_behind, RunsOn}
 use Rattle.ssh_packet.specs.Lending.{Refuses, IsOver, EndsAt}
 use Rattle.ssh_packet.specs.Reading.{Reader}
 use Rattle.ssh_packet.specs.Sealing.{Sealing}
@@ -41,16 +41,16 @@ refused_by old key PacketAuth live e = (live, e)
 refused_by old key DecryptionError live e = (live, e)
 refused_by old key IndexOutOfBounds live e = (live, e)
 
-ended_by : (old new : Reader) (key key' : Sealing) (fault : Fault) → IsOver old new → (IsBadLength key (open_error fault) → (new ≡ record old { failed = true }) × (key' ≡ key)) → EndsAt old key key' (open_error fault) new
-ended_by old new key key' (PacketSize n) over bad = (over, λ h. bad (n, refl, h))
-ended_by old new key key' PacketAuth over bad = over
-ended_by old new key key' DecryptionError over bad = over
-ended_by old new key key' IndexOutOfBounds over bad = over
+ended_by : (old new : Reader) (key key' : Sealing) (fault : Fault) → IsOver old new → RunsOn key old.waiting key' → (IsBadLength key (open_error fault) → (new ≡ record old { failed = true }) × (key' ≡ key)) → EndsAt old key key' (open_error fault) new
+ended_by old new key key' (PacketSize n) over runs bad = (over, runs, λ h. bad (n, refl, h))
+ended_by old new key key' PacketAuth over runs bad = (over, runs)
+ended_by old new key key' DecryptionError over runs bad = (over, runs)
+ended_by old new key key' IndexOutOfBounds over runs bad = (over, runs)
 
 -- what is refused at the front is the end of the reader
-pub ends_at : (old new : Reader) (key key' : Sealing) (error : OpenError) → old.failed ≡ false → RefusesBy (front_of key old.number old.waiting) error → IsOver old new → (IsBadLength key error → (new ≡ record old { failed = true }) × (key' ≡ key)) → Refuses old key error × EndsAt old key key' error new
-ends_at old new key key' error live refused over bad =
+pub ends_at : (old new : Reader) (key key' : Sealing) (error : OpenError) → old.failed ≡ false → RefusesBy (front_of key old.number old.waiting) error → IsOver old new → RunsOn key old.waiting key' → (IsBadLength key error → (new ≡ record old { failed = true }) × (key' ≡ key)) → Refuses old key error × EndsAt old key key' error new
+ends_at old new key key' error live refused over runs bad =
     let same = refused.1 in (
       subst (Refuses old key) (sym same) (refused_by old key refused.0 live refused.2),
-      subst (λ e. EndsAt old key key' e new) (sym same) (ended_by old new key key' refused.0 over (λ h. bad (subst (IsBadLength key) (sym same) h))),
+      subst (λ e. EndsAt old key key' e new) (sym same) (ended_by old new key key' refused.0 over runs (λ h. bad (subst (IsBadLength key) (sym same) h))),
     )

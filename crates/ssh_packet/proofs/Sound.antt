@@ -14,6 +14,7 @@ use Rattle.ssh_aes.proofs.Sealing.{gcm_closes_well}
 use Rattle.ssh_aes.specs.Gcm.{gcm_plain, gcm_text, gcm_tag}
 use Rattle.ssh_aes.specs.Modes.{Running, masked, unmasked}
 use Rattle.ssh_mac.specs.Tags.{tag_of, is_encrypt_then_mac}
+use Rattle.ssh_packet.proofs.Finding.{at_least}
 use Rattle.ssh_packet.proofs.Fronts.{drop_headed, length_headed, states_agree, take_headed}
 use Rattle.ssh_packet.proofs.Shapes.{length_take4}
 use Rattle.ssh_packet.specs.Front.{Front, Whole, Unfinished, Refused, probed, length_in, is_bad_length, decrypted, text_in, covered, tag_for, parted, checked, front_of, key_behind}
@@ -138,9 +139,6 @@ Sounds s number bytes (Refused fault) = Unit {0}
 by_test : (P : Front → Type 0) (b : Bool) (x y : Front) → (b ≡ true → P x) → (b ≡ false → P y) → P (if b then x else y)
 by_test P true x y h k = h refl
 by_test P false x y h k = k refl
-
-at_least : (a b : ℕ) → nat_lt a b ≡ false → b ≤ a
-at_least a b e = grind (arith, nat_tests)
 
 none_of : (a b c : Bool) → (a || (b || c)) ≡ false → (a ≡ false) × (b ≡ false) × (c ≡ false)
 none_of true b c e = absurd cc

@@ -1,7 +1,7 @@
 -- What the code says of the front of some bytes.
 use Rattle.std.specs.Prelude.{◌≡◌, ℕ, ◌+◌, ◌≤◌, true, false, List, length, take, drop, Option, Some, None, Result, Ok, Err}
 use Rattle.ssh_packet.specs.Errors.{open_error}
-use Rattle.ssh_packet.specs.Front.{Front, Fault, Whole, Unfinished, Refused, front_of, checked, parted, is_bad_length, key_behind}
+use Rattle.ssh_packet.specs.Front.{Front, Fault, Whole, Unfinished, Refused, front_of, checked, parted, is_bad_length, key_behind, RunsOn}
 use Rattle.ssh_packet.specs.Sealing.{Sealing, tag_size, longest_packet}
 use Rattle.ssh_packet.specs.declared.error.OpenError.{OpenError}
 use Rattle.ssh_packet.specs.declared.error.OpenError.TheVariants.{PacketSize}
@@ -46,10 +46,10 @@ pub record OpensPart (front : Front) (old new : List ℕ) (part : Part) : Type 0
 
 abbrev pub OpensChecked : Sealing → ℕ → ℕ → List ℕ → List ℕ → Result Part OpenError → Sealing → Type 0
 OpensChecked sealing number n old new (Ok part) sealing' = OpensPart (checked sealing number n (take (4 + n) old) (drop (4 + n) old)) old new part × (sealing' ≡ key_behind sealing old (drop part.end old))
-OpensChecked sealing number n old new (Err error) sealing' = RefusesBy (checked sealing number n (take (4 + n) old) (drop (4 + n) old)) error × IsSizeOnly n error
+OpensChecked sealing number n old new (Err error) sealing' = RefusesBy (checked sealing number n (take (4 + n) old) (drop (4 + n) old)) error × IsSizeOnly n error × RunsOn sealing old sealing'
 
 -- What is found at the front was opened. Less than a packet and a length that isn't read leave all as it was.
 abbrev pub Opens : Sealing → ℕ → List ℕ → List ℕ → Result (Option Part) OpenError → Sealing → Type 0
 Opens sealing number old new (Ok (Some part)) sealing' = OpensPart (front_of sealing number old) old new part × (sealing' ≡ key_behind sealing old (drop part.end old))
 Opens sealing number old new (Ok None) sealing' = (front_of sealing number old ≡ Unfinished) × (new ≡ old) × (sealing' ≡ sealing)
-Opens sealing number old new (Err error) sealing' = RefusesBy (front_of sealing number old) error × (IsBadLength sealing error → (new ≡ old) × (sealing' ≡ sealing))
+Opens sealing number old new (Err error) sealing' = RefusesBy (front_of sealing number old) error × (IsBadLength sealing error → (new ≡ old) × (sealing' ≡ sealing)) × RunsOn sealing old sealing'

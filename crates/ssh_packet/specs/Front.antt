@@ -1,5 +1,5 @@
 -- What a reader finds at the front of the bytes that wait.
-use Rattle.std.specs.Prelude.{◌≡◌, ℕ, ◌+◌, ◌-◌, nat_lt, ◌||◌, Bool, true, false, if◌then◌else◌, List, [], ◌∷◌, ◌++◌, length, take, drop, slice_index, replicate, refl}
+use Rattle.std.specs.Prelude.{◌≡◌, ◌⊎◌, ℕ, ◌+◌, ◌-◌, nat_lt, ◌||◌, Bool, true, false, if◌then◌else◌, List, [], ◌∷◌, ◌++◌, length, take, drop, slice_index, replicate, refl}
 use Rattle.std.specs.Int.{w32, from_be_bytes}
 use Rattle.std.specs.Str.{bytes_eq}
 use Rattle.ssh_aes.specs.Gcm.{gcm_plain, cipher_tag}
@@ -69,6 +69,22 @@ tag_behind sealing bytes = drop (length bytes - tag_size sealing) bytes
 -- what a direction is opened with behind the packet that stands before the rest
 abbrev pub key_behind : Sealing → List ℕ → List ℕ → Sealing
 key_behind sealing bytes rest = opened_past sealing (packet_of sealing (take (length bytes - length rest) bytes))
+
+-- what a packet without its tag is, and what its direction is opened with, where the tag was wrong: under a MAC over
+-- the packet in clear it was decrypted before, else both are as they were
+abbrev pub refused_text : Sealing → List ℕ → List ℕ
+refused_text Clear packet = packet
+refused_text (Block running mac) packet = if is_encrypt_then_mac mac then packet else unmasked running packet
+refused_text (Gcm key nonce) packet = packet
+
+abbrev pub refused_past : Sealing → List ℕ → Sealing
+refused_past Clear packet = Clear
+refused_past (Block running mac) packet = if is_encrypt_then_mac mac then Block running mac else Block (passed running packet) mac
+refused_past (Gcm key nonce) packet = Gcm key nonce
+
+-- as it was, or run on past a front of the bytes
+abbrev pub RunsOn : Sealing → List ℕ → Sealing → Type 0
+RunsOn sealing bytes sealing' = (sealing' ≡ sealing) ⊎ ((k : ℕ) × (sealing' ≡ opened_past sealing (take k bytes)))
 
 -- what a wrong tag is called
 abbrev pub tag_fault : Sealing → Fault

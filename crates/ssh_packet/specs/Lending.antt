@@ -2,7 +2,7 @@
 use Rattle.std.specs.Prelude.{◌≡◌, ◌<◌, ◌++◌, true, false, length, Option, Some, None, Result, Ok, Err}
 use Rattle.std.specs.Borrow.{MutBor, Lends, Fml}
 use Rattle.std.specs.Io.BufRead.{Rests}
-use Rattle.ssh_packet.specs.Front.{PacketSize, IndexOutOfBounds, PacketAuth, DecryptionError, Whole, Unfinished, Refused, front_of, is_bad_length}
+use Rattle.ssh_packet.specs.Front.{PacketSize, IndexOutOfBounds, PacketAuth, DecryptionError, Whole, Unfinished, Refused, front_of, is_bad_length, RunsOn}
 use Rattle.ssh_packet.specs.Keys.{opening_of}
 use Rattle.ssh_packet.specs.Reading.{Reader}
 use Rattle.ssh_packet.specs.Sealing.{Item, Sealing, IsAdmissible, sealed, moved_on, next_number}
@@ -48,10 +48,10 @@ pub record IsOver (old new : Reader) : Type 0 where
 
 -- what a refusal leaves: a packet length that isn't read is refused before anything is opened
 abbrev pub EndsAt : Reader → Sealing → Sealing → OpenError → Reader → Type 0
-EndsAt old key key' (errors.PacketSize n) new = IsOver old new × (is_bad_length key n ≡ true → (new ≡ record old { failed = true }) × (key' ≡ key))
-EndsAt old key key' errors.IndexOutOfBounds new = IsOver old new
-EndsAt old key key' errors.PacketAuth new = IsOver old new
-EndsAt old key key' errors.DecryptionError new = IsOver old new
+EndsAt old key key' (errors.PacketSize n) new = IsOver old new × RunsOn key old.waiting key' × (is_bad_length key n ≡ true → (new ≡ record old { failed = true }) × (key' ≡ key))
+EndsAt old key key' errors.IndexOutOfBounds new = IsOver old new × RunsOn key old.waiting key'
+EndsAt old key key' errors.PacketAuth new = IsOver old new × RunsOn key old.waiting key'
+EndsAt old key key' errors.DecryptionError new = IsOver old new × RunsOn key old.waiting key'
 EndsAt old key key' errors.Disconnect new = (new ≡ old) × (key' ≡ key)
 
 -- what `next` leaves

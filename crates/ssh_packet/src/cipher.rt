@@ -1,10 +1,11 @@
 //! What seals and opens packets, and the names of ciphers (RFC 4253 section 6.3, RFC 4344 section 4,
 //! RFC 5647 section 6).
 
-ghost use Rattle.std.specs.Prelude.{◌≡◌, ◌↔◌, ◌+◌, ◌<◌, ◌≤◌, ◌^◌, ◌++◌, take, drop, length, IsOk, IfOk, OnOk, IfErr};
+ghost use Rattle.std.specs.Prelude.{◌≡◌, ◌↔◌, ◌+◌, ◌<◌, ◌≤◌, ◌^◌, ◌++◌, take, drop, length, IsOk, IfOk, OnOk, OnErr, IfErr};
 ghost use Rattle.std.specs.Int.{w32, from_be_bytes};
 ghost use Rattle.ssh_packet.specs.Errors.{open_error};
-ghost use Rattle.ssh_packet.specs.Front.{length_in, opened_past, packet_of, tag_behind, tag_fault, tag_for, text_in};
+ghost use Rattle.ssh_packet.specs.Front.{length_in, opened_past, packet_of, refused_past, refused_text};
+ghost use Rattle.ssh_packet.specs.Front.{tag_behind, tag_fault, tag_for, text_in};
 ghost use Rattle.ssh_packet.specs.Sealing.{Sealing, closed, filling, longest_payload, moved_past};
 ghost use Rattle.ssh_packet.specs.Sealing.{padding_length, probe, shortest, tag_size};
 
@@ -79,7 +80,8 @@ pub trait OpeningKey {
         ensures short { result ≤ 16 };
 
     /// Opens a packet in place, its tag beside it. PacketAuth where the tag of an HMAC is another,
-    /// DecryptionError where that of Galois counter mode is.
+    /// DecryptionError where that of Galois counter mode is. A packet of a wrong tag stays as it
+    /// came; under a MAC over the packet in clear it has been decrypted, and the key has run on past it.
     fn open_in_place(&mut self, seqn: u32, packet: &mut [u8], tag: &[u8]) -> Result<(), OpenError>
         requires headed { 4 ≤ length packet.old }
         requires short { length packet.old < 2 ^ 32 + 4 }
@@ -87,7 +89,9 @@ pub trait OpeningKey {
         ensures right { IsOk result ↔ tag.now ≡ tag_for (opening self.old) seqn packet.old }
         ensures causes { IfErr result (λ e. e ≡ open_error (tag_fault (opening self.old))) }
         ensures text { OnOk result (packet.new ≡ text_in (opening self.old) packet.old) }
-        ensures state { OnOk result (opening self.new ≡ opened_past (opening self.old) packet.old) };
+        ensures state { OnOk result (opening self.new ≡ opened_past (opening self.old) packet.old) }
+        ensures refused_text { OnErr result (packet.new ≡ refused_text (opening self.old) packet.old) }
+        ensures refused_state { OnErr result (opening self.new ≡ refused_past (opening self.old) packet.old) };
 
     /// Opens a packet that its tag stands behind, and answers what follows its length: padding length,
     /// payload and padding. The errors are those of `open_in_place`.
@@ -105,6 +109,8 @@ pub trait OpeningKey {
             ≡ drop 4 (text_in (opening self.old) (packet_of (opening self.old) ciphertext_and_tag.old))) }
         ensures state { OnOk result (opening self.new
             ≡ opened_past (opening self.old) (packet_of (opening self.old) ciphertext_and_tag.old)) }
+        ensures refused_state { OnErr result (opening self.new
+            ≡ refused_past (opening self.old) (packet_of (opening self.old) ciphertext_and_tag.old)) }
     {
         let end = ciphertext_and_tag.len() - self.tag_len();
         let (packet, tag) = ciphertext_and_tag.split_at_mut(end);

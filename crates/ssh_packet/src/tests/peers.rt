@@ -149,8 +149,7 @@ fn is_next(
 }
 
 /// aes128-gcm@openssh.com.
-#[test]
-fn aes128_gcm(rt: HostRuntime) -> Result<(), Fail> {
+fn aes128_gcm() -> [Recorded; 2] {
     let client = Recorded {
         cipher: cipher::AES_128_GCM,
         mac: mac::NONE,
@@ -216,17 +215,11 @@ fn aes128_gcm(rt: HostRuntime) -> Result<(), Fail> {
             \x78\x73\xc2\x72\x0b\x65\x1c\x8e\xc5\x43\x52\x55\xd0\xb9\xcc\xd0\x18\xc4\xaf\x77\xee\x4e\x75\x2c\
             \x4d\xd6\x56\x2c\x80\x36\xea\x8c\x77\x64\xb6\x46\xdf\xa8\x12\x3c",
     };
-    for recorded in [&client, &server] {
-        assert!(rt; is_sealed(rt.alloc(), recorded)?);
-        assert!(rt; is_opened(rt.alloc(), recorded, 4096)?);
-        assert!(rt; is_opened(rt.alloc(), recorded, 1)?);
-    }
-    Ok(())
+    [client, server]
 }
 
 /// aes256-gcm@openssh.com, strict key exchange.
-#[test]
-fn aes256_gcm_strict(rt: HostRuntime) -> Result<(), Fail> {
+fn aes256_gcm_strict() -> [Recorded; 2] {
     let client = Recorded {
         cipher: cipher::AES_256_GCM,
         mac: mac::NONE,
@@ -294,17 +287,11 @@ fn aes256_gcm_strict(rt: HostRuntime) -> Result<(), Fail> {
             \x54\x5b\x33\xac\xc8\xcc\xe5\x26\xb6\x9f\xd9\x53\x60\x1f\x7e\x59\x8a\xa2\x89\xf5\xc9\x78\x59\x1d\
             \xfa\x9b\x54\x71\x87\x64\x68\x49\x2c\xe0\x1e\x57\x32\xec\xc0\x73",
     };
-    for recorded in [&client, &server] {
-        assert!(rt; is_sealed(rt.alloc(), recorded)?);
-        assert!(rt; is_opened(rt.alloc(), recorded, 4096)?);
-        assert!(rt; is_opened(rt.alloc(), recorded, 1)?);
-    }
-    Ok(())
+    [client, server]
 }
 
 /// aes192-ctr, hmac-sha2-512, strict key exchange.
-#[test]
-fn aes192_ctr_with_mac_strict(rt: HostRuntime) -> Result<(), Fail> {
+fn aes192_ctr_with_mac_strict() -> [Recorded; 2] {
     let client = Recorded {
         cipher: cipher::AES_192_CTR,
         mac: mac::HMAC_SHA512,
@@ -382,17 +369,11 @@ fn aes192_ctr_with_mac_strict(rt: HostRuntime) -> Result<(), Fail> {
             \x20\xce\xdd\xa0\xce\xa6\x2f\x0f\xd9\xe5\x80\x3f\x4f\xa7\xa9\xc0\xc2\x8a\x54\xa5\xd0\xcc\x8c\xa5\
             \xaf\xd0\x75\x7b\x1d\x93\x84\x67",
     };
-    for recorded in [&client, &server] {
-        assert!(rt; is_sealed(rt.alloc(), recorded)?);
-        assert!(rt; is_opened(rt.alloc(), recorded, 4096)?);
-        assert!(rt; is_opened(rt.alloc(), recorded, 1)?);
-    }
-    Ok(())
+    [client, server]
 }
 
 /// aes256-ctr, hmac-sha2-256-etm@openssh.com.
-#[test]
-fn aes256_ctr_then_mac(rt: HostRuntime) -> Result<(), Fail> {
+fn aes256_ctr_then_mac() -> [Recorded; 2] {
     let client = Recorded {
         cipher: cipher::AES_256_CTR,
         mac: mac::HMAC_SHA256_ETM,
@@ -465,17 +446,11 @@ fn aes256_ctr_then_mac(rt: HostRuntime) -> Result<(), Fail> {
             \xcc\xf2\xcf\x64\xaf\x0b\xef\xab\x4f\x7d\x15\xca\x5d\x00\x3f\x88\xde\x3e\x43\xa5\x8c\x14\xfd\xac\
             \x19\xe7\x20\x35\xd5\xdc\xa7\x39\x2d\xd3\x7d\x11\xe6\x34\xbc\xaf\x45\x5a\xe1\x30\x55\xe6\x96\x51",
     };
-    for recorded in [&client, &server] {
-        assert!(rt; is_sealed(rt.alloc(), recorded)?);
-        assert!(rt; is_opened(rt.alloc(), recorded, 4096)?);
-        assert!(rt; is_opened(rt.alloc(), recorded, 1)?);
-    }
-    Ok(())
+    [client, server]
 }
 
 /// aes128-ctr, hmac-sha1-etm@openssh.com, strict key exchange.
-#[test]
-fn aes128_ctr_then_mac_strict(rt: HostRuntime) -> Result<(), Fail> {
+fn aes128_ctr_then_mac_strict() -> [Recorded; 2] {
     let client = Recorded {
         cipher: cipher::AES_128_CTR,
         mac: mac::HMAC_SHA1_ETM,
@@ -542,17 +517,11 @@ fn aes128_ctr_then_mac_strict(rt: HostRuntime) -> Result<(), Fail> {
             \x53\xfa\x1a\x09\x5c\x59\x41\x97\x79\x73\x57\x87\xe8\x31\x69\xd6\xfb\xb4\x05\x82\x0a\x86\xbf\xa4\
             \x18\xf8\x64\xd3\x56\x72\x99\x0e\x57\xae\x17\x12\x84\xc0\x58\xbe\x55\xd8\xba\x7e\x8b\xdc\x00\xf4",
     };
-    for recorded in [&client, &server] {
-        assert!(rt; is_sealed(rt.alloc(), recorded)?);
-        assert!(rt; is_opened(rt.alloc(), recorded, 4096)?);
-        assert!(rt; is_opened(rt.alloc(), recorded, 1)?);
-    }
-    Ok(())
+    [client, server]
 }
 
 /// aes128-cbc, hmac-sha2-256.
-#[test]
-fn aes128_cbc_with_mac(rt: HostRuntime) -> Result<(), Fail> {
+fn aes128_cbc_with_mac() -> [Recorded; 2] {
     let client = Recorded {
         cipher: cipher::AES_128_CBC,
         mac: mac::HMAC_SHA256,
@@ -622,17 +591,11 @@ fn aes128_cbc_with_mac(rt: HostRuntime) -> Result<(), Fail> {
             \xac\xda\xbc\x25\xfb\x9c\x9e\xa4\x0d\x77\x5f\x3d\x96\xfb\x80\x3a\x4c\x67\xa1\x90\xae\xda\x9e\x3b\
             \x62\xfe\x45\x7a\xbc\xf8\xbb\xe1\x4e\x12\xcd\x58\x98\x6b\x83\x2d",
     };
-    for recorded in [&client, &server] {
-        assert!(rt; is_sealed(rt.alloc(), recorded)?);
-        assert!(rt; is_opened(rt.alloc(), recorded, 4096)?);
-        assert!(rt; is_opened(rt.alloc(), recorded, 1)?);
-    }
-    Ok(())
+    [client, server]
 }
 
 /// aes256-cbc, hmac-sha1-etm@openssh.com, strict key exchange.
-#[test]
-fn aes256_cbc_then_mac_strict(rt: HostRuntime) -> Result<(), Fail> {
+fn aes256_cbc_then_mac_strict() -> [Recorded; 2] {
     let client = Recorded {
         cipher: cipher::AES_256_CBC,
         mac: mac::HMAC_SHA1_ETM,
@@ -701,10 +664,31 @@ fn aes256_cbc_then_mac_strict(rt: HostRuntime) -> Result<(), Fail> {
             \x84\xad\x3f\x41\x07\x13\xbe\xbc\xff\x2f\x3d\xb5\xe4\x12\xc4\x90\x6d\x82\xd7\x99\xf0\x82\x74\xa0\
             \x19\x0a\xce\xe8\x5d\x6a\xa4\x05\x50\x5a\xe5\xd8\x35\x97\x35\x2c\xa3\xb0\x4e\x21\xb4\x69\x33\x8d",
     };
-    for recorded in [&client, &server] {
-        assert!(rt; is_sealed(rt.alloc(), recorded)?);
-        assert!(rt; is_opened(rt.alloc(), recorded, 4096)?);
-        assert!(rt; is_opened(rt.alloc(), recorded, 1)?);
+    [client, server]
+}
+
+/// Each connection of the table, both directions: sealed, opened whole, and opened byte by byte.
+#[test]
+fn recorded_connections(rt: HostRuntime) -> Result<(), Fail> {
+    let table = [
+        aes128_gcm(),
+        aes256_gcm_strict(),
+        aes192_ctr_with_mac_strict(),
+        aes256_ctr_then_mac(),
+        aes128_ctr_then_mac_strict(),
+        aes128_cbc_with_mac(),
+        aes256_cbc_then_mac_strict(),
+    ];
+    for connection in table {
+        for recorded in &connection {
+            let Recorded { cipher, mac, .. } = *recorded;
+            assert!(rt; is_sealed(rt.alloc(), recorded)?, "{cipher:?}, {mac:?}");
+            assert!(rt;
+                is_opened(rt.alloc(), recorded, 4096)?,
+                "{cipher:?}, {mac:?}"
+            );
+            assert!(rt; is_opened(rt.alloc(), recorded, 1)?, "{cipher:?}, {mac:?}");
+        }
     }
     Ok(())
 }

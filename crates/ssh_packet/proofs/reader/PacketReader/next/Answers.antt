@@ -56,6 +56,7 @@ returns-in-Err c =
               count = refl;
               waiting = omega (arith, size, length-drop c.self.inside.start there, length-drop c.self.inside.start now);
             })
+            c.in-Err.ensures.opens.2
             (λ bad. let same = c.in-Err.ensures.opens.1 bad in
             (ap (λ w. let r : Reader = record { waiting = w; number = c.self.inside.number; count = c.self.inside.count; failed = true } in r) same.0, same.1))),
       ),
