@@ -4,9 +4,9 @@
 #![tactic(auto)]
 
 ghost use Rattle.std.specs.Prelude.{◌≡◌, ◌≤◌, length};
-ghost use Rattle.ssh_mac.specs.Names.{key_length as mac_key_length};
+ghost use Rattle.ssh_mac.specs.Names.{mac_key_length};
 ghost use Rattle.ssh_packet.specs.Keys.{opening_of, sealing_of};
-ghost use Rattle.ssh_packet.specs.Names.{key_length, nonce_length};
+ghost use Rattle.ssh_packet.specs.Names.{cipher_key_length, nonce_length};
 
 use rand_chacha::ChaCha20Rng;
 use rand_core::SeedableRng;

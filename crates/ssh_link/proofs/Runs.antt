@@ -9,9 +9,9 @@ use Rattle.ssh_wire.specs.declared.error.Error.{Error}
 use Rattle.ssh_wire.specs.declared.side.Side.{Side}
 use Rattle.ssh_wire.specs.declared.side.Side.TheVariants.{Client, Server}
 use Rattle.ssh_wire.specs.declared.ssh_id.SshId.{SshId}
-use Rattle.ssh_packet.specs.Sealing.{Clear, sealed, next_number}
+use Rattle.ssh_packet.specs.Sealing.{Clear, sealed_packet, next_number}
 use Rattle.ssh_link.specs.ClearLink.{IsFresh, Submits, CannotSubmit, Delivers, CannotDeliver, next_piece, StepsOn, CannotStep, TakesWithin}
-use Rattle.ssh_link.specs.ClearRun.{IsWholeLine, clear_item, packet_size, clear_wire, submitted, taken_in, whole_in, is_bad_size, first_refused, IsClearSide, IsClearRun, IsRefusedRun}
+use Rattle.ssh_link.specs.ClearRun.{IsWholeLine, clear_item, packet_size, clear_wire, submitted_payloads, taken_in, whole_in, is_bad_size, first_refused, IsClearSide, IsClearRun, IsRefusedRun}
 use Rattle.ssh_link.specs.declared.clear_link.ClearEnd.{ClearEnd}
 use Rattle.ssh_link.specs.declared.clear_link.ClearLink.{ClearLink}
 use Rattle.ssh_link.specs.declared.receiver.Receiver.{Receiver}
@@ -25,7 +25,7 @@ use Rattle.ssh_link.proofs.Growing.{number_behind, number_behind-push, are_sent_
 
 -- one side, with the payloads it has sent: what it sent, what is sent from here on, and what it takes
 pub record Stands (own other : SshId) (side : Side) (all left : List ClearStep) (sent theirs : List (List ℕ)) (now : ClearEnd) : Type 0 where
-  pub steps : submitted side all ≡ sent ++ submitted side left
+  pub steps : submitted_payloads side all ≡ sent ++ submitted_payloads side left
   pub output : now.writer.output ≡ clear_wire own sent
   pub number : now.writer.number ≡ number_behind 0 sent
   pub sealing : now.writer.sealing ≡ Clear
@@ -94,8 +94,8 @@ starts client_id server_id all link hc hs fc fs = record {
 submits : (own other : SshId) (side s : Side) (all left : List ClearStep) (sent theirs : List (List ℕ)) (payload : List ℕ) (now next : ClearEnd) → same_side s side ≡ true
     → Stands own other side all (Submit s payload ∷ left) sent theirs now → Submits now payload next → Stands own other side all left (sent ++ payload ∷ []) theirs next
 submits own other side s all left sent theirs payload now next same h d = record {
-  steps = h.steps ∙ (ap (λ b. sent ++ (if b then payload ∷ submitted side left else submitted side left)) same ∙ sym (append_assoc sent (payload ∷ []) (submitted side left)));
-  output = d.output ∙ (ap (λ o. o ++ sealed Clear now.writer.number (clear_item payload)) h.output ∙ (ap (λ n. clear_wire own sent ++ sealed Clear n (clear_item payload)) h.number ∙ sym (clear_wire-push own sent payload)));
+  steps = h.steps ∙ (ap (λ b. sent ++ (if b then payload ∷ submitted_payloads side left else submitted_payloads side left)) same ∙ sym (append_assoc sent (payload ∷ []) (submitted_payloads side left)));
+  output = d.output ∙ (ap (λ o. o ++ sealed_packet Clear now.writer.number (clear_item payload)) h.output ∙ (ap (λ n. clear_wire own sent ++ sealed_packet Clear n (clear_item payload)) h.number ∙ sym (clear_wire-push own sent payload)));
   number = d.number ∙ (ap next_number h.number ∙ sym (number_behind-push 0 sent payload));
   sealing = d.sealing;
   admissible = are_sent_push sent payload h.admissible d.admissible;
@@ -117,7 +117,7 @@ offered own other side s all left sent theirs payload now same h =
     ap length (clear_wire-push other theirs payload) ∙ (length-append (clear_wire other theirs) _ ∙ ap (λ n. length (clear_wire other theirs) + n) (length_packet (number_behind 0 theirs) payload)) in
     let waits : length (clear_wire other theirs) - now.taken + packet_size payload ≡ length (clear_wire other (theirs ++ payload ∷ [])) - now.taken = omega (arith, longer, h.within) in
     record {
-      steps = h.steps ∙ ap (λ b. sent ++ (if b then payload ∷ submitted side left else submitted side left)) same;
+      steps = h.steps ∙ ap (λ b. sent ++ (if b then payload ∷ submitted_payloads side left else submitted_payloads side left)) same;
       output = h.output;
       number = h.number;
       sealing = h.sealing;
@@ -241,9 +241,9 @@ pub record Reports (now : ClearEnd) (report : ClearSide) : Type 0 where
   pub taken : report.taken ≡ now.taken
   pub delivered : report.delivered ≡ now.receiver.delivered.items
 
-ends : (own other : SshId) (side : Side) (all : List ClearStep) (sent theirs : List (List ℕ)) (now : ClearEnd) (report : ClearSide) → submitted (other_side side) all ≡ theirs → Stands own other side all [] sent theirs now → Reports now report → IsClearSide own other side all report
+ends : (own other : SshId) (side : Side) (all : List ClearStep) (sent theirs : List (List ℕ)) (now : ClearEnd) (report : ClearSide) → submitted_payloads (other_side side) all ≡ theirs → Stands own other side all [] sent theirs now → Reports now report → IsClearSide own other side all report
 ends own other side all sent theirs now report whose h d =
-    let all_sent : submitted side all ≡ sent = h.steps ∙ append-nil sent in
+    let all_sent : submitted_payloads side all ≡ sent = h.steps ∙ append-nil sent in
     record {
       wire = d.wire ∙ (h.output ∙ ap (clear_wire own) (sym all_sent));
       taken = d.taken ∙ sym (h.takes ∙ omega arith);

@@ -5,7 +5,7 @@ use Rattle.ssh_wire.specs.declared.error.Error.{Error}
 use Rattle.ssh_wire.specs.declared.ssh_id.SshId.{SshId}
 use Rattle.ssh_wire.specs.declared.ssh_id.SshId.TheVariants.{Standard}
 use Rattle.ssh_link.specs.ClearRun.{IsClearRun, IsRefusedSize, first_refused}
-use Rattle.ssh_link.specs.Report.{clear_printed, fault_printed, refusal_printed}
+use Rattle.ssh_link.specs.Report.{clear_report_text, fault_line, refusal_line}
 use Rattle.ssh_link.specs.Script.{clear_script}
 use Rattle.ssh_link.specs.Stream.{AppendsFront}
 use Rattle.ssh_link.specs.declared.answer.Answer.{Answer}
@@ -53,9 +53,9 @@ IsAnswer words left (Ran report) = IsCommand words × AnswersLeft left (Ran repo
 -- what is written
 abbrev pub answer_text : Answer → List ℕ
 answer_text Usage = codes "usage\n"
-answer_text (Faulty fault) = fault_printed fault
-answer_text (Refused e) = refusal_printed e
-answer_text (Ran report) = clear_printed report
+answer_text (Faulty fault) = fault_line fault
+answer_text (Refused e) = refusal_line e
+answer_text (Ran report) = clear_report_text report
 
 -- the exit status, once all is written
 abbrev pub answer_status : Answer → ℕ

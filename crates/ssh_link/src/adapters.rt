@@ -2,7 +2,7 @@
 
 ghost use Rattle.std.specs.Prelude.{◌≡◌, ◌≤◌, length, take, None, IfOk, IfSome, OnErr, OnOk};
 ghost use Rattle.std.specs.Io.KnownBytes.{ReadConsumes, Appends};
-ghost use Rattle.ssh_wire.specs.Outside.{IsPartOf, counted};
+ghost use Rattle.ssh_wire.specs.Outside.{IsPartOf, next_count};
 
 use ssh_wire::{Failed, Sink, Source};
 use std::io::{Read, Write};
@@ -41,7 +41,7 @@ impl<R: Read> Source for StdSource<R> {
     fn read(&mut self, out: &mut [u8]) -> Result<usize, Failed>
         ensures within { IfOk result (λ n. n ≤ length out.old) }
         ensures bytes { ReadConsumes (R.remaining self.old.inner) (R.remaining self.new.inner) result out.new }
-        ensures fault { OnErr result (self.new.faults ≡ counted self.old.faults) }
+        ensures fault { OnErr result (self.new.faults ≡ next_count self.old.faults) }
         ensures none { OnOk result (self.new.faults ≡ self.old.faults) }
     {
         match self.reader.read(out) {
@@ -87,7 +87,7 @@ impl<W: Write> Sink for StdSink<W> {
     fn write(&mut self, bytes: &[u8]) -> Result<usize, Failed>
         ensures part { IfOk result (λ n. IsPartOf (length bytes.now) n) }
         ensures bytes { IfOk result (λ n. Appends (W.contents self.old.inner) (W.contents self.new.inner) (take n bytes.now)) }
-        ensures fault { OnErr result (self.new.faults ≡ counted self.old.faults) }
+        ensures fault { OnErr result (self.new.faults ≡ next_count self.old.faults) }
         ensures none { OnOk result (self.new.faults ≡ self.old.faults) }
     {
         match write_through(&mut self.writer, bytes) {

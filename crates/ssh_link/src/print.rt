@@ -1,7 +1,7 @@
 //! The text of a report and of a refusal.
 
 ghost use Rattle.std.specs.Prelude.{◌≡◌, ◌∷◌, [], ◌++◌, codes, decimal, IfOk, IfErr, OnOk};
-ghost use Rattle.ssh_link.specs.Report.{side_name, hex_word, report_line, delivered_printed, side_printed, clear_printed, kind_name, encoding_name, config_name, names_word, error_text, refusal_printed, fault_printed, script_kind_name};
+ghost use Rattle.ssh_link.specs.Report.{side_name, hex_word, report_line, delivered_lines, side_lines, clear_report_text, kind_name, encoding_name, config_name, names_word, error_text, refusal_line, fault_line, script_kind_name};
 ghost use Rattle.hex.specs.Hex.{encode_lower};
 ghost use Rattle.ssh_wire.specs.declared.error.Error.TheVariants.{Memory, NoCommonAlgo};
 ghost use Rattle.std.specs.List.{flat_map};
@@ -15,7 +15,7 @@ use std::alloc::Global;
 
 /// The report's text, two digits a byte. Memory where there is no room for it.
 pub fn print_clear(alloc: Global, report: &ClearReport) -> Result<Vec<u8>, Error>
-    ensures text { IfOk result (λ text. text.items ≡ clear_printed report.now) }
+    ensures text { IfOk result (λ text. text.items ≡ clear_report_text report.now) }
     ensures err { IfErr result (λ e. e ≡ Memory) }
 {
     let mut text = Vec::with_capacity(
@@ -48,7 +48,7 @@ fn room_for(report: &ClearSide) -> usize {
 }
 
 fn push_side(out: &mut Vec<u8>, side: Side, report: &ClearSide) -> Result<(), Error>
-    ensures ok { OnOk result (out.new.items ≡ out.old.items ++ side_printed side report.now) }
+    ensures ok { OnOk result (out.new.items ≡ out.old.items ++ side_lines side report.now) }
     ensures err { IfErr result (λ e. e ≡ Memory) }
 {
     push_hex_line(out, side, b"wire", report.wire.as_slice())?;
@@ -57,7 +57,7 @@ fn push_side(out: &mut Vec<u8>, side: Side, report: &ClearSide) -> Result<(), Er
 }
 
 fn push_delivered(out: &mut Vec<u8>, side: Side, payloads: &[Payload]) -> Result<(), Error>
-    ensures ok { OnOk result (out.new.items ≡ out.old.items ++ delivered_printed side payloads.now) }
+    ensures ok { OnOk result (out.new.items ≡ out.old.items ++ delivered_lines side payloads.now) }
     ensures err { IfErr result (λ e. e ≡ Memory) }
 {
     for payload in payloads {
@@ -278,7 +278,7 @@ fn name_of_config(fault: ConfigFault) -> &'static [u8]
 
 /// The line that tells a refusal.
 pub fn push_refusal(out: &mut Vec<u8>, error: &Error) -> Result<(), Error>
-    ensures ok { OnOk result (out.new.items ≡ out.old.items ++ refusal_printed error.now) }
+    ensures ok { OnOk result (out.new.items ≡ out.old.items ++ refusal_line error.now) }
     ensures err { IfErr result (λ e. e ≡ Memory) }
 {
     push_text(out, b"refused ")?;
@@ -288,7 +288,7 @@ pub fn push_refusal(out: &mut Vec<u8>, error: &Error) -> Result<(), Error>
 
 /// The line that tells a script's fault.
 pub fn push_fault(out: &mut Vec<u8>, fault: ScriptFault) -> Result<(), Error>
-    ensures ok { OnOk result (out.new.items ≡ out.old.items ++ fault_printed fault) }
+    ensures ok { OnOk result (out.new.items ≡ out.old.items ++ fault_line fault) }
     ensures err { IfErr result (λ e. e ≡ Memory) }
 {
     push_numbered(out, b"script ", fault.line)?;

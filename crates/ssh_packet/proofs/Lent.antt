@@ -5,7 +5,7 @@ use Rattle.std.proofs.lemmas.List.{drop-drop}
 use Rattle.ssh_packet.specs.Errors.{open_error}
 use Rattle.ssh_packet.specs.Finding.{RefusesBy, IsBadLength, OpensPart}
 use Rattle.ssh_packet.specs.Front.{Fault, PacketSize, PacketAuth, DecryptionError, IndexOutOfBounds, Whole, Refused, front_of, key_behind, RunsOn}
-use Rattle.ssh_packet.specs.Lending.{Refuses, IsOver, EndsAt}
+use Rattle.ssh_packet.specs.Lending.{RefusesNext, IsOver, EndsAt}
 use Rattle.ssh_packet.specs.Reading.{Reader}
 use Rattle.ssh_packet.specs.Sealing.{Sealing}
 use Rattle.ssh_packet.specs.declared.error.OpenError.{OpenError}
@@ -35,7 +35,7 @@ moved_is key key' start end there now rest h = h ∙ ap (key_behind key (drop st
 
 -- ---- a refusal
 
-refused_by : (old : Reader) (key : Sealing) (fault : Fault) → old.failed ≡ false → front_of key old.number old.waiting ≡ Refused fault → Refuses old key (open_error fault)
+refused_by : (old : Reader) (key : Sealing) (fault : Fault) → old.failed ≡ false → front_of key old.number old.waiting ≡ Refused fault → RefusesNext old key (open_error fault)
 refused_by old key (PacketSize n) live e = (live, e)
 refused_by old key PacketAuth live e = (live, e)
 refused_by old key DecryptionError live e = (live, e)
@@ -48,9 +48,9 @@ ended_by old new key key' DecryptionError over runs bad = (over, runs)
 ended_by old new key key' IndexOutOfBounds over runs bad = (over, runs)
 
 -- what is refused at the front is the end of the reader
-pub ends_at : (old new : Reader) (key key' : Sealing) (error : OpenError) → old.failed ≡ false → RefusesBy (front_of key old.number old.waiting) error → IsOver old new → RunsOn key old.waiting key' → (IsBadLength key error → (new ≡ record old { failed = true }) × (key' ≡ key)) → Refuses old key error × EndsAt old key key' error new
+pub ends_at : (old new : Reader) (key key' : Sealing) (error : OpenError) → old.failed ≡ false → RefusesBy (front_of key old.number old.waiting) error → IsOver old new → RunsOn key old.waiting key' → (IsBadLength key error → (new ≡ record old { failed = true }) × (key' ≡ key)) → RefusesNext old key error × EndsAt old key key' error new
 ends_at old new key key' error live refused over runs bad =
     let same = refused.1 in (
-      subst (Refuses old key) (sym same) (refused_by old key refused.0 live refused.2),
+      subst (RefusesNext old key) (sym same) (refused_by old key refused.0 live refused.2),
       subst (λ e. EndsAt old key key' e new) (sym same) (ended_by old new key key' refused.0 over runs (λ h. bad (subst (IsBadLength key) (sym same) h))),
     )

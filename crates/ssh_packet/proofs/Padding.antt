@@ -2,7 +2,7 @@
 use Rattle.std.proofs.Common.{◌≡◌, ℕ, ◌+◌, ◌-◌, ◌%◌, ◌<◌, ◌≤◌, Bool, true, false, nat_lt, if◌then◌else◌, refl, arith}
 use Rattle.std.proofs.lemmas.Bool.Decides.{nat_tests}
 use Rattle.ssh_mac.specs.Tags.{is_encrypt_then_mac}
-use Rattle.ssh_packet.specs.Laws.{filled, unit_of, IsPadding}
+use Rattle.ssh_packet.specs.Laws.{filled_length, unit_of, IsPadding}
 use Rattle.ssh_packet.specs.Sealing.{Sealing, Clear, Block, Gcm, at_least_four, block_padding, padding_length}
 
 -- what is added is a whole unit or nothing
@@ -22,7 +22,7 @@ by_block : (etm : Bool) (n : ℕ) → IsPadding (block_padding etm n) (if etm th
 by_block true n = by_16 (1 + n)
 by_block false n = by_16 (5 + n)
 
-pub padded : (sealing : Sealing) (n : ℕ) → IsPadding (padding_length sealing n) (filled sealing n (padding_length sealing n)) (unit_of sealing)
+pub padded : (sealing : Sealing) (n : ℕ) → IsPadding (padding_length sealing n) (filled_length sealing n (padding_length sealing n)) (unit_of sealing)
 padded Clear n = by_8 (5 + n)
 padded (Block running mac) n = by_block (is_encrypt_then_mac mac) n
 padded (Gcm key nonce) n = by_16 (1 + n)

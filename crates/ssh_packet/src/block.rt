@@ -103,7 +103,7 @@ impl<C: PacketLengthProbe, M: Mac> cipher::OpeningKey for OpeningKey<C, M> {
         if self.mac.is_etm() {
             4
         } else {
-            self.cipher.least_len()
+            self.cipher.shortest_text_len()
         }
     }
 

@@ -25,9 +25,9 @@ pub struct SSHBuffer {
 
 impl Model for SSHBuffer {
     ghost use Rattle.std.specs.Prelude.{◌-◌, vec_len, vec_capacity};
-    ghost use Rattle.ssh_packet.specs.Writing.{Written};
+    ghost use Rattle.ssh_packet.specs.Writing.{Buffer};
 
-    ghost Value = { Written };
+    ghost Value = { Buffer };
 
     ghost view = { λ b. record {
       output = b.buffer.items;

@@ -6,8 +6,8 @@ ghost use Rattle.std.specs.Int.{w32, from_be_bytes};
 ghost use Rattle.ssh_packet.specs.Errors.{open_error};
 ghost use Rattle.ssh_packet.specs.Front.{length_in, opened_past, packet_of, refused_past, refused_text};
 ghost use Rattle.ssh_packet.specs.Front.{tag_behind, tag_fault, tag_for, text_in};
-ghost use Rattle.ssh_packet.specs.Sealing.{Sealing, closed, filling, longest_payload, moved_past};
-ghost use Rattle.ssh_packet.specs.Sealing.{padding_length, probe, shortest, tag_size};
+ghost use Rattle.ssh_packet.specs.Sealing.{Sealing, sealed_text, padding_drawn, longest_payload, moved_past};
+ghost use Rattle.ssh_packet.specs.Sealing.{padding_length, probe_length, shortest_packet, tag_size};
 
 use crate::error::OpenError;
 use rand_core::Rng;
@@ -36,7 +36,7 @@ pub trait SealingKey {
     /// Writes padding: zeros under the clear key, which draws nothing, and else drawn bytes.
     fn fill_padding<R: Rng>(&self, rng: &mut R, padding_out: &mut [u8])
         ensures { (padding_out.new, R.stream rng.new)
-            ≡ filling (sealing self.now) (length padding_out.old) (R.stream rng.old) };
+            ≡ padding_drawn (sealing self.now) (length padding_out.old) (R.stream rng.old) };
 
     /// The length of a tag in bytes.
     fn tag_len(&self) -> usize
@@ -49,7 +49,7 @@ pub trait SealingKey {
         requires short { length plaintext_in_ciphertext_out.old < 2 ^ 32 + 4 }
         requires tag { length tag_out.old ≡ tag_size (sealing self.old) }
         ensures text { plaintext_in_ciphertext_out.new ++ tag_out.new
-            ≡ closed (sealing self.old) seqn plaintext_in_ciphertext_out.old }
+            ≡ sealed_text (sealing self.old) seqn plaintext_in_ciphertext_out.old }
         ensures size { length plaintext_in_ciphertext_out.new ≡ length plaintext_in_ciphertext_out.old }
         ensures state { sealing self.new ≡ moved_past (sealing self.old) plaintext_in_ciphertext_out.old };
 }
@@ -61,11 +61,11 @@ pub trait OpeningKey {
 
     /// How many bytes show the packet length: 4, or 16 where a block cipher encrypts it.
     fn packet_length_to_read_for_block_length(&self) -> usize
-        ensures { result ≡ probe (opening self.now) };
+        ensures { result ≡ probe_length (opening self.now) };
 
     /// The packet length, four bytes high byte first, of the first bytes of a packet.
     fn decrypt_packet_length(&self, seqn: u32, encrypted_packet_length: &[u8]) -> [u8; 4]
-        requires { length encrypted_packet_length.now ≡ probe (opening self.now) }
+        requires { length encrypted_packet_length.now ≡ probe_length (opening self.now) }
         ensures { from_be_bytes w32 result ≡ length_in (opening self.now) encrypted_packet_length.now };
 
     /// The length of a tag in bytes.
@@ -76,7 +76,7 @@ pub trait OpeningKey {
     /// How many bytes the shortest packet has without its tag: 4, or 16 where chaining mode encrypts the
     /// packet length.
     fn shortest_packet(&self) -> usize
-        ensures value { result ≡ shortest (opening self.now) }
+        ensures value { result ≡ shortest_packet (opening self.now) }
         ensures short { result ≤ 16 };
 
     /// Opens a packet in place, its tag beside it. PacketAuth where the tag of an HMAC is another,
@@ -169,12 +169,12 @@ pub const ALL_CIPHERS: [Name; 10] = [
 ];
 
 impl Name {
-    ghost use Rattle.ssh_packet.specs.Names.{text_of, wants_mac, key_length, nonce_length};
+    ghost use Rattle.ssh_packet.specs.Names.{cipher_name, wants_mac, cipher_key_length, nonce_length};
     ghost use Rattle.ssh_packet.specs.declared.cipher.Name.{Name};
 
     /// The text of the name, as it stands in a name list.
     pub fn as_str(self) -> &'static str
-        ensures { result.now ≡ text_of self }
+        ensures { result.now ≡ cipher_name self }
     {
         match self {
             Name::Clear => "clear",
@@ -192,7 +192,7 @@ impl Name {
 
     /// The name of a text, where it has one.
     pub fn from_str(s: &str) -> Option<Name>
-        ensures { (name : Name) → (result ≡ Some name) ↔ (s.now ≡ text_of name) }
+        ensures { (name : Name) → (result ≡ Some name) ↔ (s.now ≡ cipher_name name) }
     {
         match s {
             "clear" => Some(Name::Clear),
@@ -227,7 +227,7 @@ impl Name {
 
     /// The length of the key in bytes: 0, 16, 24 or 32.
     pub fn key_len(self) -> usize
-        ensures { result ≡ key_length self }
+        ensures { result ≡ cipher_key_length self }
     {
         match self {
             Name::Clear | Name::NoCipher => 0,

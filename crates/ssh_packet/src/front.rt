@@ -3,7 +3,7 @@
 ghost use Rattle.std.specs.Prelude.{◌≡◌, ◌+◌, ◌<◌, ◌≤◌, ◌^◌, length, drop, slice_index, vec_len};
 ghost use Rattle.ssh_packet.specs.Finding.{Measures, Parts, OpensChecked, Opens};
 ghost use Rattle.ssh_packet.specs.Front.{is_bad_length};
-ghost use Rattle.ssh_packet.specs.Sealing.{IsBytes, longest_packet, tag_size};
+ghost use Rattle.ssh_packet.specs.Sealing.{AreBytes, longest_packet, tag_size};
 
 use crate::cipher::OpeningKey;
 use crate::error::OpenError;
@@ -41,7 +41,7 @@ fn whole_length<K: OpeningKey>(
     bytes: &[u8],
 ) -> Result<Option<usize>, OpenError>
     ensures measures { Measures (K.opening key.now) number bytes.now result }
-    ensures bytes { IsBytes bytes.now }
+    ensures bytes { AreBytes bytes.now }
 {
     let probe = key.packet_length_to_read_for_block_length();
     if bytes.len() < probe {
@@ -108,7 +108,7 @@ fn open_front<K: OpeningKey>(
     bytes: &mut [u8],
 ) -> Result<Option<Part>, OpenError>
     ensures opens { Opens (K.opening key.old) number bytes.old bytes.new result (K.opening key.new) }
-    ensures bytes { IsBytes bytes.old }
+    ensures bytes { AreBytes bytes.old }
 {
     match whole_length(key, number, bytes)? {
         None => Ok(None),
@@ -126,7 +126,7 @@ pub(crate) fn open_behind<K: OpeningKey>(
     requires { start ≤ vec_len bytes.old }
     ensures opens { Opens (K.opening key.old) number (drop start bytes.old.items) (drop start bytes.new.items) result (K.opening key.new) }
     ensures size { vec_len bytes.new ≡ vec_len bytes.old }
-    ensures bytes { IsBytes (drop start bytes.old.items) }
+    ensures bytes { AreBytes (drop start bytes.old.items) }
 {
     open_front(key, number, &mut bytes[start..])
 }

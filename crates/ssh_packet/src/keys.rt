@@ -1,9 +1,9 @@
 //! The keys of a direction, by kind.
 
 ghost use Rattle.std.specs.Prelude.{◌≡◌, length};
-ghost use Rattle.ssh_mac.specs.Names.{key_length as mac_key_length, mac_named};
+ghost use Rattle.ssh_mac.specs.Names.{mac_key_length, mac_named};
 ghost use Rattle.ssh_packet.specs.Keys.{opening_of, sealing_of};
-ghost use Rattle.ssh_packet.specs.Names.{key_length, nonce_length, sealing_named};
+ghost use Rattle.ssh_packet.specs.Names.{cipher_key_length, nonce_length, sealing_named};
 
 use crate::cipher::{Name, OpeningKey, SealingKey};
 use crate::error::OpenError;
@@ -163,7 +163,7 @@ impl Name {
         mac_key: &[u8],
         mac: mac::Name,
     ) -> SealKey
-        requires key { length key.now ≡ key_length self }
+        requires key { length key.now ≡ cipher_key_length self }
         requires nonce { length nonce.now ≡ nonce_length self }
         requires mac_key { length mac_key.now ≡ mac_key_length mac }
         ensures { sealing_of result ≡ sealing_named self key.now nonce.now (mac_named mac mac_key.now) }
@@ -192,7 +192,7 @@ impl Name {
         mac_key: &[u8],
         mac: mac::Name,
     ) -> OpenKey
-        requires key { length key.now ≡ key_length self }
+        requires key { length key.now ≡ cipher_key_length self }
         requires nonce { length nonce.now ≡ nonce_length self }
         requires mac_key { length mac_key.now ≡ mac_key_length mac }
         ensures { opening_of result ≡ sealing_named self key.now nonce.now (mac_named mac mac_key.now) }

@@ -1,7 +1,7 @@
 //! Laws of packets and of streams of packets, for proofs above to cite.
 
 ghost use Rattle.ssh_packet.specs.Laws.{OnePacket, FrontWhole, FrontSound, OpensAgain, PairOpens, StatesAgree, FrontStays};
-ghost use Rattle.ssh_packet.specs.Laws.{OneReading, PlainReading, Carried, Padded};
+ghost use Rattle.ssh_packet.specs.Laws.{OneReading, PlainReading, ReadsWhatWasWritten, PaddingFills};
 
 use crate::cipher::{OpeningKey, SealingKey};
 
@@ -52,11 +52,11 @@ pub fn plain_reading()
 
 /// What a reader takes off a front of what was written is what was written, through the epochs whose openings agree.
 pub fn carried()
-    ensures { Carried }
+    ensures { ReadsWhatWasWritten }
 {}
 
 /// Padding is 4 to 19 bytes. With it a packet in clear is a multiple of 8 bytes, and what is encrypted of the
 /// others a multiple of 16.
 pub fn padded()
-    ensures { Padded }
+    ensures { PaddingFills }
 {}

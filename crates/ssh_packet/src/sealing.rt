@@ -3,8 +3,8 @@
 ghost use Rattle.std.specs.Prelude.{◌≡◌, ◌+◌, ◌-◌, ◌<◌, ◌≤◌, ◌++◌, length, take, drop};
 ghost use Rattle.std.specs.Prelude.{OnOk, OnErr, IfErr, IsOk, vec_len, vec_capacity};
 ghost use Rattle.ssh_wire.specs.declared.error.Error.TheVariants.{Memory};
-ghost use Rattle.ssh_packet.specs.Sealing.{IsAdmissible, IsBytes, framed, sealed, moved_on, item_of};
-ghost use Rattle.ssh_packet.specs.Sealing.{padding_from, filling, framing, tag_size, longest_payload};
+ghost use Rattle.ssh_packet.specs.Sealing.{IsAdmissible, AreBytes, framed_text, sealed_packet, moved_on, item_of};
+ghost use Rattle.ssh_packet.specs.Sealing.{padding_of_payload, padding_drawn, item_padded_by, tag_size, longest_payload};
 
 use crate::cipher::SealingKey;
 use crate::front::HEAD;
@@ -16,13 +16,13 @@ fn frame<K: SealingKey, R: Rng>(text: &mut [u8], padding: usize, key: &K, rng: &
     requires room { 5 + padding ≤ length text.old }
     requires short { length text.old ≤ 262181 }
     requires byte { padding < 256 }
-    ensures text { text.new ≡ framed (record {
+    ensures text { text.new ≡ framed_text (record {
       payload = take (length text.old - 5 - padding) (drop 5 text.old);
-      padding = (filling (K.sealing key.now) padding (R.stream rng.old)).0;
+      padding = (padding_drawn (K.sealing key.now) padding (R.stream rng.old)).0;
     }) }
-    ensures stream { R.stream rng.new ≡ (filling (K.sealing key.now) padding (R.stream rng.old)).1 }
-    ensures size { length (filling (K.sealing key.now) padding (R.stream rng.old)).0 ≡ padding }
-    ensures bytes { IsBytes (filling (K.sealing key.now) padding (R.stream rng.old)).0 }
+    ensures stream { R.stream rng.new ≡ (padding_drawn (K.sealing key.now) padding (R.stream rng.old)).1 }
+    ensures size { length (padding_drawn (K.sealing key.now) padding (R.stream rng.old)).0 ≡ padding }
+    ensures bytes { AreBytes (padding_drawn (K.sealing key.now) padding (R.stream rng.old)).0 }
 {
     let payload_end = text.len() - padding;
     let length = ((text.len() - 4) as u32).to_be_bytes();
@@ -43,13 +43,13 @@ fn seal_in_place<K: SealingKey, R: Rng>(
     requires short { length packet.old ≤ 262181 + tag_len }
     requires byte { padding < 256 }
     requires tag { tag_len ≡ tag_size (K.sealing key.old) }
-    ensures packet { packet.new ≡ sealed (K.sealing key.old) seqn (framing (K.sealing key.old) padding
+    ensures packet { packet.new ≡ sealed_packet (K.sealing key.old) seqn (item_padded_by (K.sealing key.old) padding
         (take (length packet.old - 5 - padding - tag_len) (drop 5 packet.old)) (R.stream rng.old)) }
-    ensures moved { K.sealing key.new ≡ moved_on (K.sealing key.old) (framing (K.sealing key.old) padding
+    ensures moved { K.sealing key.new ≡ moved_on (K.sealing key.old) (item_padded_by (K.sealing key.old) padding
         (take (length packet.old - 5 - padding - tag_len) (drop 5 packet.old)) (R.stream rng.old)) }
-    ensures stream { R.stream rng.new ≡ (filling (K.sealing key.old) padding (R.stream rng.old)).1 }
-    ensures size { length (filling (K.sealing key.old) padding (R.stream rng.old)).0 ≡ padding }
-    ensures bytes { IsBytes (filling (K.sealing key.old) padding (R.stream rng.old)).0 }
+    ensures stream { R.stream rng.new ≡ (padding_drawn (K.sealing key.old) padding (R.stream rng.old)).1 }
+    ensures size { length (padding_drawn (K.sealing key.old) padding (R.stream rng.old)).0 ≡ padding }
+    ensures bytes { AreBytes (padding_drawn (K.sealing key.old) padding (R.stream rng.old)).0 }
 {
     let text_len = packet.len() - tag_len;
     let (text, tag) = packet.split_at_mut(text_len);
@@ -68,11 +68,11 @@ pub(crate) fn seal_behind<K: SealingKey, R: Rng>(
     requires room { start + 5 ≤ vec_len out.old }
     requires short { vec_len out.old ≤ start + 5 + longest_payload }
     ensures ok { OnOk result (out.new.items ≡ take start out.old.items
-        ++ sealed (K.sealing key.old) seqn (item_of (K.sealing key.old) (drop (start + 5) out.old.items) (R.stream rng.old))) }
+        ++ sealed_packet (K.sealing key.old) seqn (item_of (K.sealing key.old) (drop (start + 5) out.old.items) (R.stream rng.old))) }
     ensures moved { OnOk result (K.sealing key.new
         ≡ moved_on (K.sealing key.old) (item_of (K.sealing key.old) (drop (start + 5) out.old.items) (R.stream rng.old))) }
     ensures stream { OnOk result (R.stream rng.new
-        ≡ (padding_from (K.sealing key.old) (vec_len out.old - (start + 5)) (R.stream rng.old)).1) }
+        ≡ (padding_of_payload (K.sealing key.old) (vec_len out.old - (start + 5)) (R.stream rng.old)).1) }
     ensures admissible { OnOk result (start + 5 < vec_len out.old
         → IsAdmissible (K.sealing key.old) (item_of (K.sealing key.old) (drop (start + 5) out.old.items) (R.stream rng.old))) }
     ensures unchanged { OnErr result (out.new.items ≡ out.old.items) }

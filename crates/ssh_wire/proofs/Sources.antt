@@ -5,8 +5,8 @@ use Rattle.std.proofs.lemmas.List.{take-append-drop, length-take-le, drop-take}
 use Rattle.std.proofs.Math.Seq.{drop-append-add}
 use Rattle.ssh_wire.specs.Lines.{IdFound, NotYet, Id, Version, id_of, line_end, line_text, is_id_text, Line, Unfinished, IdLine, OtherLine, TooLong, line_to, line_of, other_line_limit}
 use Rattle.ssh_wire.specs.Outside.{Rose, IsAtEnd, TakesNext}
-use Rattle.ssh_wire.specs.Reading.{IdReading, Waiting, Heard, Failed, still_allowed, left_of, Decides, Feeds, IsShort, used_in, finished}
-use Rattle.ssh_wire.specs.Stepping.{shifted}
+use Rattle.ssh_wire.specs.Reading.{IdReading, Waiting, Heard, Failed, still_allowed, reading_left, Decides, Feeds, IsShort, used_in, end_answer}
+use Rattle.ssh_wire.specs.Stepping.{shifted_answer}
 use Rattle.ssh_wire.specs.FromSource.{Took, Finds, Ends, Refuses, Stops, Fails, NoneTaken, SoFar, weight, room, turns_left}
 use Rattle.ssh_wire.specs.declared.error.Error.{Error}
 use Rattle.ssh_wire.specs.declared.error.Error.TheVariants as error
@@ -38,10 +38,10 @@ further allow old now mid bytes piece buffer n left after s f t =
       whole = s.whole ∙ (sym (append_assoc s.fed piece s.rest) ∙ ap (λ l. (s.fed ++ piece) ++ l) (sym (take-append-drop n s.rest) ∙ ap (λ l. l ++ drop n s.rest) (sym taken.1)));
       told = taken.2;
       on = λ r q last h.
-          let P : List ℕ → Type 0 = λ l. Feeds allow old l (shifted (length s.fed) (shifted (length piece) r)) last in
+          let P : List ℕ → Type 0 = λ l. Feeds allow old l (shifted_answer (length s.fed) (shifted_answer (length piece) r)) last in
           let Q : Result IdProgress Error → Type 0 = λ x. Feeds allow old ((s.fed ++ piece) ++ q) x last in
-          subst Q (shifted_twice (length s.fed) (length piece) r ∙ ap (λ k. shifted k r) (sym (length-append s.fed piece)))
-          (subst P (sym (append_assoc s.fed piece q)) (s.on (shifted (length piece) r) (piece ++ q) last (fed_twice allow now mid last piece q r f h)));
+          subst Q (shifted_twice (length s.fed) (length piece) r ∙ ap (λ k. shifted_answer k r) (sym (length-append s.fed piece)))
+          (subst P (sym (append_assoc s.fed piece q)) (s.on (shifted_answer (length piece) r) (piece ++ q) last (fed_twice allow now mid last piece q r f h)));
     }
 
 pub so_far_next : (allow : Bool) (old now mid : IdReading) (piece buffer : List ℕ) (n : ℕ) (o left after : Option (List ℕ)) → IfSome o (λ bytes. SoFar allow old bytes left piece now) → Feeds allow now piece (Ok progress.NotYet) mid → TakesNext n buffer left after → IfSome o (λ bytes. SoFar allow old bytes after (take n buffer) mid)
@@ -64,10 +64,10 @@ used_within buffer end x used within e h =
     omega (arith, length-take-le end buffer within)
 
 -- an answer about a piece that decides is one about all bytes
-all_bytes : (allow : Bool) (old now new : IdReading) (bytes piece : List ℕ) (left : Option (List ℕ)) (r : Result IdProgress Error) → (s : SoFar allow old bytes left piece now) → (shifted (length s.fed) r ≡ Ok progress.NotYet → ⊥) → Feeds allow now piece r new → Feeds allow old bytes (shifted (length s.fed) r) new
+all_bytes : (allow : Bool) (old now new : IdReading) (bytes piece : List ℕ) (left : Option (List ℕ)) (r : Result IdProgress Error) → (s : SoFar allow old bytes left piece now) → (shifted_answer (length s.fed) r ≡ Ok progress.NotYet → ⊥) → Feeds allow now piece r new → Feeds allow old bytes (shifted_answer (length s.fed) r) new
 all_bytes allow old now new bytes piece left r s not h =
-    let P : List ℕ → Type 0 = λ l. Feeds allow old l (shifted (length s.fed) r) new in
-    subst P (append_assoc s.fed piece s.rest ∙ sym s.whole) (fed_more allow old new (s.fed ++ piece) s.rest (shifted (length s.fed) r) not (s.on r piece new h))
+    let P : List ℕ → Type 0 = λ l. Feeds allow old l (shifted_answer (length s.fed) r) new in
+    subst P (append_assoc s.fed piece s.rest ∙ sym s.whole) (fed_more allow old new (s.fed ++ piece) s.rest (shifted_answer (length s.fed) r) not (s.on r piece new h))
 
 taken_so_far : (allow : Bool) (old now : IdReading) (bytes piece : List ℕ) (left : Option (List ℕ)) (s : SoFar allow old bytes left piece now) → Took bytes left (s.fed ++ piece) s.rest
 taken_so_far allow old now bytes piece left s = record { whole = s.whole ∙ sym (append_assoc s.fed piece s.rest); told = s.told }
@@ -92,7 +92,7 @@ by_version (Id t n) had left new e h = let q = h.0 in cc
 by_version Version had left new e h = let q = h.0 in cc
 
 pub only_version : (allow : Bool) (now : IdReading) (p : List ℕ) (e : Error) (new : IdReading) → Feeds allow now p (Err e) new → e ≡ error.Version
-only_version allow (Waiting w o) p e new h = by_version (id_of (still_allowed allow o) (w ++ p)) (length w) (left_of (still_allowed allow o) (w ++ p) o) new e h
+only_version allow (Waiting w o) p e new h = by_version (id_of (still_allowed allow o) (w ++ p)) (length w) (reading_left (still_allowed allow o) (w ++ p) o) new e h
 only_version allow (Heard t) p e new h = let q = h.0 in cc
 only_version allow Failed p e new h = let q = h.0 in cc
 
@@ -145,14 +145,14 @@ none_left allow old now mid piece buffer e (Some bytes) left after first before 
   | inr i ↦ inr (inr (i.0, rose_since first before count most i.1, stops_all allow old now mid bytes piece left after s f i.2))
 ]
 
-by_id : (found : IdFound) (had : ℕ) (left new : IdReading) (n : ℕ) → Decides found had left (Ok (progress.Id n)) new → finished new ≡ Ok tt
+by_id : (found : IdFound) (had : ℕ) (left new : IdReading) (n : ℕ) → Decides found had left (Ok (progress.Id n)) new → end_answer new ≡ Ok tt
 by_id NotYet had left new n h = let q = h.0 in cc
 by_id Version had left new n h = let q = h.0 in cc
-by_id (Id t e) had left new n h = ap finished h.1
+by_id (Id t e) had left new n h = ap end_answer h.1
 
-pub heard_is : (allow : Bool) (now : IdReading) (p : List ℕ) (n : ℕ) (new : IdReading) → Feeds allow now p (Ok (progress.Id n)) new → finished new ≡ Ok tt
-heard_is allow (Waiting w o) p n new h = by_id (id_of (still_allowed allow o) (w ++ p)) (length w) (left_of (still_allowed allow o) (w ++ p) o) new n h
-heard_is allow (Heard t) p n new h = ap finished h.1
+pub heard_is : (allow : Bool) (now : IdReading) (p : List ℕ) (n : ℕ) (new : IdReading) → Feeds allow now p (Ok (progress.Id n)) new → end_answer new ≡ Ok tt
+heard_is allow (Waiting w o) p n new h = by_id (id_of (still_allowed allow o) (w ++ p)) (length w) (reading_left (still_allowed allow o) (w ++ p) o) new n h
+heard_is allow (Heard t) p n new h = ap end_answer h.1
 heard_is allow Failed p n new h = let q = h.0 in cc
 
 -- each turn leaves less room
@@ -169,24 +169,24 @@ short_other bytes (Some m) n h = step (nat_lt 255 m) refl (is_id_text (line_text
     step false e true h = absurd (cc)
     step false e false h = let same : m ≡ n = cc in let small : m ≤ 255 = grind (arith, nat_tests) in omega arith
 
-weighs_by : (left o : ℕ) (b : List ℕ) → ((n : ℕ) → n ≤ length b → n ≤ 255 → line_of b ≡ OtherLine n → next left b n ≡ NotYet → 255 * o + length b ≤ weight (left_of left b o)) → (line : Line) → line_of b ≡ line → id_of left b ≡ NotYet → 255 * o + length b ≤ weight (left_of left b o)
+weighs_by : (left o : ℕ) (b : List ℕ) → ((n : ℕ) → n ≤ length b → n ≤ 255 → line_of b ≡ OtherLine n → next left b n ≡ NotYet → 255 * o + length b ≤ weight (reading_left left b o)) → (line : Line) → line_of b ≡ line → id_of left b ≡ NotYet → 255 * o + length b ≤ weight (reading_left left b o)
 weighs_by left o b behind_it Unfinished m h = let same = ap weight (left_unfinished left b o m) in omega (arith, same)
 weighs_by left o b behind_it TooLong m h = absurd (let z = sym (id_of_line left b TooLong m) ∙ h in cc)
 weighs_by left o b behind_it (IdLine s n) m h = absurd (let z = sym (id_of_line left b (IdLine s n) m) ∙ h in cc)
 weighs_by left o b behind_it (OtherLine n) m h =
     behind_it n (line_end-within b n (end_of_other b (line_end b) n m)) (short_other b (line_end b) n m) m (sym (id_of_line left b (OtherLine n) m) ∙ h)
 
-weighs : (left o : ℕ) (b : List ℕ) → id_of left b ≡ NotYet → 255 * o + length b ≤ weight (left_of left b o)
+weighs : (left o : ℕ) (b : List ℕ) → id_of left b ≡ NotYet → 255 * o + length b ≤ weight (reading_left left b o)
 weighs zero o b h = weighs_by zero o b (λ n w s m g. absurd (cc)) (line_of b) refl h
 weighs (suc k) o b h =
     weighs_by (suc k) o b (λ n w s m g.
-    let deeper : 255 * (o + 1) + length (drop n b) ≤ weight (left_of k (drop n b) (o + 1)) = weighs k (o + 1) (drop n b) (behind_not n (id_of k (drop n b)) g) in
+    let deeper : 255 * (o + 1) + length (drop n b) ≤ weight (reading_left k (drop n b) (o + 1)) = weighs k (o + 1) (drop n b) (behind_not n (id_of k (drop n b)) g) in
     let same = ap weight (left_other k b o n m) in
     omega (arith, deeper, same, length-drop n b)) (line_of b) refl h
 
 heavier : (allow : Bool) (now mid : IdReading) (p : List ℕ) → Feeds allow now p (Ok progress.NotYet) mid → weight now + length p ≤ weight mid
 heavier allow (Waiting w o) mid p h =
-    let first = not_yet (id_of (still_allowed allow o) (w ++ p)) (length w) (left_of (still_allowed allow o) (w ++ p) o) mid h in
+    let first = not_yet (id_of (still_allowed allow o) (w ++ p)) (length w) (reading_left (still_allowed allow o) (w ++ p) o) mid h in
     let more = weighs (still_allowed allow o) o (w ++ p) first.0 in
     let same = ap weight first.1 in
     omega (arith, more, same, length-append w p)

@@ -3,7 +3,7 @@ use Rattle.std.specs.Prelude.{◌≡◌, ℕ, ◌+◌, ◌*◌, ◌-◌, ◌==�
 use Rattle.ssh_wire.specs.Lines.{other_line_limit, id_of, Id}
 use Rattle.ssh_wire.specs.Outside.{Rose, IsAtEnd, TakesNext}
 use Rattle.ssh_wire.specs.Reading.{IdReading, Waiting, Heard, Failed, still_allowed, Feeds}
-use Rattle.ssh_wire.specs.Stepping.{shifted}
+use Rattle.ssh_wire.specs.Stepping.{shifted_answer}
 use Rattle.ssh_wire.specs.declared.error.Error.{Error}
 use Rattle.ssh_wire.specs.declared.error.Error.TheVariants as error
 use Rattle.ssh_wire.specs.declared.read_id.IdProgress.{IdProgress}
@@ -92,7 +92,7 @@ pub record SoFar (allow : Bool) (old : IdReading) (bytes : List ℕ) (left : Opt
   pub rest : List ℕ
   pub whole : bytes ≡ fed ++ (piece ++ rest)
   pub told : left ≡ Some rest
-  pub on : (r : Result IdProgress Error) (q : List ℕ) (last : IdReading) → Feeds allow now q r last → Feeds allow old (fed ++ q) (shifted (length fed) r) last
+  pub on : (r : Result IdProgress Error) (q : List ℕ) (last : IdReading) → Feeds allow now q r last → Feeds allow old (fed ++ q) (shifted_answer (length fed) r) last
 
 -- the bytes of lines that were read, each other line as long as it may be
 abbrev pub weight : IdReading → ℕ

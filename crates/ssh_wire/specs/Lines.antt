@@ -18,27 +18,27 @@ id_line (Raw text) = text
 abbrev pub is_line_end : ℕ → Bool
 is_line_end b = (b == 13) || (b == 10)
 
--- a byte before the rest of a text whose end is trimmed
-abbrev pub before_trimmed : ℕ → List ℕ → List ℕ
-before_trimmed b [] = if is_line_end b then [] else b ∷ []
-before_trimmed b (c ∷ rest) = b ∷ c ∷ rest
+-- a byte before the rest of a text whose end is without_line_ends
+abbrev pub before_trimmed_rest : ℕ → List ℕ → List ℕ
+before_trimmed_rest b [] = if is_line_end b then [] else b ∷ []
+before_trimmed_rest b (c ∷ rest) = b ∷ c ∷ rest
 
 -- a text without all CR and LF at its end
-abbrev pub trimmed : List ℕ → List ℕ
-trimmed [] = []
-trimmed (b ∷ rest) = before_trimmed b (trimmed rest)
+abbrev pub without_line_ends : List ℕ → List ℕ
+without_line_ends [] = []
+without_line_ends (b ∷ rest) = before_trimmed_rest b (without_line_ends rest)
 
 -- the text that the exchange hash takes (RFC 4253 section 8)
 abbrev pub id_text : SshId → List ℕ
 id_text (Standard text) = text
-id_text (Raw text) = trimmed text
+id_text (Raw text) = without_line_ends text
 
--- behind the first LF of bytes that stand from place `at` on
+-- found_behind the first LF of bytes that stand from place `at` on
 abbrev pub lf_end : ℕ → List ℕ → Option ℕ
 lf_end at [] = None
 lf_end at (b ∷ rest) = if b == 10 then Some (at + 1) else lf_end (at + 1) rest
 
--- where the first line ends: behind the first LF that isn't its first byte
+-- where the first line ends: found_behind the first LF that isn't its first byte
 abbrev pub line_end : List ℕ → Option ℕ
 line_end [] = None
 line_end (b ∷ rest) = lf_end 1 rest
@@ -61,10 +61,10 @@ pub data IdFound : Type 0 where
   Id : (text : List ℕ) (end : ℕ) → IdFound
   Version : IdFound
 
-abbrev pub behind : ℕ → IdFound → IdFound
-behind n NotYet = NotYet
-behind n (Id text end) = Id text (n + end)
-behind n Version = Version
+abbrev pub found_behind : ℕ → IdFound → IdFound
+found_behind n NotYet = NotYet
+found_behind n (Id text end) = Id text (n + end)
+found_behind n Version = Version
 
 -- the first line judged, by its end; what an other line of n bytes leads to is `other n`
 abbrev pub judged : List ℕ → (ℕ → IdFound) → Option ℕ → IdFound
@@ -77,7 +77,7 @@ judged bytes other (Some n) =
 -- what the bytes begin with, where so many other lines may stand before the id line
 abbrev pub id_of : ℕ → List ℕ → IdFound
 id_of zero bytes = judged bytes (λ n. Version) (line_end bytes)
-id_of (suc others) bytes = judged bytes (λ n. behind n (id_of others (drop n bytes))) (line_end bytes)
+id_of (suc others) bytes = judged bytes (λ n. found_behind n (id_of others (drop n bytes))) (line_end bytes)
 
 -- how many other lines may stand before the id line where they are allowed
 abbrev pub other_line_limit : ℕ
@@ -108,7 +108,7 @@ id-example : id_of 0 (codes "SSH-2.0-x" ++ line_ending ++ codes "ab") ≡ Id (co
 unfolding is_utf8 chars encode
 id-example = refl
 
--- an LF at the front belongs to the line behind it
+-- an LF at the front belongs to the line found_behind it
 lone-example : id_of 0 (10 ∷ codes "SSH-2.0-x" ++ line_ending) ≡ Version
 lone-example = refl
 

@@ -6,8 +6,8 @@ abbrev pub Rose : ℕ → ℕ → Type 0
 Rose before now = min (before + 1) (2 ^ 64 - 1) ≤ now
 
 -- one more, of a count that stops at its end
-abbrev pub counted : ℕ → ℕ
-counted n = if nat_lt n (2 ^ 64 - 1) then n + 1 else n
+abbrev pub next_count : ℕ → ℕ
+next_count n = if nat_lt n (2 ^ 64 - 1) then n + 1 else n
 
 -- the next n bytes were taken, and stand at the front of the buffer
 abbrev pub TakesNext : ℕ → List ℕ → Option (List ℕ) → Option (List ℕ) → Type 0

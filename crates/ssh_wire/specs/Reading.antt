@@ -23,9 +23,9 @@ by_end unfinished other None = unfinished
 by_end unfinished other (Some n) = other n
 
 -- what is left of bytes that decide nothing, where so many other lines may still come and so many were read
-abbrev pub left_of : ℕ → List ℕ → ℕ → IdReading
-left_of zero bytes others = Waiting bytes others
-left_of (suc left) bytes others = by_end (Waiting bytes others) (λ n. left_of left (drop n bytes) (others + 1)) (line_end bytes)
+abbrev pub reading_left : ℕ → List ℕ → ℕ → IdReading
+reading_left zero bytes others = Waiting bytes others
+reading_left (suc left) bytes others = by_end (Waiting bytes others) (λ n. reading_left left (drop n bytes) (others + 1)) (line_end bytes)
 
 -- what is answered, where so many of the bytes had waited, and what is left where nothing is decided
 abbrev pub Decides : IdFound → ℕ → IdReading → Result IdProgress Error → IdReading → Type 0
@@ -36,7 +36,7 @@ Decides lines.Version had left result new = (result ≡ Err Version) × (new ≡
 -- a piece fed, where other lines may stand before the id line or not
 abbrev pub Feeds : Bool → IdReading → List ℕ → Result IdProgress Error → IdReading → Type 0
 Feeds allow (Waiting bytes others) piece result new =
-    Decides (id_of (still_allowed allow others) (bytes ++ piece)) (length bytes) (left_of (still_allowed allow others) (bytes ++ piece) others) result new
+    Decides (id_of (still_allowed allow others) (bytes ++ piece)) (length bytes) (reading_left (still_allowed allow others) (bytes ++ piece) others) result new
 Feeds allow (Heard text) piece result new = (result ≡ Ok (Id 0)) × (new ≡ Heard text)
 Feeds allow Failed piece result new = (result ≡ Err Version) × (new ≡ Failed)
 
@@ -49,11 +49,11 @@ text_heard (Waiting bytes others) = []
 text_heard (Heard text) = text
 text_heard Failed = []
 
--- how many bytes of a line that hasn't ended are held
-abbrev pub held : IdReading → ℕ
-held (Waiting bytes others) = length bytes
-held (Heard text) = 0
-held Failed = 0
+-- how many bytes of a line that hasn't ended are waiting_length
+abbrev pub waiting_length : IdReading → ℕ
+waiting_length (Waiting bytes others) = length bytes
+waiting_length (Heard text) = 0
+waiting_length Failed = 0
 
 -- less than a line waits, behind no more other lines than may stand there
 abbrev pub IsShort : IdReading → Type 0
@@ -67,7 +67,7 @@ waits (Heard text) = false
 waits Failed = false
 
 -- what is answered at the end of all bytes
-abbrev pub finished : IdReading → Result (Unit {0}) Error
-finished (Waiting bytes others) = Err Disconnect
-finished (Heard text) = Ok tt
-finished Failed = Err Version
+abbrev pub end_answer : IdReading → Result (Unit {0}) Error
+end_answer (Waiting bytes others) = Err Disconnect
+end_answer (Heard text) = Ok tt
+end_answer Failed = Err Version

@@ -2,7 +2,7 @@
 
 ghost use Rattle.std.specs.Prelude.{◌≡◌, ◌++◌, ◌<◌, ◌^◌, List, ℕ, OnOk, OnErr, IfOk, IfErr};
 ghost use Rattle.ssh_wire.specs.Forms.{u32be};
-ghost use Rattle.ssh_wire.specs.Fields.{u32_at, Takes, IsRead};
+ghost use Rattle.ssh_wire.specs.Fields.{u32_at, TakesForm, IsRead};
 ghost use Rattle.ssh_wire.specs.declared.error.Error.TheVariants.{Memory};
 
 use crate::encoding::put_u32;
@@ -42,7 +42,7 @@ impl ChannelId {
 
     /// Reads a `uint32`. SshEncoding(Length) where fewer than four bytes are left; a refusal takes nothing.
     pub fn decode(r: &mut Reader<'_>) -> Result<ChannelId, Error>
-        ensures exact { Takes (λ c. c) (u32_at r.old) r.old result r.new }
+        ensures exact { TakesForm (λ c. c) (u32_at r.old) r.old result r.new }
         ensures spelled { IfOk result (λ c. r.old ≡ u32be c ++ r.new) }
         ensures again { (n : ℕ) (rest : List ℕ) → n < 2 ^ 32 → r.old ≡ u32be n ++ rest → IsRead (λ x. x) n rest result r.new }
     {

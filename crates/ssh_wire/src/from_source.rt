@@ -2,7 +2,7 @@
 
 ghost use Rattle.std.specs.Prelude.{◌≡◌, ◌<◌, ◌≤◌, ℕ, List, length, take, drop, slice_range, OnOk, IfOk, IfErr, IfSome, Ok};
 ghost use Rattle.ssh_wire.specs.Outside.{TakesNext};
-ghost use Rattle.ssh_wire.specs.Reading.{IsShort, finished};
+ghost use Rattle.ssh_wire.specs.Reading.{IsShort, end_answer};
 ghost use Rattle.ssh_wire.specs.FromSource.{Finds, Fails, NoneTaken};
 ghost use Rattle.ssh_wire.specs.declared.error.Error.TheVariants.{IO};
 ghost use Rattle.ssh_wire.specs.Outside.{Rose};
@@ -43,7 +43,7 @@ pub fn read_until_id<R: Source>(
     ensures cause { IfErr result (λ e. e ≡ IO → Rose (R.faults source.old) (R.faults source.new)) }
     ensures count { R.faults source.old ≤ R.faults source.new }
     ensures short { IsShort id.new }
-    ensures heard { OnOk result (finished id.new ≡ Ok tt) }
+    ensures heard { OnOk result (end_answer id.new ≡ Ok tt) }
     ensures ordered { IfOk result (λ place. place.0 ≤ place.1) }
     ensures within { IfOk result (λ place. place.1 ≤ length buffer.new) }
 {

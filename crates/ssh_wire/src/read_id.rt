@@ -60,7 +60,7 @@ impl Model for ReadSshIdBuffer {
 }
 
 impl ReadSshIdBuffer {
-    ghost use Rattle.ssh_wire.specs.Reading.{Waiting, Feeds, used_in, text_heard, held, waits, finished, IsShort};
+    ghost use Rattle.ssh_wire.specs.Reading.{Waiting, Feeds, used_in, text_heard, waiting_length, waits, end_answer, IsShort};
     ghost use Rattle.ssh_wire.specs.Stepping.{ReadsLine, PassesOther, read_in};
 
     /// A buffer that has read nothing.
@@ -113,7 +113,7 @@ impl ReadSshIdBuffer {
 
     /// How many bytes of a line that hasn't ended are held; none after an id or Version.
     pub fn waiting(&self) -> usize
-        ensures { result ≡ held self.now }
+        ensures { result ≡ waiting_length self.now }
     {
         match self.stage {
             Stage::Reading => self.len,
@@ -134,7 +134,7 @@ impl ReadSshIdBuffer {
     /// What is answered where nothing more comes: nothing after an id, Version after Version, else
     /// Disconnect.
     pub fn finish(&self) -> Result<(), Error>
-        ensures { result ≡ finished self.now }
+        ensures { result ≡ end_answer self.now }
     {
         match self.stage {
             Stage::Reading => Err(Error::Disconnect),

@@ -2,7 +2,7 @@
 
 ghost use Rattle.std.specs.Prelude.{◌≡◌, ◌≤◌, ◌⊎◌, ℕ, List, [], length, slice_range, true, false, Ok, Err, IsOk, IfOk, IfErr, OnOk, IfSome};
 ghost use Rattle.ssh_wire.specs.Outside.{Rose};
-ghost use Rattle.ssh_wire.specs.Reading.{Waiting, IsShort, finished};
+ghost use Rattle.ssh_wire.specs.Reading.{Waiting, IsShort, end_answer};
 ghost use Rattle.ssh_wire.specs.FromSource.{IdRead, Finds, Fails, WhileWaiting, Repeats, HasId, RefusesId};
 ghost use Rattle.ssh_wire.specs.declared.error.Error.TheVariants.{IO};
 
@@ -80,7 +80,7 @@ impl<R: Source> SshRead<R> {
         ensures repeats { Repeats self.old.id self.old result self.new }
         ensures cause { IfErr result (λ e. e ≡ IO → Rose (R.faults self.old.source) (R.faults self.new.source)) }
         ensures count { R.faults self.old.source ≤ R.faults self.new.source }
-        ensures heard { OnOk result (finished self.new.id ≡ Ok tt) }
+        ensures heard { OnOk result (end_answer self.new.id ≡ Ok tt) }
     {
         if !self.id.is_waiting() {
             return self.id.finish();
