@@ -93,12 +93,12 @@ def own_module(path):
 
 
 def is_bare_use(text, start, end):
-    """Whether a word isn't a record's field, where one is declared or set."""
+    """Whether a word stands in no comment, and isn't a record's field where one is declared or set."""
     line = text[text.rfind("\n", 0, start) + 1 : start]
-    behind = text[end : end + 40].lstrip()
     if line.strip() == "pub" and line[:1].isspace():
         return False
-    return not (line.strip() and re.match(r"=(?![=>])", behind) and "λ" not in line[-2:])
+    is_set = re.match(r"\s*=(?![=>])", text[end : end + 40])
+    return "--" not in line and not (is_set and line and not line.endswith("let "))
 
 
 def replaced(text, names):

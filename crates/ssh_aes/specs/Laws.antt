@@ -38,7 +38,7 @@ pub record ClosesWell (r : Running) : Type 0 where
   pub leaves : (c : List ℕ) → AreBytes c → running_after r (unmasked_text r c) ≡ running_past r c
   pub early : (c x : List ℕ) → shortest_text r ≤ length c → 16 ≤ length (c ++ x) → take 4 (unmasked_text r (take 16 (c ++ x))) ≡ take 4 (unmasked_text r c)
 
--- a front of whole blocks of a masked_text text is the masked_text front
+-- a front of whole blocks of a masked text is the masked front
 abbrev pub FrontsKept : Type 0
 FrontsKept = (r : Running) (k : ℕ) (t : List ℕ) → take (16 * k) (masked_text r t) ≡ masked_text r (take (16 * k) t)
 

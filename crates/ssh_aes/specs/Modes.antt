@@ -37,7 +37,7 @@ counter_text key iv place text =
 abbrev pub chained_block : List ℕ → List ℕ → List ℕ → List ℕ
 chained_block key last text = aes key (block_sum (block text) (block last))
 
--- n blocks of a text, chained_text; the rest stays as it is
+-- n blocks of a text, chained; the rest stays as it is
 unfoldable pub chained_text : List ℕ → List ℕ → ℕ → List ℕ → List ℕ
 chained_text key last zero text = text
 chained_text key last (suc n) text =

@@ -8,7 +8,7 @@ pub record CtrState : Type 0 where
   pub iv : List ℕ
   pub place : ℕ
 
--- cbc_running mode: the key, and the cipher block before the next
+-- chaining mode: the key, and the cipher block before the next
 pub record CbcState : Type 0 where
   pub key : List ℕ
   pub last : List ℕ

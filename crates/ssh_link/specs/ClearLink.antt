@@ -24,7 +24,7 @@ pub record IsFresh (id : SshId) (side : ClearEnd) : Type 0 where
   pub delivered : side.receiver.delivered.items ≡ []
   pub taken : side.taken ≡ 0
 
--- a payload was sealed_packet behind what the side sent before
+-- a payload was sealed behind what the side sent before
 pub record Submits (old : ClearEnd) (payload : List ℕ) (new : ClearEnd) : Type 0 where
   pub output : new.writer.output ≡ old.writer.output ++ sealed_packet Clear old.writer.number (clear_item payload)
   pub number : new.writer.number ≡ next_number old.writer.number

@@ -1,9 +1,12 @@
 //! The words that the program was called with.
 
-ghost use Rattle.std.specs.Prelude.{◌≡◌, ◌↔◌, ℕ, List, IsTrue};
+ghost use Rattle.std.specs.Prelude.{◌≡◌, ◌↔◌, ℕ, List, IsTrue, IfOk};
 ghost use Rattle.std.specs.String.{string_bytes};
-ghost use Rattle.ssh_link.specs.Program.{IsCommand};
+ghost use Rattle.ssh_link.specs.Program.{AreWords, IsCommand};
 
+use std::alloc::{AllocError, Global};
+use std::env::Args;
+use std::io;
 use std::marker::Model;
 
 /// A word, seen as its bytes in UTF-8.
@@ -30,6 +33,30 @@ impl Word {
     {
         self.0.as_str()
     }
+}
+
+/// What is written where the words are no command.
+pub const USAGE: &[u8] = b"usage\n";
+
+/// The words behind the program's name; none where an argument isn't UTF-8, since no command has such a word.
+/// OutOfMemory where the arguments or the words had no memory.
+pub fn words_of(
+    alloc: Global,
+    arguments: io::Result<Args<Global>>,
+) -> Result<Vec<Word>, AllocError>
+    ensures { IfOk result (λ words. AreWords arguments words.items) }
+{
+    let mut words = Vec::new(alloc);
+    match arguments {
+        Ok(arguments) => {
+            for argument in arguments.skip(1) {
+                words.push(Word::new(argument))?;
+            }
+        }
+        Err(error) if error.kind() == io::ErrorKind::OutOfMemory => return Err(AllocError),
+        Err(_) => {}
+    }
+    Ok(words)
 }
 
 /// Whether these are the words of the one command.

@@ -58,14 +58,14 @@ other_key kind key front short same =
     let e = other_is kind key short in
     rw e (front_filled 128 (block_length kind) key front same short b.1)
 
--- one more byte bytes_xor
+-- one more byte combined
 pub combined_more : (byte : ℕ) (xs ys : List ℕ) (i : ℕ) → i < length xs → i < length ys → ys ≡ bytes_xor byte (take i xs) ++ drop i xs →
     set ys i (bit_xor (get_or ys i 0) byte) ≡ bytes_xor byte (take (i + 1) xs) ++ drop (i + 1) xs
 unfolding bytes_xor
 combined_more byte xs ys i lt within so_far =
     map_over_more (λ b. bit_xor b byte) xs ys i (get_or ys i 0) lt so_far (get_or_default ys i 0 (get_or ys i 0) within)
 
--- a front of bytes_xor bytes
+-- a front of combined bytes
 pub combined-taken : (byte n : ℕ) (bytes : List ℕ) → take n (bytes_xor byte bytes) ≡ bytes_xor byte (take n bytes)
 unfolding bytes_xor
 combined-taken byte n bytes = take-map (λ b. bit_xor b byte) n bytes

@@ -12,7 +12,7 @@ short_key kind key = if nat_lt (block_length kind) (length key) then digest_of k
 unfoldable pub block_key : DigestKind → List ℕ → List ℕ
 block_key kind key = short_key kind key ++ zeros (block_length kind - length (short_key kind key))
 
--- each byte bytes_xor with the same byte by exclusive or
+-- each byte combined with the same byte by exclusive or
 unfoldable pub bytes_xor : ℕ → List ℕ → List ℕ
 bytes_xor byte bytes = map (λ b. bit_xor b byte) bytes
 

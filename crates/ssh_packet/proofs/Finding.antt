@@ -106,7 +106,7 @@ opened_text s number n t packet text rest old front behind tag right same =
     right_tag s number n (take (4 + n) old) (drop (4 + n) old) given
     ∙ (ap (λ x. front_parts n x (drop (tag_size s) (drop (4 + n) old))) (ap (text_in s) (sym front) ∙ sym same) ∙ ap (λ x. front_parts n text (drop (tag_size s) x)) (sym behind))
 
--- ---- a packet that is front_if_whole where it stands
+-- ---- a packet that is opened where it stands
 
 twice : (m end : ℕ) (bytes : List ℕ) → m ≤ end → take m (take end bytes) ≡ take m bytes
 twice m end bytes h = grind (arith, common_steps)

@@ -83,7 +83,7 @@ drop_headed t u h = subst (λ n. drop n (take 4 t ++ u) ≡ u) (length_take4 t h
 rejoined : (t u v : List ℕ) → 4 ≤ length t → u ≡ take 4 t → v ≡ drop 4 t → u ++ v ≡ t
 rejoined t u v h e f = ap (λ x. x ++ v) e ∙ (ap (λ x. take 4 t ++ x) f ∙ take-append-drop 4 t)
 
--- decrypted_text, a text is what it was
+-- decrypted, a text is what it was
 decrypted_back : (etm : Bool) (r : Running) (t : List ℕ) → AreBytes t → 4 ≤ length t → decrypted_text etm r (body_by etm r t) ≡ t
 unfolding body_by
 decrypted_back true r t b h =
@@ -95,7 +95,7 @@ unfolding body
 text_back Clear t b h = refl
 text_back (Block r mac) t b h = decrypted_back (is_encrypt_then_mac mac) r t b h
 text_back (Gcm key nonce) t b h =
-    let hidden = gcm_text key nonce (take 4 t) (drop 4 t) in
+    let encrypted_part = gcm_text key nonce (take 4 t) (drop 4 t) in
     rejoined t _ _ h (take_headed t encrypted_part h)
     (ap (λ a. gcm_plain key nonce a (drop 4 (take 4 t ++ encrypted_part))) (take_headed t encrypted_part h)
     ∙ (ap (gcm_plain key nonce (take 4 t)) (drop_headed t encrypted_part h) ∙ (gcm_well key nonce).opens (take 4 t) (drop 4 t) (AreBytes-drop 4 t b)))
@@ -111,11 +111,11 @@ unfolding body tag_made
 tag_back Clear number t b h = refl
 tag_back (Block r mac) number t b h = ap (tag_of mac number) (covered_back (is_encrypt_then_mac mac) r t b)
 tag_back (Gcm key nonce) number t b h =
-    let hidden = gcm_text key nonce (take 4 t) (drop 4 t) in
+    let encrypted_part = gcm_text key nonce (take 4 t) (drop 4 t) in
     ap (λ a. cipher_tag key nonce a (drop 4 (take 4 t ++ encrypted_part))) (take_headed t encrypted_part h)
     ∙ ap (cipher_tag key nonce (take 4 t)) (drop_headed t encrypted_part h)
 
--- front_if_whole, it leaves what sealing it did
+-- opened, it leaves what sealing it did
 passed_back : (etm : Bool) (r : Running) (t : List ℕ) → 4 ≤ length t → running_past r (encrypted_part etm (body_by etm r t)) ≡ running_after r (encrypted_part etm t)
 unfolding body_by
 passed_back true r t h = ap (running_past r) (drop_headed t (masked_text r (drop 4 t)) h) ∙ (opens_well r).leaves (drop 4 t)
@@ -156,7 +156,7 @@ states_agree s number item rest =
 whole_is : (item : Item) (rest p q : List ℕ) → p ≡ item.payload → q ≡ item.padding → Whole (record { payload = p; padding = q }) rest ≡ Whole item rest
 whole_is item rest p q e f = ap (λ i. Whole i rest) (item_alike (record { payload = p; padding = q }) item e f)
 
--- a framed_text text, taken apart
+-- a framed text, taken apart
 parted_framed : (item : Item) (rest : List ℕ) → 0 < length item.payload → front_parts (packet_length item) (framed_text item) rest ≡ Whole item rest
 unfolding framed_text
 parted_framed item rest h =
@@ -199,7 +199,7 @@ good_length s item h =
     three_false (nat_lt 262177 (packet_length item)) (nat_lt (packet_length item + 4 + tag_size s) (probe_length s)) (nat_lt (packet_length item + 4) (shortest_packet s))
     (not_below 262177 (packet_length item) h.short) (not_below _ _ h.probed) (not_below _ _ h.shown)
 
--- what its tag belongs to is decrypted_text
+-- what its tag belongs to is decrypted
 checked_whole : (s : Sealing) (number : ℕ) (item : Item) (rest : List ℕ) → IsAdmissible s item → front_if_tagged s number (packet_length item) (body s (framed_text item)) (tag_made s number (framed_text item) ++ rest) ≡ Whole item rest
 checked_whole s number item rest h =
     let t = framed_text item in

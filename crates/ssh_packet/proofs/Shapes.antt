@@ -37,7 +37,7 @@ bytes_u32 n = AreBytes-four (n / 16777216 % 256) (n / 65536 % 256) (n / 256 % 25
 pub u32_injective : (m n : ℕ) → m < 2 ^ 32 → n < 2 ^ 32 → to_be_bytes w32 m ≡ to_be_bytes w32 n → m ≡ n
 u32_injective m n hm hn e = sym (from_be_bytes-to_be_bytes_4 m hm) ∙ (ap (from_be_bytes w32) e ∙ from_be_bytes-to_be_bytes_4 n hn)
 
--- ---- framed_text texts
+-- ---- framed texts
 
 pair_alike : (p q r s : List ℕ) → p ≡ q → r ≡ s → (let t : List ℕ × List ℕ = (p, r) in t) ≡ (q, s)
 pair_alike p q r s e f = cc
@@ -99,7 +99,7 @@ clear_shape = record {
   injective = λ s t os ot h e. e;
 }
 
--- masked_text, and then a tag that the text determines and whose length is fixed
+-- masked, and then a tag that the text determines and whose length is fixed
 masked_shape : (r : Running) → RunsWell r → (tag : List ℕ → List ℕ) → ((s t : List ℕ) → length (tag s) ≡ length (tag t)) → Shape (IsText (shortest_text r)) (λ t. masked_text r t ++ tag t)
 masked_shape r w tag fixed = record {
   front = λ s t x y os ot e. w.front s t (tag s ++ x) (tag t ++ y) os.bytes ot.bytes os.long ot.long (sym (append_assoc (masked_text r s) (tag s) x) ∙ (e ∙ append_assoc (masked_text r t) (tag t) y));

@@ -1,4 +1,4 @@
--- What a reader finds is a packet that was sealed_packet: its bytes stand at the front.
+-- What a reader finds is a packet that was sealed: its bytes stand at the front.
 use Rattle.std.proofs.Common.{◌≡◌, ℕ, ◌+◌, ◌-◌, ◌<◌, ◌≤◌, List, [], ◌∷◌, ◌++◌, length, take, drop, slice_index, refl, sym, ◌∙◌, ap, subst, arith, Bool, true, false, if◌then◌else◌, ◌||◌, nat_lt, append_assoc, append-nil, length-drop}
 use Rattle.std.proofs.lemmas.Bool.Decides.{nat_tests}
 use Rattle.std.proofs.lemmas.Grind.{common_steps}
@@ -20,7 +20,7 @@ use Rattle.ssh_packet.proofs.Shapes.{length_take4}
 use Rattle.ssh_packet.specs.Front.{Front, Whole, Unfinished, Refused, probe_text, length_in, is_bad_length, decrypted_text, text_in, tagged_text, tag_for, front_parts, front_if_tagged, front_of, key_behind}
 use Rattle.ssh_packet.specs.Sealing.{Item, Sealing, Clear, Block, Gcm, framed_text, packet_length, sealed_text, text_with_tag, sealed_packet, moved_on, probe_length, shortest_encrypted, shortest_packet, tag_size, IsAdmissible, AreBytes}
 
--- ---- what was opened from any bytes is sealed_packet to them
+-- ---- what was opened from any bytes is sealed to them
 
 bytes_take : (t : List ℕ) (k : ℕ) → AreBytes t → AreBytes (take k t)
 bytes_take t k h i = by_place (nat_lt i k) refl where
@@ -92,7 +92,7 @@ shown_text (Block r mac) bytes k four whole long shown = ap (from_be_bytes w32) 
 shown_text (Gcm key nonce) bytes k four whole long shown =
     ap (from_be_bytes w32) (take_headed (take k bytes) _ (omega (arith, length-take-le k bytes whole)) ∙ take4_front bytes k four)
 
--- ---- a text taken apart is framed_text so
+-- ---- a text taken apart is framed so
 
 -- the parts of a text of packet length n with so much padding
 abbrev part_of : ℕ → ℕ → List ℕ → Item
@@ -179,7 +179,7 @@ found s number n padding bytes b long shown good whole tag at fits =
         payload = omega (arith, lengths.0);
         padding = omega (arith, lengths.1, at, tb 4);
         short = omega (arith, total, good_short);
-        probe_text = omega (arith, total, good_probed);
+        probed = omega (arith, total, good_probed);
         shown = omega (arith, total, good_shown);
         payload_bytes = bytes_take (drop 5 text) (n - 1 - padding) (AreBytes-drop 5 text tb);
         padding_bytes = AreBytes-drop (n - 1 - padding) (drop 5 text) (AreBytes-drop 5 text tb);
@@ -216,6 +216,6 @@ front_sounds s number bytes b =
 pub front_sound : (s : Sealing) (number : ℕ) (bytes rest : List ℕ) (item : Item) → AreBytes bytes → front_of s number bytes ≡ Whole item rest → IsSealed s number bytes item rest
 front_sound s number bytes rest item b e = subst (Sounds s number bytes) e (front_sounds s number bytes b)
 
--- behind what was sealed_packet, a reader opens with what the writer seals under
+-- behind what was sealed, a reader opens with what the writer seals under
 pub moved_sound : (s : Sealing) (number : ℕ) (bytes rest : List ℕ) (item : Item) (s' : Sealing) → bytes ≡ sealed_packet s number item ++ rest → s' ≡ key_behind s bytes rest → s' ≡ moved_on s item
 moved_sound s number bytes rest item s' e h = h ∙ (ap (λ b. key_behind s b rest) e ∙ states_agree s number item rest)

@@ -18,7 +18,7 @@ pub data Front : Type 0 where
   Unfinished : Front
   Refused : (fault : Fault) → Front
 
--- the first bytes, decrypted_text where the packet length is encrypted
+-- the first bytes, decrypted where the packet length is encrypted
 abbrev pub probe_text : Bool → Running → List ℕ → List ℕ
 probe_text true running bytes = bytes
 probe_text false running bytes = unmasked_text running (take 16 bytes)
@@ -42,7 +42,7 @@ text_in Clear packet = packet
 text_in (Block running mac) packet = decrypted_text (is_encrypt_then_mac mac) running packet
 text_in (Gcm key nonce) packet = take 4 packet ++ gcm_plain key nonce (take 4 packet) (drop 4 packet)
 
--- what a direction is front_if_whole with after a packet without its tag
+-- what a direction is opened with after a packet without its tag
 abbrev pub opened_past : Sealing → List ℕ → Sealing
 opened_past Clear packet = Clear
 opened_past (Block running mac) packet = Block (running_past running (encrypted_part (is_encrypt_then_mac mac) packet)) mac
@@ -59,19 +59,19 @@ tag_for Clear number packet = []
 tag_for (Block running mac) number packet = tag_of mac number (tagged_text (is_encrypt_then_mac mac) running packet)
 tag_for (Gcm key nonce) number packet = cipher_tag key nonce (take 4 packet) (drop 4 packet)
 
--- a packet and its tag, front_parts
+-- a packet and its tag, parted
 abbrev pub packet_of : Sealing → List ℕ → List ℕ
 packet_of sealing bytes = take (length bytes - tag_size sealing) bytes
 
 abbrev pub tag_behind : Sealing → List ℕ → List ℕ
 tag_behind sealing bytes = drop (length bytes - tag_size sealing) bytes
 
--- what a direction is front_if_whole with behind the packet that stands before the rest
+-- what a direction is opened with behind the packet that stands before the rest
 abbrev pub key_behind : Sealing → List ℕ → List ℕ → Sealing
 key_behind sealing bytes rest = opened_past sealing (packet_of sealing (take (length bytes - length rest) bytes))
 
--- what a packet without its tag is, and what its direction is front_if_whole with, where the tag was wrong: under a MAC over
--- the packet in clear it was decrypted_text before, else both are as they were
+-- what a packet without its tag is, and what its direction is opened with, where the tag was wrong: under a MAC over
+-- the packet in clear it was decrypted before, else both are as they were
 abbrev pub refused_text : Sealing → List ℕ → List ℕ
 refused_text Clear packet = packet
 refused_text (Block running mac) packet = if is_encrypt_then_mac mac then packet else unmasked_text running packet

@@ -14,11 +14,11 @@ OnePacket = (sealing : Sealing) (number : ℕ) (a b : Item) (x y : List ℕ) →
 abbrev pub FrontWhole : Type 0
 FrontWhole = (sealing : Sealing) (number : ℕ) (item : Item) (rest : List ℕ) → IsAdmissible sealing item → front_of sealing number (sealed_packet sealing number item ++ rest) ≡ Whole item rest
 
--- and what the reader finds in bytes is an admissible packet that stands there sealed_packet
+-- and what the reader finds in bytes is an admissible packet that stands there sealed
 abbrev pub FrontSound : Type 0
 FrontSound = (sealing : Sealing) (number : ℕ) (bytes rest : List ℕ) (item : Item) → AreBytes bytes → front_of sealing number bytes ≡ Whole item rest → IsAdmissible sealing item × (bytes ≡ sealed_packet sealing number item ++ rest)
 
--- A packet and its tag that a framed text was sealed_packet to open to the text, and leave what sealing left.
+-- A packet and its tag that a framed text was sealed to open to the text, and leave what sealing left.
 abbrev pub OpensAgain : Type 0
 OpensAgain = (sealing : Sealing) (number : ℕ) (text packet tag : List ℕ) → AreBytes text → 4 ≤ length text → length packet ≡ length text → packet ++ tag ≡ sealed_text sealing number text → (tag ≡ tag_for sealing number packet) × (text_in sealing packet ≡ text) × (opened_past sealing packet ≡ moved_past sealing text)
 
@@ -26,7 +26,7 @@ OpensAgain = (sealing : Sealing) (number : ℕ) (text packet tag : List ℕ) →
 abbrev pub PairOpens : {S O : Type 0} → (S → Sealing) → (O → Sealing) → Type 0
 PairOpens {S} {O} sealing opening = (s : S) (o : O) (number : ℕ) (text packet tag : List ℕ) → sealing s ≡ opening o → AreBytes text → 4 ≤ length text → length packet ≡ length text → packet ++ tag ≡ sealed_text (sealing s) number text → (tag ≡ tag_for (opening o) number packet) × (text_in (opening o) packet ≡ text) × (opened_past (opening o) packet ≡ moved_past (sealing s) text)
 
--- behind a packet that was sealed_packet, what a reader opens with is what the writer seals under
+-- behind a packet that was sealed, what a reader opens with is what the writer seals under
 abbrev pub StatesAgree : Type 0
 StatesAgree = (sealing : Sealing) (number : ℕ) (item : Item) (rest : List ℕ) → key_behind sealing (sealed_packet sealing number item ++ rest) rest ≡ moved_on sealing item
 
@@ -48,7 +48,7 @@ PlainReading = (ends_by : List Item → Item → Bool) (openings : List Opening)
 abbrev pub ReadsWhatWasWritten : Type 0
 ReadsWhatWasWritten = (ends_by : List Item → Item → Bool) (k : ℕ) (read written : List Opening) (a b : List Item) (fed rest wire more : List ℕ) → IsPlain ends_by [] b → AgreeFor k read written → ReadsBy ends_by [] (Some (first_place read)) a fed rest → Reads (Some (first_place written)) b wire [] → fed ++ more ≡ wire → SameFor (Some k) a b
 
--- what of a packet is filled_length up: all of a packet in clear, all that is encrypted of the others
+-- what of a packet is filled up: all of a packet in clear, all that is encrypted of the others
 abbrev pub filled_length : Sealing → ℕ → ℕ → ℕ
 filled_length Clear n padding = 5 + n + padding
 filled_length (Block running mac) n padding = if is_encrypt_then_mac mac then 1 + n + padding else 5 + n + padding

@@ -1,4 +1,4 @@
--- One binary packet: what a direction is sealed_packet under, the bytes of a packet, and what comes after it
+-- One binary packet: what a direction is sealed under, the bytes of a packet, and what comes after it
 -- (RFC 4253 section 6).
 use Rattle.std.specs.Prelude.{◌≡◌, ℕ, ◌+◌, ◌-◌, ◌%◌, ◌^◌, ◌<◌, ◌≤◌, Bool, true, false, nat_lt, if◌then◌else◌, List, [], ◌∷◌, ◌++◌, length, take, drop, replicate, refl}
 use Rattle.std.specs.Int.{w128, from_be_bytes, to_be_bytes}
@@ -14,7 +14,7 @@ pub record Item : Type 0 where
   pub payload : List ℕ
   pub padding : List ℕ
 
--- What a direction is sealed_packet under: nothing, a block cipher with a MAC, or Galois counter mode.
+-- What a direction is sealed under: nothing, a block cipher with a MAC, or Galois counter mode.
 pub data Sealing : Type 0 where
   Clear : Sealing
   Block : (running : Running) (mac : MacOf) → Sealing
@@ -39,7 +39,7 @@ abbrev pub text_with_tag : Bool → (List ℕ → List ℕ) → (List ℕ → Li
 text_with_tag true mask tag text = take 4 text ++ (mask (drop 4 text) ++ tag (take 4 text ++ mask (drop 4 text)))
 text_with_tag false mask tag text = mask text ++ tag text
 
--- a framed_text text as it is sealed_packet, with its tag. In Galois counter mode the packet length is the additional
+-- a framed text as it is sealed, with its tag. In Galois counter mode the packet length is the additional
 -- text (RFC 5647 section 7.3).
 abbrev pub sealed_text : Sealing → ℕ → List ℕ → List ℕ
 sealed_text Clear number text = text
@@ -62,14 +62,14 @@ encrypted_part false text = text
 unfoldable pub next_nonce : List ℕ → List ℕ
 next_nonce nonce = drop 4 (to_be_bytes w128 ((from_be_bytes w128 (replicate 4 0 ++ nonce) + 1) % 2 ^ 96))
 
--- what the direction is sealed_packet under after a framed_text text: block ciphers run on over all packets (RFC 4253
+-- what the direction is sealed under after a framed text: block ciphers run on over all packets (RFC 4253
 -- section 6.3)
 abbrev pub moved_past : Sealing → List ℕ → Sealing
 moved_past Clear text = Clear
 moved_past (Block running mac) text = Block (running_after running (encrypted_part (is_encrypt_then_mac mac) text)) mac
 moved_past (Gcm key nonce) text = Gcm key (next_nonce nonce)
 
--- what it is sealed_packet under after a packet
+-- what it is sealed under after a packet
 abbrev pub moved_on : Sealing → Item → Sealing
 moved_on sealing item = moved_past sealing (framed_text item)
 
@@ -119,7 +119,7 @@ pub record IsAdmissible (sealing : Sealing) (item : Item) : Type 0 where
 
 -- ---- padding
 
--- padding is at shortest_text four bytes
+-- padding is at least four bytes
 abbrev pub at_least_four : ℕ → ℕ → ℕ
 at_least_four unit size = if nat_lt size 4 then size + unit else size
 

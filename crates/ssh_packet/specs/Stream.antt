@@ -48,7 +48,7 @@ abbrev pub next_place : List Opening → ℕ → Option Place
 next_place [] n = None
 next_place (o ∷ openings) n = Some (record { sealing = o.sealing; number = kept_number o.strict n; openings = openings })
 
--- where a direction stands behind a packet: only the type of the message matters beside what it is sealed_packet under
+-- where a direction stands behind a packet: only the type of the message matters beside what it is sealed under
 abbrev pub place_after : Place → Item → Option Place
 place_after at i =
     if is_newkeys i then next_place at.openings (next_number at.number)

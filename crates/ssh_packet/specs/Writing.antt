@@ -46,7 +46,7 @@ abbrev pub writer_after : Writer → List ℕ → Stream → Writer
 writer_after w [] stream = w
 writer_after w (b ∷ rest) stream = with_item w (item_of w.sealing (b ∷ rest) stream)
 
--- a payload was writer_after; nothing is said of the room
+-- a payload was sent; nothing is said of the room
 abbrev pub Sends : Writer → List ℕ → Stream → Writer → Type 0
 Sends old payload stream new = new ≡ record (writer_after old payload stream) { room = new.room }
 
@@ -81,7 +81,7 @@ pub record RefusesPayload {T : Type 0} (old : Writer) (before after : Stream) (e
   pub unchanged : SameButRoom old new
   pub undrawn : after ≡ before
 
--- a closure's own error is the answer; where it has none, its payload is sealed_packet
+-- a closure's own error is the answer; where it has none, its payload is sealed
 abbrev pub Follows : {T : Type 0} → Result (Unit {0}) Error → List ℕ → Writer → Stream → Stream → Result T Error → Writer → Type 0
 Follows (Err error) payload old before after result new = RefusesPayload old before after error result new
 Follows (Ok u) payload old before after result new = Seals old payload before after result new

@@ -107,6 +107,7 @@ impl<C: PacketLengthProbe, M: Mac> cipher::OpeningKey for OpeningKey<C, M> {
         }
     }
 
+    #[tactic(auto, using(ssh_mac::proofs::Lemmas::taken_is_tag, ssh_mac::proofs::Lemmas::own_tag_taken))]
     fn open_in_place(&mut self, seqn: u32, packet: &mut [u8], tag: &[u8]) -> Result<(), OpenError> {
         if self.mac.is_etm() {
             if !self.mac.verify(seqn, packet, tag) {

@@ -60,7 +60,7 @@ decided_stays zero b q decided = stays_by zero b q (λ n w g. refl) (line_of b) 
 decided_stays (suc k) b q decided =
     stays_by (suc k) b q (λ n w g. ap (λ l. found_behind n (id_of k l)) (drop-append-le n b q w) ∙ ap (found_behind n) (decided_stays k (drop n b) q (λ z. g (ap (found_behind n) z)))) (line_of b) refl decided
 
--- what is found_behind a line
+-- what is behind a line
 behind_id : (n : ℕ) (f : IdFound) (t : List ℕ) (e : ℕ) → found_behind n f ≡ Id t e → (k : ℕ) × (f ≡ Id t k) × (n + k ≡ e)
 behind_id n NotYet t e h = absurd (cc)
 behind_id n Version t e h = absurd (cc)
@@ -74,7 +74,7 @@ behind_not n NotYet h = refl
 behind_not n Version h = cc
 behind_not n (Id s k) h = cc
 
--- an id line that bytes complete ends found_behind what stood before them
+-- an id line that bytes complete ends behind what stood before them
 next_beyond : (left : ℕ) (b : List ℕ) (n : ℕ) (t : List ℕ) (e : ℕ) → next left b n ≡ Id t e → n ≤ e
 next_beyond zero b n t e h = absurd (cc)
 next_beyond (suc k) b n t e h = let f = behind_id n (id_of k (drop n b)) t e h in omega (arith, f.2)
@@ -109,7 +109,7 @@ beyond (suc k) b q t e h f =
     let more : length (drop n b) ≤ found.0 = beyond k (drop n b) q t found.0 (behind_not n (id_of k (drop n b)) g) rest in
     omega (arith, length-drop n b, found.2)) (line_of b) refl h f
 
--- a piece fed to what is left, as one fed found_behind all bytes
+-- a piece fed to what is left, as one fed behind all bytes
 decides_before : (size n : ℕ) (found : IdFound) (left : IdReading) (r : Result IdProgress Error) (new : IdReading) → n ≤ size → Decides found (size - n) left r new → Decides (found_behind n found) size left r new
 decides_before size n NotYet left r new w h = h
 decides_before size n Version left r new w h = h
@@ -174,7 +174,7 @@ fed_twice allow (Waiting w o) mid new p q r h f =
 fed_twice allow (Heard t) mid new p q r h f = absurd (let z = h.0 in cc)
 fed_twice allow Failed mid new p q r h f = absurd (let z = h.0 in cc)
 
--- bytes found_behind what decided change nothing
+-- bytes behind what decided change nothing
 decided : (found : IdFound) (had : ℕ) (left new : IdReading) (r : Result IdProgress Error) → (r ≡ Ok progress.NotYet → ⊥) → Decides found had left r new → found ≡ NotYet → ⊥
 decided found had left new r not h e = let P : IdFound → Type 0 = λ f. Decides f had left r new in let k = subst P e h in not k.0
 

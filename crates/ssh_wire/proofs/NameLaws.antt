@@ -1,4 +1,4 @@
--- Names taken from a text and joined_names again.
+-- Names taken from a text and joined again.
 use Rattle.std.proofs.Common.{◌≡◌, ℕ, zero, suc, ◌+◌, ◌-◌, ◌&&◌, ◌<◌, ◌≤◌, Bool, true, false, nat_lt, nat_le, List, [], ◌∷◌, ◌++◌, length, take, drop, slice_index, get_or, Option, Some, None, Result, Ok, Err, ◌⊎◌, All, if◌then◌else◌, refl, sym, ap, ◌∙◌, inl, inr, append_assoc, arith}
 use Rattle.std.specs.List.{slice_split, list_all, position_or_len}
 use Rattle.std.specs.Prelude.{position}
@@ -36,7 +36,7 @@ joined_more (x ∷ xs) (suc j) d h =
     ∙ (joined_snoc x (get_or (x ∷ xs) (suc j) d) (take j xs)
     ∙ ap (λ t. joined_names (x ∷ take j xs) ++ behind_comma t (get_or (x ∷ xs) (suc j) d)) (sym behind))
 
--- a name behind those that were joined_names
+-- a name behind those that were joined
 pub joined_text : (xs : List (List ℕ)) (i : ℕ) (d name front old new : List ℕ) → i < length xs → name ≡ get_or xs i d → old ≡ front ++ joined_names (take i xs) → new ≡ old ++ behind_comma (nat_lt 0 i) name → new ≡ front ++ joined_names (take (i + 1) xs)
 joined_text xs i d name front old new h n o e =
     e ∙ (ap (λ l. l ++ behind_comma (nat_lt 0 i) name) o
@@ -103,7 +103,7 @@ pub names_of_some : (text : List ℕ) → 0 < length text → names_of text ≡ 
 names_of_some [] h = absurd (omega arith)
 names_of_some (b ∷ text) h = refl
 
--- names that were joined_names
+-- names that were joined
 no_last_comma : (text : List ℕ) → is_comma (slice_index text (length text - 1)) ≡ false → without_last_comma text ≡ text
 no_last_comma text h = ap (λ t. if t then take (length text - 1) text else text) (and_right (nat_lt 1 (length text)) (is_comma (slice_index text (length text - 1))) h)
 

@@ -50,7 +50,7 @@ abbrev pub FindsForm : {X Y R : Type 0} → (X → Y) → (R → List ℕ) → R
 FindsForm view bytes read (Ok x) = read ≡ Ok (view x.0, bytes x.1)
 FindsForm view bytes read (Err e) = read ≡ Err e
 
--- a fault as it is answer_of
+-- a fault as it is answered
 abbrev pub answer_of : {Y : Type 0} → Result Y EncodingFault → Result Y Error
 answer_of (Ok y) = Ok y
 answer_of (Err f) = Err (SshEncoding f)

@@ -33,11 +33,11 @@ unsigned (b ∷ rest) = if nat_lt b 128 then b ∷ rest else 0 ∷ b ∷ rest
 abbrev pub mpint : List ℕ → List ℕ
 mpint bytes = string (unsigned (magnitude bytes))
 
--- the names joined_names by commas
+-- the names joined by commas
 abbrev pub joined_names : List (List ℕ) → List ℕ
 joined_names names = join_with_byte 44 names
 
--- name-list: a string of names joined_names by commas
+-- name-list: a string of names joined by commas
 abbrev pub name_list : List (List ℕ) → List ℕ
 name_list names = string (joined_names names)
 

@@ -37,7 +37,7 @@ OneMpint = (s t : List ℕ) → AreBytes s → AreBytes t → number s ≡ numbe
 abbrev pub EqualMpints : Type 0
 EqualMpints = (s t : List ℕ) → mpint s ≡ mpint t → number s ≡ number t
 
--- names that were joined_names are read again
+-- names that were joined are read again
 abbrev pub JoinedRead : Type 0
 JoinedRead = (names : List (List ℕ)) → AreNames names → names_of (joined_names names) ≡ Ok names
 

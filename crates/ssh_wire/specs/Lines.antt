@@ -18,7 +18,7 @@ id_line (Raw text) = text
 abbrev pub is_line_end : ℕ → Bool
 is_line_end b = (b == 13) || (b == 10)
 
--- a byte before the rest of a text whose end is without_line_ends
+-- a byte before the rest of a text whose end is trimmed
 abbrev pub before_trimmed_rest : ℕ → List ℕ → List ℕ
 before_trimmed_rest b [] = if is_line_end b then [] else b ∷ []
 before_trimmed_rest b (c ∷ rest) = b ∷ c ∷ rest
@@ -33,12 +33,12 @@ abbrev pub id_text : SshId → List ℕ
 id_text (Standard text) = text
 id_text (Raw text) = without_line_ends text
 
--- found_behind the first LF of bytes that stand from place `at` on
+-- behind the first LF of bytes that stand from place `at` on
 abbrev pub lf_end : ℕ → List ℕ → Option ℕ
 lf_end at [] = None
 lf_end at (b ∷ rest) = if b == 10 then Some (at + 1) else lf_end (at + 1) rest
 
--- where the first line ends: found_behind the first LF that isn't its first byte
+-- where the first line ends: behind the first LF that isn't its first byte
 abbrev pub line_end : List ℕ → Option ℕ
 line_end [] = None
 line_end (b ∷ rest) = lf_end 1 rest
@@ -108,7 +108,7 @@ id-example : id_of 0 (codes "SSH-2.0-x" ++ line_ending ++ codes "ab") ≡ Id (co
 unfolding is_utf8 chars encode
 id-example = refl
 
--- an LF at the front belongs to the line found_behind it
+-- an LF at the front belongs to the line behind it
 lone-example : id_of 0 (10 ∷ codes "SSH-2.0-x" ++ line_ending) ≡ Version
 lone-example = refl
 

@@ -49,7 +49,7 @@ text_heard (Waiting bytes others) = []
 text_heard (Heard text) = text
 text_heard Failed = []
 
--- how many bytes of a line that hasn't ended are waiting_length
+-- how many bytes of a line that hasn't ended are held
 abbrev pub waiting_length : IdReading → ℕ
 waiting_length (Waiting bytes others) = length bytes
 waiting_length (Heard text) = 0

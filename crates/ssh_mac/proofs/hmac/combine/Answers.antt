@@ -1,4 +1,4 @@
--- One more byte is bytes_xor.
+-- One more byte is combined.
 use Rattle.std.proofs.Common.{refl, arith}
 use Rattle.ssh_mac.specs.Hmac.{bytes_xor}
 use Rattle.ssh_mac.proofs.BlockKey.{combined_more}

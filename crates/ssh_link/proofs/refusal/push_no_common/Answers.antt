@@ -2,7 +2,7 @@ use Rattle.std.proofs.Common.{codes, ◌≡◌, ◌++◌, ◌∙◌, ap}
 use Rattle.std.proofs.lemmas.Result.{on_ok_weaker}
 use Rattle.ssh_link.specs.Report.{kind_name, names_word}
 use Rattle.ssh_link.proofs.Names.{five_behind}
-use Rattle.ssh_link.proofs.print.push_no_common.Goals as goal
+use Rattle.ssh_link.proofs.refusal.push_no_common.Goals as goal
 
 pub returns-clause-ok : goal.returns-clause-ok
 returns-clause-ok c =

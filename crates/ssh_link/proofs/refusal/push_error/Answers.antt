@@ -1,7 +1,7 @@
 use Rattle.std.proofs.Common.{codes, decimal, ◌∙◌, ap, ◌++◌}
 use Rattle.std.proofs.lemmas.Result.{on_ok_weaker}
 use Rattle.ssh_link.proofs.Names.{two_behind}
-use Rattle.ssh_link.proofs.print.push_error.Goals as goal
+use Rattle.ssh_link.proofs.refusal.push_error.Goals as goal
 
 pub returns-in_ok-push_numbered-in-StrictKeyExchangeViolation-clause-ok : goal.returns-in_ok-push_numbered-in-StrictKeyExchangeViolation-clause-ok
 returns-in_ok-push_numbered-in-StrictKeyExchangeViolation-clause-ok c =
