@@ -2,9 +2,9 @@
 use Rattle.std.specs.Prelude.{◌≡◌, ℕ, ◌⊎◌, List, [], ◌∷◌, codes, drop, map, Option, Some, None, IfSome, Result, Ok, Err}
 use Rattle.std.specs.Global.{Global}
 use Rattle.std.specs.String.{string_bytes}
-use Rattle.std_alloc.specs.Vec.Iter.{into_iter_items}
-use Rattle.std_alloc.specs.declared.string.String.{String}
-use Rattle.std_alloc.specs.declared.vec.into_iter.IntoIter.{IntoIter}
+use Rattle.std.specs.Vec.Iter.{into_iter_items}
+use Rattle.std.specs.declared.string.String.{String}
+use Rattle.std.specs.declared.vec.IntoIter.{IntoIter}
 use Rattle.ssh_wire.specs.Outside.{Appends, Rose, AppendsFront}
 use Rattle.ssh_wire.specs.declared.error.Error.{Error}
 use Rattle.ssh_wire.specs.declared.ssh_id.SshId.{SshId}
@@ -22,7 +22,7 @@ use Rattle.ssh_link.specs.declared.step.ClearStep.{ClearStep}
 
 -- the words that a program was called with: those behind its name, or none where one of all isn't UTF-8
 abbrev pub AreWords : {E : Type 0} → Result (IntoIter (String Global) Global) E → List (List ℕ) → Type 0
-AreWords (Ok arguments) words = words ≡ drop 1 (map string_bytes (into_iter_items arguments))
+AreWords (Ok arguments) words = words ≡ map string_bytes (drop 1 (into_iter_items arguments))
 AreWords (Err e) words = words ≡ []
 
 -- the words of the one command

@@ -1,7 +1,8 @@
 //! The words that the program was called with.
 
-ghost use Rattle.std.specs.Prelude.{◌≡◌, ◌↔◌, ℕ, List, IsTrue, IfOk};
+ghost use Rattle.std.specs.Prelude.{◌≡◌, ◌↔◌, ℕ, List, map, IsTrue, IfOk};
 ghost use Rattle.std.specs.String.{string_bytes};
+ghost use Rattle.std.specs.Vec.Iter.{into_iter_items};
 ghost use Rattle.ssh_link.specs.Program.{AreWords, IsCommand};
 
 use std::alloc::{AllocError, Global};
@@ -46,15 +47,24 @@ pub fn words_of(
 ) -> Result<Vec<Word>, AllocError>
     ensures { IfOk result (λ words. AreWords arguments words.items) }
 {
-    let mut words = Vec::new(alloc);
     match arguments {
-        Ok(arguments) => {
-            for argument in arguments.skip(1) {
-                words.push(Word::new(argument))?;
-            }
+        Ok(mut arguments) => {
+            arguments.next();
+            words_in(alloc, arguments)
         }
-        Err(error) if error.kind() == io::ErrorKind::OutOfMemory => return Err(AllocError),
-        Err(_) => {}
+        Err(error) if error.kind() == io::ErrorKind::OutOfMemory => Err(AllocError),
+        Err(_) => Ok(Vec::new(alloc)),
+    }
+}
+
+/// Each argument as a word.
+fn words_in(alloc: Global, arguments: Args<Global>) -> Result<Vec<Word>, AllocError>
+    ensures { IfOk result (λ words. words.items ≡ map string_bytes (into_iter_items arguments)) }
+{
+    let mut words = Vec::new(alloc);
+    let mut rest = arguments;
+    while let Some(argument) = rest.next() {
+        words.push(Word::new(argument))?;
     }
     Ok(words)
 }

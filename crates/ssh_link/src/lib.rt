@@ -19,8 +19,6 @@ mod script;
 mod status;
 mod step;
 mod stream;
-#[cfg(test)]
-mod tests;
 mod words;
 
 pub use crate::adapters::{StdSink, StdSource};

@@ -2,7 +2,7 @@
 use Rattle.std.proofs.Common.{◌≡◌, ℕ, zero, suc, ◌+◌, ◌-◌, ◌<◌, ◌≤◌, Bool, true, false, List, [], ◌∷◌, ◌++◌, length, take, drop, Option, Some, None, Result, Ok, if◌then◌else◌, nat_lt, nat_le, refl, sym, ap, ◌∙◌, subst, append_assoc, length-append, length-drop, arith}
 use Rattle.std.proofs.lemmas.Bool.Decides.{nat_tests}
 use Rattle.std.proofs.lemmas.List.{take-append-le, drop-append-le}
-use Rattle.ssh_wire.specs.Lines.{IdFound, NotYet, Id, Version, found_behind, id_of, line_end, line_text, is_id_text, Line, Unfinished, IdLine, OtherLine, TooLong, line_to, line_of}
+use Rattle.ssh_wire.specs.Lines.{IdFound, NotYet, Id, Version, found_behind, id_of, line_end, line_text, is_id_text, Line, Unfinished, IdLine, OtherLine, TooLong, line_to, line_of, longest_line}
 use Rattle.ssh_wire.specs.Reading.{IdReading, Waiting, Heard, Failed, still_allowed, reading_left, Decides, Feeds}
 use Rattle.ssh_wire.specs.Stepping.{shifted_answer}
 use Rattle.ssh_wire.specs.declared.error.Error.{Error}
@@ -17,7 +17,7 @@ line_stays : (b q : List ℕ) (n : ℕ) → line_end b ≡ Some n → line_of (b
 line_stays b q n e =
     let within : n ≤ length b = line_end-within b n e in
     ap (line_to (b ++ q)) (line_end-stays b q n e)
-    ∙ (ap (λ l. if nat_lt 255 n then TooLong else if is_id_text (line_text l) then IdLine (line_text l) n else OtherLine n) (take-append-le n b q within)
+    ∙ (ap (λ l. if nat_lt longest_line n then TooLong else if is_id_text (line_text l) then IdLine (line_text l) n else OtherLine n) (take-append-le n b q within)
     ∙ ap (line_to b) (sym e))
 
 -- a line that is too long stays so
@@ -27,21 +27,21 @@ end_behind b q n some none e = let place = lf_end-within (length b) q n (sym (li
 long_stays : (b q : List ℕ) → line_of b ≡ TooLong → line_of (b ++ q) ≡ TooLong
 long_stays b q h = by_end_of (line_end b) refl h
   where
-    longer : 255 ≤ length b → (e : Option ℕ) → line_end b ≡ None → line_end (b ++ q) ≡ e → line_to (b ++ q) e ≡ TooLong
+    longer : longest_line ≤ length b → (e : Option ℕ) → line_end b ≡ None → line_end (b ++ q) ≡ e → line_to (b ++ q) e ≡ TooLong
     longer long None none f =
-        let more : nat_le 255 (length (b ++ q)) ≡ true = (let size = length-append b q in grind (arith, nat_tests)) in
+        let more : nat_le longest_line (length (b ++ q)) ≡ true = (let size = length-append b q in grind (arith, nat_tests)) in
         ap (λ t. if t then TooLong else Unfinished) more
     longer long (Some n) none f =
         let beyond : length b < n = end_behind b q n (omega arith) none f in
-        let more : nat_lt 255 n ≡ true = grind (arith, nat_tests) in
+        let more : nat_lt longest_line n ≡ true = grind (arith, nat_tests) in
         ap (λ t. if t then TooLong else if is_id_text (line_text (take n (b ++ q))) then IdLine (line_text (take n (b ++ q))) n else OtherLine n) more
 
-    by_length : (t : Bool) → nat_le 255 (length b) ≡ t → line_end b ≡ None → (if t then TooLong else Unfinished) ≡ TooLong → line_of (b ++ q) ≡ TooLong
+    by_length : (t : Bool) → nat_le longest_line (length b) ≡ t → line_end b ≡ None → (if t then TooLong else Unfinished) ≡ TooLong → line_of (b ++ q) ≡ TooLong
     by_length true f e k = longer (grind (arith, nat_tests)) (line_end (b ++ q)) e refl
     by_length false f e k = cc
 
     by_end_of : (e : Option ℕ) → line_end b ≡ e → line_to b e ≡ TooLong → line_of (b ++ q) ≡ TooLong
-    by_end_of None e k = by_length (nat_le 255 (length b)) refl e k
+    by_end_of None e k = by_length (nat_le longest_line (length b)) refl e k
     by_end_of (Some n) e k = line_stays b q n e ∙ h
 
 -- what was decided stays so

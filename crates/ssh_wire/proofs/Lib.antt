@@ -11,3 +11,4 @@ pub mod Numbers
 pub mod Sources
 pub mod Trimming
 pub mod Utf8
+pub mod Written

@@ -3,7 +3,7 @@ use Rattle.std.proofs.Common.{◌≡◌, ℕ, zero, suc, ◌+◌, ◌-◌, ◌<�
 use Rattle.std.proofs.lemmas.Bool.Decides.{nat_tests}
 use Rattle.std.proofs.Math.Seq.{drop-append-add, take-length}
 use Rattle.std.proofs.lemmas.List.{drop-drop, length-drop}
-use Rattle.ssh_wire.specs.Lines.{IdFound, NotYet, Id, Version, found_behind, judged, id_of, line_end, line_text, is_id_text, Line, Unfinished, IdLine, OtherLine, TooLong, line_to, line_of, other_line_limit}
+use Rattle.ssh_wire.specs.Lines.{IdFound, NotYet, Id, Version, found_behind, found_by_line, id_of, line_end, line_text, is_id_text, Line, Unfinished, IdLine, OtherLine, TooLong, line_to, line_of, longest_line, other_line_limit}
 use Rattle.ssh_wire.specs.Reading.{IdReading, Waiting, Heard, Failed, still_allowed, by_end, reading_left, Decides, Feeds}
 use Rattle.ssh_wire.specs.Stepping.{ReadsTo, ReadsLine, may_pass, PassesOther, shifted_answer, GoesOn}
 use Rattle.ssh_wire.specs.declared.error.Error.{Error}
@@ -13,41 +13,22 @@ use Rattle.ssh_wire.specs.declared.read_id.IdProgress.TheVariants as progress
 use Rattle.ssh_wire.specs.declared.read_id.LineRead.{LineRead}
 use Rattle.ssh_wire.specs.declared.read_id.LineRead.TheVariants as read
 
-abbrev pub from_line : (ℕ → IdFound) → Line → IdFound
-from_line other Unfinished = NotYet
-from_line other (IdLine text end) = Id text end
-from_line other (OtherLine end) = other end
-from_line other TooLong = Version
-
 -- what an other line of n bytes leads to
 abbrev pub next : ℕ → List ℕ → ℕ → IdFound
 next zero bytes n = Version
 next (suc left) bytes n = found_behind n (id_of left (drop n bytes))
 
-judged_line : (bytes : List ℕ) (other : ℕ → IdFound) (e : Option ℕ) → judged bytes other e ≡ from_line other (line_to bytes e)
-judged_line bytes other None = step (nat_le 255 (length bytes))
-  where
-    step : (t : Bool) → (if t then Version else NotYet) ≡ from_line other (if t then TooLong else Unfinished)
-    step true = refl
-    step false = refl
-judged_line bytes other (Some n) = step (nat_lt 255 n) (is_id_text (line_text (take n bytes)))
-  where
-    step : (t u : Bool) → (if t then Version else if u then Id (line_text (take n bytes)) n else other n) ≡ from_line other (if t then TooLong else if u then IdLine (line_text (take n bytes)) n else OtherLine n)
-    step true u = refl
-    step false true = refl
-    step false false = refl
-
-pub id_of_line : (left : ℕ) (bytes : List ℕ) (line : Line) → line_of bytes ≡ line → id_of left bytes ≡ from_line (λ n. next left bytes n) line
-id_of_line zero bytes line e = judged_line bytes (λ n. Version) (line_end bytes) ∙ ap (from_line (λ n. Version)) e
-id_of_line (suc left) bytes line e = judged_line bytes (λ n. found_behind n (id_of left (drop n bytes))) (line_end bytes) ∙ ap (from_line (λ n. found_behind n (id_of left (drop n bytes)))) e
+pub id_of_line : (left : ℕ) (bytes : List ℕ) (line : Line) → line_of bytes ≡ line → id_of left bytes ≡ found_by_line (λ n. next left bytes n) line
+id_of_line zero bytes line e = ap (found_by_line (λ n. Version)) e
+id_of_line (suc left) bytes line e = ap (found_by_line (λ n. found_behind n (id_of left (drop n bytes)))) e
 
 pub end_of_other : (bytes : List ℕ) (e : Option ℕ) (n : ℕ) → line_to bytes e ≡ OtherLine n → e ≡ Some n
-end_of_other bytes None n h = absurd (step (nat_le 255 (length bytes)) h)
+end_of_other bytes None n h = absurd (step (nat_le longest_line (length bytes)) h)
   where
     step : (t : Bool) → (if t then TooLong else Unfinished) ≡ OtherLine n → ⊥
     step true h = cc
     step false h = cc
-end_of_other bytes (Some m) n h = step (nat_lt 255 m) (is_id_text (line_text (take m bytes))) h
+end_of_other bytes (Some m) n h = step (nat_lt longest_line m) (is_id_text (line_text (take m bytes))) h
   where
     step : (t u : Bool) → (if t then TooLong else if u then IdLine (line_text (take m bytes)) m else OtherLine m) ≡ OtherLine n → Some m ≡ Some n
     step true u h = cc
@@ -55,12 +36,12 @@ end_of_other bytes (Some m) n h = step (nat_lt 255 m) (is_id_text (line_text (ta
     step false false h = cc
 
 pub end_of_id : (bytes : List ℕ) (e : Option ℕ) (text : List ℕ) (n : ℕ) → line_to bytes e ≡ IdLine text n → e ≡ Some n
-end_of_id bytes None text n h = absurd (step (nat_le 255 (length bytes)) h)
+end_of_id bytes None text n h = absurd (step (nat_le longest_line (length bytes)) h)
   where
     step : (t : Bool) → (if t then TooLong else Unfinished) ≡ IdLine text n → ⊥
     step true h = cc
     step false h = cc
-end_of_id bytes (Some m) text n h = step (nat_lt 255 m) (is_id_text (line_text (take m bytes))) h
+end_of_id bytes (Some m) text n h = step (nat_lt longest_line m) (is_id_text (line_text (take m bytes))) h
   where
     step : (t u : Bool) → (if t then TooLong else if u then IdLine (line_text (take m bytes)) m else OtherLine m) ≡ IdLine text n → Some m ≡ Some n
     step true u h = cc
@@ -69,7 +50,7 @@ end_of_id bytes (Some m) text n h = step (nat_lt 255 m) (is_id_text (line_text (
 
 pub no_end : (bytes : List ℕ) (e : Option ℕ) → line_to bytes e ≡ Unfinished → e ≡ None
 no_end bytes None h = refl
-no_end bytes (Some m) h = absurd (step (nat_lt 255 m) (is_id_text (line_text (take m bytes))) h)
+no_end bytes (Some m) h = absurd (step (nat_lt longest_line m) (is_id_text (line_text (take m bytes))) h)
   where
     step : (t u : Bool) → (if t then TooLong else if u then IdLine (line_text (take m bytes)) m else OtherLine m) ≡ Unfinished → ⊥
     step true u h = cc

@@ -1,7 +1,7 @@
 -- Reading a version line in pieces.
 use Rattle.std.specs.Prelude.{◌≡◌, ℕ, zero, suc, ◌+◌, ◌-◌, ◌<◌, ◌≤◌, Bool, true, false, List, [], ◌++◌, length, drop, Option, Some, None, Result, Ok, Err}
 use Rattle.ssh_wire.specs.Lines as lines
-use Rattle.ssh_wire.specs.Lines.{IdFound, id_of, line_end, other_line_limit}
+use Rattle.ssh_wire.specs.Lines.{IdFound, id_of, line_end, longest_line, other_line_limit}
 use Rattle.ssh_wire.specs.declared.error.Error.{Error}
 use Rattle.ssh_wire.specs.declared.error.Error.TheVariants.{Version, Disconnect}
 use Rattle.ssh_wire.specs.declared.read_id.IdProgress.{IdProgress}
@@ -57,7 +57,7 @@ waiting_length Failed = 0
 
 -- less than a line waits, behind no more other lines than may stand there
 abbrev pub IsShort : IdReading → Type 0
-IsShort (Waiting bytes others) = (length bytes < 255) × (others ≤ other_line_limit)
+IsShort (Waiting bytes others) = (length bytes < longest_line) × (others ≤ other_line_limit)
 IsShort (Heard text) = Unit {0}
 IsShort Failed = Unit {0}
 

@@ -43,7 +43,7 @@ pub use crate::limits::Limits;
 pub use crate::message_numbers::{authentication_numbers, connection_numbers, transport_numbers};
 pub use crate::open_failure::ChannelOpenFailure;
 pub use crate::open_handle::ChannelOpenHandleInner;
-pub use crate::outside::{Failed, Sink, Source};
+pub use crate::outside::{Failed, Sink, Source, write_all};
 pub use crate::read_id::{IdProgress, ReadSshIdBuffer, without_last_cr};
 pub use crate::reader::Reader;
 pub use crate::send_error::SendError;
