@@ -2,6 +2,9 @@
 //! its standard output.
 #![tactic(auto)]
 
+#[cfg(test)]
+mod tests;
+
 use ssh_link::{StdSink, StdSource, exit_code};
 use std::env;
 use std::process::ExitCode;
