@@ -23,9 +23,9 @@ size_of [] = 0
 size_of (payload ∷ payloads) = packet_size payload + size_of payloads
 
 -- less than the next packet
-abbrev pub IsShort : List ℕ → List (List ℕ) → Type 0
-IsShort bytes [] = bytes ≡ []
-IsShort bytes (payload ∷ payloads) = length bytes < packet_size payload
+abbrev pub IsLessThanNext : List ℕ → List (List ℕ) → Type 0
+IsLessThanNext bytes [] = bytes ≡ []
+IsLessThanNext bytes (payload ∷ payloads) = length bytes < packet_size payload
 
 pub length_packet : (number : ℕ) (payload : List ℕ) → length (sealed_packet Clear number (clear_item payload)) ≡ packet_size payload
 length_packet number payload = omega (arith, length_framed (clear_item payload), length-replicate {A = ℕ} (padding_length Clear (length payload)) 0)
@@ -33,7 +33,7 @@ length_packet number payload = omega (arith, length_framed (clear_item payload),
 -- a reader that stopped for want of bytes, or by a fault
 abbrev pub EndsWell : Front → List ℕ → List (List ℕ) → Type 0
 EndsWell (Whole item rest) bytes later = Unit {0}
-EndsWell Unfinished bytes later = IsShort bytes later
+EndsWell Unfinished bytes later = IsLessThanNext bytes later
 EndsWell (Refused fault) bytes later = ⊥
 
 nothing : (bytes more : List ℕ) → bytes ++ more ≡ [] → bytes ≡ []

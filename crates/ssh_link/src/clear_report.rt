@@ -16,7 +16,7 @@ pub fn print_clear(alloc: Global, report: &ClearReport) -> Result<Vec<u8>, Error
 {
     let mut text = Vec::with_capacity(
         alloc,
-        room_for(&report.client).saturating_add(room_for(&report.server)),
+        text_room(&report.client).saturating_add(text_room(&report.server)),
     )?;
     push_side(&mut text, Side::Client, &report.client)?;
     push_side(&mut text, Side::Server, &report.server)?;
@@ -24,7 +24,7 @@ pub fn print_clear(alloc: Global, report: &ClearReport) -> Result<Vec<u8>, Error
 }
 
 /// More than the length of what is printed of a side, so that the text doesn't grow.
-fn room_for(report: &ClearSide) -> usize {
+fn text_room(report: &ClearSide) -> usize {
     let mut room = report
         .wire
         .as_slice()

@@ -49,17 +49,20 @@ fn faults_answered(rt: HostRuntime) -> Result<(), Fail> {
     Ok(())
 }
 
-/// A writer that counts its flushes; the one with this number fails, and each write from then on.
+/// A writer that takes two bytes at a time and counts its calls. The write and the flush with these numbers fail.
 #[derive(Drop)]
 struct Flushing {
     held: usize,
+    writes: u32,
     flushes: u32,
-    fails: u32,
+    failing_write: u32,
+    failing_flush: u32,
 }
 
 impl Write for Flushing {
     fn write(&mut self, buf: &[u8]) -> io::Result<usize> {
-        if self.flushes >= self.fails {
+        self.writes = self.writes.saturating_add(1);
+        if self.writes == self.failing_write {
             return Err(io::Error::from(io::ErrorKind::BrokenPipe));
         }
         let size = buf.len().min(2);
@@ -69,7 +72,7 @@ impl Write for Flushing {
 
     fn flush(&mut self) -> io::Result<()> {
         self.flushes = self.flushes.saturating_add(1);
-        if self.flushes == self.fails {
+        if self.flushes == self.failing_flush {
             return Err(io::Error::from(io::ErrorKind::BrokenPipe));
         }
         Ok(())
@@ -87,14 +90,18 @@ fn standard_streams(rt: HostRuntime) {
     assert_eq!(rt; source.read(&mut piece), Ok(0));
     let mut writer = Flushing {
         held: 0,
+        writes: 0,
         flushes: 0,
-        fails: 2,
+        failing_write: 3,
+        failing_flush: 2,
     };
     let mut sink = StdSink::new(&mut writer);
     assert_eq!(rt; sink.write(b"xyz"), Ok(2));
     assert_eq!(rt; sink.write(b"z"), Err(Failed::Failed));
     assert_eq!(rt; sink.write(b"z"), Err(Failed::Failed));
+    assert_eq!(rt; sink.write(b"z"), Ok(1));
     drop(sink);
-    assert_eq!(rt; writer.flushes, 2);
-    assert_eq!(rt; writer.held, 3);
+    assert_eq!(rt; writer.writes, 4);
+    assert_eq!(rt; writer.flushes, 3);
+    assert_eq!(rt; writer.held, 4);
 }
