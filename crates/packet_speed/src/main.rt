@@ -39,7 +39,7 @@ fn run(
     let mut rng = ChaCha20Rng::from_seed([1; 32]);
     let mut payload = Vec::new(alloc);
     payload.resize(length, 97)?;
-    let mut writer = PacketWriter::new(keys.local_to_remote, Compress::None, alloc);
+    let mut writer = PacketWriter::new(alloc, keys.local_to_remote, Compress::None);
     let mut reader = PacketReader::new(alloc);
     let mut opening = keys.remote_to_local;
     for _turn in 0..count {

@@ -6,8 +6,9 @@ use Rattle.std.proofs.Math.ListN.{drop_of_length-le}
 use Rattle.std.proofs.Math.Seq.{take-append-add, take-append_seam, drop-append_seam}
 use Rattle.rand_core.specs.Stream.{Stream}
 use Rattle.ssh_wire.specs.Forms.{u32be}
-use Rattle.ssh_aes.proofs.Running.{AreBytes-drop}
-use Rattle.ssh_packet.specs.Sealing.{Sealing, AreBytes, framed_text, item_padded_by, item_of, padding_length}
+use Rattle.ssh_aes.proofs.Lemmas.{AreBytes-drop}
+use Rattle.ssh_wire.specs.Forms.{AreBytes}
+use Rattle.ssh_packet.specs.Sealing.{Sealing, framed_text, item_padded_by, item_of, padding_length}
 use borrow.Rule.Slice.PartMut.{put_mid}
 
 -- what was written from a place to the end

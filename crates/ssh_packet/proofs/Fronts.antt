@@ -12,11 +12,11 @@ use Rattle.ssh_aes.specs.Gcm.{gcm_text, gcm_tag, gcm_plain, cipher_tag}
 use Rattle.ssh_aes.specs.Modes.{Running, masked_text, unmasked_text, running_after, running_past}
 use Rattle.ssh_mac.proofs.Lemmas.{tags_have_length}
 use Rattle.ssh_mac.specs.Tags.{MacOf, tag_of, is_encrypt_then_mac}
-use Rattle.ssh_aes.proofs.Running.{AreBytes-drop, opens_well, runs_well}
-use Rattle.ssh_aes.proofs.Sealing.{gcm_well}
+use Rattle.ssh_aes.proofs.Lemmas.{AreBytes-drop, opens_well, runs_well, gcm_well}
 use Rattle.ssh_packet.proofs.Shapes.{cut_alike, front_framed, length_framed, framed_bytes, length_take4, item_alike}
 use Rattle.ssh_packet.specs.Front.{Fault, Front, Whole, Unfinished, Refused, probe_text, length_in, is_bad_length, decrypted_text, text_in, opened_past, packet_of, key_behind, tagged_text, tag_for, tag_fault, front_parts, front_parts_by, front_if_tagged, front_if_whole, front_by_length, front_of}
-use Rattle.ssh_packet.specs.Sealing.{Item, Sealing, Clear, Block, Gcm, framed_text, packet_length, encrypted_part, moved_past, moved_on, sealed_text, text_with_tag, sealed_packet, probe_length, shortest_encrypted, shortest_packet, tag_size, IsAdmissible, AreBytes}
+use Rattle.ssh_wire.specs.Forms.{AreBytes}
+use Rattle.ssh_packet.specs.Sealing.{Item, Sealing, Clear, Block, Gcm, framed_text, packet_length, encrypted_part, moved_past, moved_on, sealed_text, text_with_tag, sealed_packet, probe_length, shortest_encrypted, shortest_packet, tag_size, IsAdmissible}
 
 pub not_below : (a b : ℕ) → b ≤ a → nat_lt a b ≡ false
 not_below a b h = grind (arith, nat_tests)

@@ -9,10 +9,9 @@ use Rattle.ssh_aes.specs.Laws.{RunsWell}
 use Rattle.ssh_aes.specs.Modes.{Running, masked_text, shortest_text}
 use Rattle.ssh_mac.proofs.Lemmas.{tags_have_length}
 use Rattle.ssh_mac.specs.Tags.{MacOf, tag_of, is_encrypt_then_mac}
-use Rattle.ssh_aes.proofs.Inverses.{AreBytes-append, AreBytes-cons, AreBytes-four}
-use Rattle.ssh_aes.proofs.Running.{AreBytes-drop, runs_well}
-use Rattle.ssh_aes.proofs.Sealing.{gcm_well}
-use Rattle.ssh_packet.specs.Sealing.{Item, Sealing, Clear, Block, Gcm, framed_text, packet_length, text_with_tag, sealed_packet, shortest_encrypted, shortest_packet, IsAdmissible, AreBytes}
+use Rattle.ssh_aes.proofs.Lemmas.{AreBytes-append, AreBytes-cons, AreBytes-four, AreBytes-drop, runs_well, gcm_well}
+use Rattle.ssh_wire.specs.Forms.{AreBytes}
+use Rattle.ssh_packet.specs.Sealing.{Item, Sealing, Clear, Block, Gcm, framed_text, packet_length, text_with_tag, sealed_packet, shortest_encrypted, shortest_packet, IsAdmissible}
 
 -- ---- lists
 
@@ -77,9 +76,9 @@ record Shape (ok : List ℕ → Type 0) (g : List ℕ → List ℕ) : Type 0 whe
   pub injective : (s t : List ℕ) → ok s → ok t → length s ≡ length t → g s ≡ g t → s ≡ t
 
 -- a text that is bytes, and not too short for the mode
-record IsText (least_length : ℕ) (t : List ℕ) : Type 0 where
+record IsText (shortest_text_length : ℕ) (t : List ℕ) : Type 0 where
   pub bytes : AreBytes t
-  pub long : least_length ≤ length t
+  pub long : shortest_text_length ≤ length t
 
 one_by_shape : (k : ℕ) (g : List ℕ → List ℕ) → Shape (IsText k) g → (a b : Item) (x y : List ℕ) → IsText k (framed_text a) → IsText k (framed_text b) → packet_length a ≤ 262177 → packet_length b ≤ 262177 → g (framed_text a) ++ x ≡ g (framed_text b) ++ y → (a ≡ b) × (x ≡ y)
 one_by_shape k g shape a b x y oa ob ha hb e =

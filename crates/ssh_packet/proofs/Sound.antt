@@ -7,10 +7,7 @@ use Rattle.std.proofs.lemmas.Nat.{be_bytes_4}
 use Rattle.std.proofs.lemmas.Slice.Eq.{bytes_eq-Decides}
 use Rattle.std.specs.Int.{w32, from_be_bytes, to_be_bytes}
 use Rattle.std.specs.Str.{bytes_eq}
-use Rattle.ssh_aes.proofs.Closing.{closes_well}
-use Rattle.ssh_aes.proofs.Inverses.{AreBytes-append}
-use Rattle.ssh_aes.proofs.Running.{AreBytes-drop}
-use Rattle.ssh_aes.proofs.Sealing.{gcm_closes_well}
+use Rattle.ssh_aes.proofs.Lemmas.{closes_well, AreBytes-append, AreBytes-drop, gcm_closes_well}
 use Rattle.ssh_aes.specs.Gcm.{gcm_plain, gcm_text, gcm_tag}
 use Rattle.ssh_aes.specs.Modes.{Running, masked_text, unmasked_text}
 use Rattle.ssh_mac.specs.Tags.{tag_of, is_encrypt_then_mac}
@@ -18,7 +15,8 @@ use Rattle.ssh_packet.proofs.Finding.{at_least}
 use Rattle.ssh_packet.proofs.Fronts.{drop_headed, length_headed, states_agree, take_headed}
 use Rattle.ssh_packet.proofs.Shapes.{length_take4}
 use Rattle.ssh_packet.specs.Front.{Front, Whole, Unfinished, Refused, probe_text, length_in, is_bad_length, decrypted_text, text_in, tagged_text, tag_for, front_parts, front_if_tagged, front_of, key_behind}
-use Rattle.ssh_packet.specs.Sealing.{Item, Sealing, Clear, Block, Gcm, framed_text, packet_length, sealed_text, text_with_tag, sealed_packet, moved_on, probe_length, shortest_encrypted, shortest_packet, tag_size, IsAdmissible, AreBytes}
+use Rattle.ssh_wire.specs.Forms.{AreBytes}
+use Rattle.ssh_packet.specs.Sealing.{Item, Sealing, Clear, Block, Gcm, framed_text, packet_length, sealed_text, text_with_tag, sealed_packet, moved_on, probe_length, shortest_encrypted, shortest_packet, tag_size, IsAdmissible}
 
 -- ---- what was opened from any bytes is sealed to them
 

@@ -3,15 +3,9 @@ use Rattle.std.proofs.Common.{◌≡◌, ℕ, zero, suc, List, [], ◌∷◌, �
 use Rattle.ssh_packet.proofs.Shapes.{one_packet, length_sealed}
 use Rattle.ssh_packet.specs.Carried.{AgreeFor, SamePlace, PlacesAgree, ends_left, SameFor}
 use Rattle.ssh_packet.specs.Sealing.{Item, IsAdmissible, sealed_packet, moved_on, next_number}
-use Rattle.ssh_packet.specs.Stream.{Opening, Place, Reads, place_after, place_behind, packet_at, IsEnd, is_newkeys, next_place, kept_number, place_by, ReadsBy, place_behind_by, IsPlain}
+use Rattle.ssh_packet.specs.Stream.{Opening, Place, Reads, place_after, place_behind, packet_at, IsEnd, is_newkeys, next_place, kept_number, place_by, ReadsBy, place_behind_by, by_type, IsPlain}
 
--- packets and then packets are packets
-pub reads_append : (at : Option Place) (a b : List Item) (x y z : List ℕ) → Reads at a x y → Reads (place_behind at a) b y z → Reads at (a ++ b) x z
-reads_append at [] b x y z h k = subst (λ w. Reads at b w z) (sym h) k
-reads_append None (i ∷ a) b x y z h k = absurd h
-reads_append (Some at) (i ∷ a) b x y z h k = (h.0, h.1, h.2, reads_append (place_after at i) a b h.0 y z h.3 k)
-
--- and conversely
+-- packets and then packets part where the first end
 pub reads_split : (at : Option Place) (a b : List Item) (x z : List ℕ) → Reads at (a ++ b) x z → (y : List ℕ) × Reads at a x y × Reads (place_behind at a) b y z
 reads_split at [] b x z h = (x, refl, h)
 reads_split None (i ∷ a) b x z h = absurd h
@@ -85,6 +79,16 @@ pub plain_behind : (ends_by : List Item → Item → Bool) (before : List Item) 
 plain_behind E before at [] p = refl
 plain_behind E before None (i ∷ a) p = refl
 plain_behind E before (Some at) (i ∷ a) p = plain_behind E (before ++ i ∷ []) (place_by (E before i) at i) a p.1 ∙ ap (λ q. place_behind q a) (same_place (E before i) at i p.0)
+
+pub reads_by_type : (before : List Item) (at : Option Place) (items : List Item) (bytes rest : List ℕ) → Reads at items bytes rest → ReadsBy by_type before at items bytes rest
+reads_by_type before at [] bytes rest h = h
+reads_by_type before None (i ∷ items) bytes rest h = absurd h
+reads_by_type before (Some at) (i ∷ items) bytes rest h =
+    (h.0, h.1, h.2, subst (λ q. ReadsBy by_type (before ++ i ∷ []) q items h.0 rest) (sym (same_place (is_newkeys i) at i refl)) (reads_by_type (before ++ i ∷ []) (place_after at i) items h.0 rest h.3))
+
+pub plain_by_type : (before items : List Item) → IsPlain by_type before items
+plain_by_type before [] = tt
+plain_by_type before (i ∷ items) = (refl, plain_by_type (before ++ i ∷ []) items)
 
 -- The same where the reader tells ends of epochs by a test of its own that is plain on what was written: no packet of the
 -- writer is dropped as a guess.

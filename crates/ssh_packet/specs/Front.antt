@@ -1,11 +1,11 @@
 -- What a reader finds at the front of the bytes that wait.
-use Rattle.std.specs.Prelude.{◌≡◌, ◌⊎◌, ℕ, ◌+◌, ◌-◌, nat_lt, ◌||◌, Bool, true, false, if◌then◌else◌, List, [], ◌∷◌, ◌++◌, length, take, drop, slice_index, replicate, refl}
+use Rattle.std.specs.Prelude.{◌≡◌, ℕ, ◌+◌, ◌-◌, nat_lt, ◌||◌, Bool, true, false, if◌then◌else◌, List, [], ◌∷◌, ◌++◌, length, take, drop, slice_index, replicate, refl}
 use Rattle.std.specs.Int.{w32, from_be_bytes}
 use Rattle.std.specs.Str.{bytes_eq}
 use Rattle.ssh_aes.specs.Gcm.{gcm_plain, cipher_tag}
 use Rattle.ssh_aes.specs.Modes.{Running, unmasked_text, running_past}
 use Rattle.ssh_mac.specs.Tags.{tag_of, is_encrypt_then_mac}
-use Rattle.ssh_packet.specs.Sealing.{Item, Sealing, Clear, Block, Gcm, encrypted_part, next_nonce, tag_size, probe_length, shortest_packet, longest_packet}
+use Rattle.ssh_packet.specs.Sealing.{Item, Sealing, Clear, Block, Gcm, encrypted_part, next_nonce, tag_size, probe_length, shortest_packet, head_length, longest_packet}
 
 pub data Fault : Type 0 where
   PacketSize : (n : ℕ) → Fault
@@ -70,6 +70,10 @@ tag_behind sealing bytes = drop (length bytes - tag_size sealing) bytes
 abbrev pub key_behind : Sealing → List ℕ → List ℕ → Sealing
 key_behind sealing bytes rest = opened_past sealing (packet_of sealing (take (length bytes - length rest) bytes))
 
+-- the packet at the front, without its tag, as long as its packet length says
+abbrev pub front_packet : Sealing → List ℕ → List ℕ
+front_packet sealing bytes = take (4 + length_in sealing bytes) bytes
+
 -- what a packet without its tag is, and what its direction is opened with, where the tag was wrong: under a MAC over
 -- the packet in clear it was decrypted before, else both are as they were
 abbrev pub refused_text : Sealing → List ℕ → List ℕ
@@ -81,10 +85,6 @@ abbrev pub refused_past : Sealing → List ℕ → Sealing
 refused_past Clear packet = Clear
 refused_past (Block running mac) packet = if is_encrypt_then_mac mac then Block running mac else Block (running_past running packet) mac
 refused_past (Gcm key nonce) packet = Gcm key nonce
-
--- as it was, or run on past a front of the bytes
-abbrev pub RunsOn : Sealing → List ℕ → Sealing → Type 0
-RunsOn sealing bytes sealing' = (sealing' ≡ sealing) ⊎ ((k : ℕ) × (sealing' ≡ opened_past sealing (take k bytes)))
 
 -- what a wrong tag is called
 abbrev pub tag_fault : Sealing → Fault
@@ -100,7 +100,7 @@ front_parts_by padding n behind rest =
     else Whole (record { payload = take (n - 1 - padding) behind; padding = drop (n - 1 - padding) behind }) rest
 
 abbrev pub front_parts : ℕ → List ℕ → List ℕ → Front
-front_parts n text rest = front_parts_by (slice_index text 4) n (drop 5 text) rest
+front_parts n text rest = front_parts_by (slice_index text 4) n (drop head_length text) rest
 
 -- a packet of length n without its tag, and what is behind: the tag first
 abbrev pub front_if_tagged : Sealing → ℕ → ℕ → List ℕ → List ℕ → Front

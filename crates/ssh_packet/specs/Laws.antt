@@ -1,8 +1,9 @@
 -- What is true of every packet and of every stream of packets.
-use Rattle.std.specs.Prelude.{◌≡◌, ℕ, ◌+◌, ◌%◌, ◌≤◌, if◌then◌else◌, Bool, Some, List, [], ◌++◌, length}
+use Rattle.std.specs.Prelude.{◌≡◌, ℕ, ◌+◌, ◌%◌, ◌≤◌, if◌then◌else◌, Bool, Option, Some, List, [], ◌++◌, length}
 use Rattle.ssh_mac.specs.Tags.{is_encrypt_then_mac}
-use Rattle.ssh_packet.specs.Sealing.{Item, Sealing, Clear, Block, Gcm, IsAdmissible, AreBytes, sealed_text, moved_past, moved_on, sealed_packet, padding_length}
-use Rattle.ssh_packet.specs.Stream.{Opening, Entries, EntriesBy, IsPlain, Reads, ReadsBy, first_place}
+use Rattle.ssh_wire.specs.Forms.{AreBytes}
+use Rattle.ssh_packet.specs.Sealing.{Item, Sealing, Clear, Block, Gcm, IsAdmissible, sealed_text, moved_past, moved_on, sealed_packet, head_length, longest_padding, padding_length}
+use Rattle.ssh_packet.specs.Stream.{Opening, Place, Entries, EntriesBy, IsPlain, Reads, ReadsBy, by_type, first_place}
 use Rattle.ssh_packet.specs.Carried.{AgreeFor, SameFor}
 use Rattle.ssh_packet.specs.Front.{Whole, Fault, Refused, front_of, tag_for, text_in, opened_past, key_behind}
 
@@ -43,6 +44,10 @@ OneReading = (ends_by : List Item → Item → Bool) (openings : List Opening) (
 abbrev pub PlainReading : Type 0
 PlainReading = (ends_by : List Item → Item → Bool) (openings : List Opening) (bytes x : List ℕ) (a : List Item) → IsPlain ends_by [] a → EntriesBy ends_by openings bytes a x → Entries openings bytes a x
 
+-- conversely, a reading by types is one by the test of types
+abbrev pub ReadsByType : Type 0
+ReadsByType = (before : List Item) (at : Option Place) (items : List Item) (bytes rest : List ℕ) → Reads at items bytes rest → ReadsBy by_type before at items bytes rest
+
 -- What a reader takes off a front of what was written is what was written, through the epochs whose openings
 -- agree. The reader tells ends of epochs by a test that is plain on what was written.
 abbrev pub ReadsWhatWasWritten : Type 0
@@ -50,8 +55,8 @@ ReadsWhatWasWritten = (ends_by : List Item → Item → Bool) (k : ℕ) (read wr
 
 -- what of a packet is filled up: all of a packet in clear, all that is encrypted of the others
 abbrev pub filled_length : Sealing → ℕ → ℕ → ℕ
-filled_length Clear n padding = 5 + n + padding
-filled_length (Block running mac) n padding = if is_encrypt_then_mac mac then 1 + n + padding else 5 + n + padding
+filled_length Clear n padding = head_length + n + padding
+filled_length (Block running mac) n padding = if is_encrypt_then_mac mac then 1 + n + padding else head_length + n + padding
 filled_length (Gcm key nonce) n padding = 1 + n + padding
 
 -- of how many bytes it is a multiple
@@ -62,7 +67,7 @@ unit_of (Gcm key nonce) = 16
 
 -- padding is 4 to 19 bytes, and fills up to whole units
 abbrev pub IsPadding : ℕ → ℕ → ℕ → Type 0
-IsPadding padding filled_length unit = (4 ≤ padding) × (padding ≤ 19) × (filled_length % unit ≡ 0)
+IsPadding padding filled_length unit = (4 ≤ padding) × (padding ≤ longest_padding) × (filled_length % unit ≡ 0)
 
 abbrev pub PaddingFills : Type 0
 PaddingFills = (sealing : Sealing) (n : ℕ) → IsPadding (padding_length sealing n) (filled_length sealing n (padding_length sealing n)) (unit_of sealing)

@@ -4,10 +4,9 @@ use Rattle.std.specs.Prelude.{◌≡◌, ℕ, ◌+◌, ◌-◌, ◌%◌, ◌^◌
 use Rattle.std.specs.Int.{w128, from_be_bytes, to_be_bytes}
 use Rattle.rand_core.specs.Stream.{Stream, fill_bytes}
 use Rattle.ssh_aes.specs.Gcm.{gcm_text, gcm_tag}
-use Rattle.ssh_aes.specs.Laws as aes
 use Rattle.ssh_aes.specs.Modes.{Running, masked_text, running_after, shortest_text}
 use Rattle.ssh_mac.specs.Tags.{MacOf, tag_of, tag_length, is_encrypt_then_mac}
-use Rattle.ssh_wire.specs.Forms.{u32be}
+use Rattle.ssh_wire.specs.Forms.{AreBytes, u32be}
 
 -- a payload, and the padding behind it
 pub record Item : Type 0 where
@@ -19,9 +18,6 @@ pub data Sealing : Type 0 where
   Clear : Sealing
   Block : (running : Running) (mac : MacOf) → Sealing
   Gcm : (key nonce : List ℕ) → Sealing
-
-abbrev pub AreBytes : List ℕ → Type 0
-AreBytes bytes = aes.AreBytes bytes
 
 -- ---- the bytes of a packet
 
@@ -100,6 +96,22 @@ shortest_packet Clear = 4
 shortest_packet (Block running mac) = shortest_encrypted (is_encrypt_then_mac mac) running
 shortest_packet (Gcm key nonce) = 4
 
+-- what stands before a payload: the packet length, and the padding length's byte
+abbrev pub head_length : ℕ
+head_length = 5
+
+-- the longest padding that is written
+abbrev pub longest_padding : ℕ
+longest_padding = 19
+
+-- the longest tag
+abbrev pub longest_tag : ℕ
+longest_tag = 64
+
+-- what a packet has at most beside its payload and its tag, rounded up
+abbrev pub room_beside : ℕ
+room_beside = 37
+
 -- the longest packet length that is read, and the longest payload that is sent
 abbrev pub longest_packet : ℕ
 longest_packet = 262177
@@ -126,11 +138,11 @@ at_least_four unit size = if nat_lt size 4 then size + unit else size
 -- so much that what is encrypted is a multiple of 16 bytes
 abbrev pub block_padding : Bool → ℕ → ℕ
 block_padding true n = at_least_four 16 (16 - (1 + n) % 16)
-block_padding false n = at_least_four 16 (16 - (5 + n) % 16)
+block_padding false n = at_least_four 16 (16 - (head_length + n) % 16)
 
 -- so much that the packet of a payload of n bytes is a multiple of 8 bytes, and what is encrypted of 16
 abbrev pub padding_length : Sealing → ℕ → ℕ
-padding_length Clear n = at_least_four 8 (8 - (5 + n) % 8)
+padding_length Clear n = at_least_four 8 (8 - (head_length + n) % 8)
 padding_length (Block running mac) n = block_padding (is_encrypt_then_mac mac) n
 padding_length (Gcm key nonce) n = block_padding true n
 
@@ -152,6 +164,13 @@ item_padded_by sealing padding payload stream = record { payload = payload; padd
 -- the packet of a payload
 abbrev pub item_of : Sealing → List ℕ → Stream → Item
 item_of sealing payload stream = record { payload = payload; padding = (padding_of_payload sealing (length payload) stream).0 }
+
+-- A packet is padded as a writer pads it: with zeros in clear, else with drawn bytes, as many as the payload's length
+-- asks for.
+abbrev pub IsPadded : Sealing → Item → Type 0
+IsPadded Clear item = item.padding ≡ replicate (padding_length Clear (length item.payload)) 0
+IsPadded (Block running mac) item = length item.padding ≡ padding_length (Block running mac) (length item.payload)
+IsPadded (Gcm key nonce) item = length item.padding ≡ padding_length (Gcm key nonce) (length item.payload)
 
 -- what is left of the stream behind a payload: one of no bytes sends nothing
 abbrev pub stream_after : Sealing → List ℕ → Stream → Stream

@@ -105,3 +105,7 @@ pub record EntriesBy (ends_by : List Item → Item → Bool) (openings : List Op
 abbrev pub IsPlain : (List Item → Item → Bool) → List Item → List Item → Type 0
 IsPlain ends_by before [] = Unit {0}
 IsPlain ends_by before (i ∷ items) = (ends_by before i ≡ is_newkeys i) × IsPlain ends_by (before ++ i ∷ []) items
+
+-- the test by type
+abbrev pub by_type : List Item → Item → Bool
+by_type before i = is_newkeys i

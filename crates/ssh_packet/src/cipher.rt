@@ -3,14 +3,15 @@
 
 ghost use Rattle.std.specs.Prelude.{◌≡◌, ◌↔◌, ◌+◌, ◌<◌, ◌≤◌, ◌^◌, ◌++◌, take, drop, length, IsOk, IfOk, OnOk, OnErr, IfErr};
 ghost use Rattle.std.specs.Int.{w32, from_be_bytes};
-ghost use Rattle.ssh_packet.specs.Errors.{open_error};
+ghost use Rattle.ssh_packet.specs.Errors.{error_of, open_error};
 ghost use Rattle.ssh_packet.specs.Front.{length_in, opened_past, packet_of, refused_past, refused_text};
 ghost use Rattle.ssh_packet.specs.Front.{tag_behind, tag_fault, tag_for, text_in};
-ghost use Rattle.ssh_packet.specs.Sealing.{Sealing, sealed_text, padding_drawn, longest_payload, moved_past};
+ghost use Rattle.ssh_packet.specs.Sealing.{Sealing, sealed_text, padding_drawn, longest_padding, longest_tag, moved_past};
 ghost use Rattle.ssh_packet.specs.Sealing.{padding_length, probe_length, shortest_packet, tag_size};
 
 use crate::error::OpenError;
 use rand_core::Rng;
+use ssh_wire::Error;
 
 /// The first four bytes.
 pub(crate) fn first_four(bytes: &[u8]) -> [u8; 4]
@@ -29,9 +30,8 @@ pub trait SealingKey {
 
     /// How many bytes of padding stand behind a payload.
     fn padding_length(&self, payload: &[u8]) -> usize
-        requires { length payload.now ≤ longest_payload }
         ensures value { result ≡ padding_length (sealing self.now) (length payload.now) }
-        ensures short { result ≤ 19 };
+        ensures short { result ≤ longest_padding };
 
     /// Writes padding: zeros under the clear key, which draws nothing, and else drawn bytes.
     fn fill_padding<R: Rng>(&self, rng: &mut R, padding_out: &mut [u8])
@@ -41,7 +41,7 @@ pub trait SealingKey {
     /// The length of a tag in bytes.
     fn tag_len(&self) -> usize
         ensures value { result ≡ tag_size (sealing self.now) }
-        ensures short { result ≤ 64 };
+        ensures short { result ≤ longest_tag };
 
     /// Seals a packet in place: packet length, padding length, payload and padding. Writes its tag.
     fn seal(&mut self, seqn: u32, plaintext_in_ciphertext_out: &mut [u8], tag_out: &mut [u8])
@@ -71,7 +71,7 @@ pub trait OpeningKey {
     /// The length of a tag in bytes.
     fn tag_len(&self) -> usize
         ensures value { result ≡ tag_size (opening self.now) }
-        ensures short { result ≤ 64 };
+        ensures short { result ≤ longest_tag };
 
     /// How many bytes the shortest packet has without its tag: 4, or 16 where chaining mode encrypts the
     /// packet length.
@@ -94,17 +94,14 @@ pub trait OpeningKey {
         ensures refused_state { OnErr result (opening self.new ≡ refused_past (opening self.old) packet.old) };
 
     /// Opens a packet that its tag stands behind, and answers what follows its length: padding length,
-    /// payload and padding. The errors are those of `open_in_place`.
-    fn open<'a>(
-        &mut self,
-        seqn: u32,
-        ciphertext_and_tag: &'a mut [u8],
-    ) -> Result<&'a [u8], OpenError>
+    /// payload and padding. The errors are those of `open_in_place`. No clause says what a refusal leaves of the
+    /// bytes, since they are lent: that of `open_in_place` does.
+    fn open<'a>(&mut self, seqn: u32, ciphertext_and_tag: &'a mut [u8]) -> Result<&'a [u8], Error>
         requires headed { 4 + tag_size (opening self.old) ≤ length ciphertext_and_tag.old }
         requires short { length ciphertext_and_tag.old < 2 ^ 32 + 4 + tag_size (opening self.old) }
         ensures right { IsOk result ↔ tag_behind (opening self.old) ciphertext_and_tag.old
             ≡ tag_for (opening self.old) seqn (packet_of (opening self.old) ciphertext_and_tag.old) }
-        ensures causes { IfErr result (λ e. e ≡ open_error (tag_fault (opening self.old))) }
+        ensures causes { IfErr result (λ e. e ≡ error_of (open_error (tag_fault (opening self.old)))) }
         ensures text { IfOk result (λ body. body.now
             ≡ drop 4 (text_in (opening self.old) (packet_of (opening self.old) ciphertext_and_tag.old))) }
         ensures state { OnOk result (opening self.new

@@ -3,16 +3,12 @@
 ghost use Rattle.std.specs.Prelude.{◌≡◌, ◌+◌, ◌<◌, ◌≤◌, ◌^◌, length, drop, slice_index, vec_len};
 ghost use Rattle.ssh_packet.specs.Finding.{Measures, Parts, OpensChecked, Opens};
 ghost use Rattle.ssh_packet.specs.Front.{is_bad_length};
-ghost use Rattle.ssh_packet.specs.Sealing.{AreBytes, longest_packet, tag_size};
+ghost use Rattle.ssh_wire.specs.Forms.{AreBytes};
+ghost use Rattle.ssh_packet.specs.Sealing.{longest_packet, tag_size};
 
 use crate::cipher::OpeningKey;
 use crate::error::OpenError;
-
-/// The longest packet length that is read, in bytes.
-const LONGEST_PACKET: usize = 262177;
-
-/// How many bytes stand before a payload: the packet length, and the padding length's byte.
-pub const HEAD: usize = 5;
+use crate::sizes::LONGEST_PACKET;
 
 /// A packet that was opened where it stands.
 #[derive(Clone, Copy)]

@@ -155,7 +155,9 @@ impl OpeningKey for OpenKey {
 impl Name {
     /// A key to seal under, of this cipher and a MAC, each with its own key: `key_len` bytes, `nonce_len` bytes
     /// of first counter block, chaining block or nonce, and as many bytes as the MAC's key has. Galois
-    /// counter mode and the clear key have no use for the MAC.
+    /// counter mode and the clear key have no use for the MAC. A cipher that needs one (`needs_mac`) is made with
+    /// the MAC `none` where it is asked for: its packets are encrypted, and none is authenticated. No call of this
+    /// crate refuses that: who negotiates does, as where there is no common MAC.
     pub fn make_sealing_key(
         self,
         key: &[u8],
@@ -184,7 +186,8 @@ impl Name {
         }
     }
 
-    /// A key that opens what `make_sealing_key` of the same values seals.
+    /// A key that opens what `make_sealing_key` of the same values seals. With the MAC `none`, a cipher that needs
+    /// one opens whatever it is given: no packet is authenticated. Who negotiates refuses that, and no call here.
     pub fn make_opening_key(
         self,
         key: &[u8],

@@ -3,7 +3,7 @@ use Rattle.std.proofs.Common.{◌≡◌, ℕ, zero, suc, ◌+◌, ◌<◌, ◌�
 use Rattle.std.proofs.lemmas.Grind.{common_steps}
 use Rattle.std.proofs.lemmas.Bool.Decides.{nat_tests}
 use Rattle.std.proofs.lemmas.List.{take-append-le}
-use Rattle.ssh_wire.specs.Lines.{lf_end, line_end, line_text, is_id_text, Unfinished, IdLine, OtherLine, TooLong, line_to, longest_line, found_by_line, id_of, NotYet, Id, Version}
+use Rattle.ssh_wire.specs.Lines.{lf_end, line_end, line_text, is_id_text, Unfinished, IdLine, OtherLine, TooLong, line_to, line_of, longest_line, found_by_line, id_of, NotYet, Id, Version}
 
 -- a line end that was found stays where it is
 lf_end-stays : (at : ℕ) (b more : List ℕ) (n : ℕ) → lf_end at b ≡ Some n → lf_end at (b ++ more) ≡ Some n
@@ -90,8 +90,8 @@ id_stays bytes more text end h =
     })
 
 -- fewer bytes than an id line
-undecided : (bytes : List ℕ) → length bytes < longest_line → line_end bytes ≡ None → id_of 0 bytes ≡ NotYet
-undecided bytes small h = ap (λ e. found_by_line (λ m. Version) (line_to bytes e)) h ∙ ap (λ t. found_by_line (λ m. Version) (if t then TooLong else Unfinished)) below
+pub line_unfinished : (bytes : List ℕ) → length bytes < longest_line → line_end bytes ≡ None → line_of bytes ≡ Unfinished
+line_unfinished bytes small h = ap (line_to bytes) h ∙ ap (λ t. if t then TooLong else Unfinished) below
   where
     below : nat_le longest_line (length bytes) ≡ false
     below = grind (arith, nat_tests)
@@ -102,4 +102,4 @@ less_than_a_line line text n h small =
     let whole : IsIdLine line (line_end line) text (length line) = id_line-found line (line_end line) text (length line) h in
     let size : length (take n line) ≡ n = grind (arith, common_steps) in
     let short : length line ≤ longest_line = whole.short in
-    undecided (take n line) (omega arith) (line_end-before line (length line) n whole.found small)
+    ap (found_by_line (λ m. Version)) (line_unfinished (take n line) (omega arith) (line_end-before line (length line) n whole.found small))

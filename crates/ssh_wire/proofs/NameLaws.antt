@@ -181,7 +181,7 @@ pub made_again : {X Y : Type 0} (view : X → Y) (read : Result Y EncodingFault)
 made_again view read (Ok x) y h e = let same : Ok (view x) ≡ Ok y = sym h ∙ e in cc
 made_again view read (Err d) y h e = only_memory read d y h e
 
--- the list at the front of bytes
+-- names that were joined are ASCII
 joined_ascii : (names : List (List ℕ)) → All IsName names → list_all (λ b. nat_lt b 128) (joined_names names) ≡ true
 joined_ascii [] each = refl
 joined_ascii (name ∷ []) each =
@@ -193,11 +193,15 @@ joined_ascii (name ∷ y ∷ names) each =
     let behind = joined_ascii (y ∷ names) (All-tail IsName name (y ∷ names) each) in
     list_all-append (λ b. nat_lt b 128) name (44 ∷ joined_names (y ∷ names)) ∙ rw (first, behind) refl
 
+-- names that were joined are UTF-8
+pub joined_utf8 : (names : List (List ℕ)) → AreNames names → is_utf8 (joined_names names) ≡ true
+joined_utf8 names are = is_utf8-from_IsUtf8 (joined_names names) (IsUtf8-from_ascii (joined_names names) (ascii_from_all (joined_names names) (joined_ascii names are.each)))
+
+-- the list at the front of bytes
 pub names_again : (names : List (List ℕ)) (rest : List ℕ) → AreNames names → length (joined_names names) ≤ name_list_limit → names_at (name_list names ++ rest) ≡ Ok (names, rest)
 unfolding names_at
 names_again names rest are short =
-    let utf8 : is_utf8 (joined_names names) ≡ true = is_utf8-from_IsUtf8 (joined_names names) (IsUtf8-from_ascii (joined_names names) (ascii_from_all (joined_names names) (joined_ascii names are.each))) in
-    ap (λ r. r >>= (λ text. names_of text.0 >>= (λ l. Ok (l, text.1)))) (limited_again name_list_limit (joined_names names) rest (omega arith) short utf8)
+    ap (λ r. r >>= (λ text. names_of text.0 >>= (λ l. Ok (l, text.1)))) (limited_again name_list_limit (joined_names names) rest (omega arith) short (joined_utf8 names are))
     ∙ ap (λ r. r >>= (λ l. Ok (l, rest))) (joined_read names are)
 
 pub names_taken : (bytes rest : List ℕ) (names : List (List ℕ)) → AreBytes bytes → names_at bytes ≡ Ok (names, rest) → Spelled names bytes rest

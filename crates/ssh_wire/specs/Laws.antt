@@ -1,5 +1,6 @@
 -- What is true of every version line, number and name list.
-use Rattle.std.specs.Prelude.{◌≡◌, ℕ, ◌<◌, List, ◌++◌, length, take, Bool, Result, Ok}
+use Rattle.std.specs.Prelude.{◌≡◌, ℕ, ◌<◌, List, ◌++◌, length, take, Bool, true, Result, Ok}
+use Rattle.std.specs.Str.{is_utf8}
 use Rattle.ssh_wire.specs.Forms.{AreBytes, number, magnitude, unsigned, mpint, joined_names}
 use Rattle.ssh_wire.specs.Names.{names_of, AreNames, without_last_comma}
 use Rattle.ssh_wire.specs.Lines.{id_of, NotYet, Id}
@@ -44,3 +45,7 @@ JoinedRead = (names : List (List ℕ)) → AreNames names → names_of (joined_n
 -- names that were read are the text, but for one comma at its end
 abbrev pub ReadSpelled : Type 0
 ReadSpelled = (text : List ℕ) (names : List (List ℕ)) → names_of text ≡ Ok names → joined_names names ≡ without_last_comma text
+
+-- names that were joined are UTF-8
+abbrev pub JoinedUtf8 : Type 0
+JoinedUtf8 = (names : List (List ℕ)) → AreNames names → is_utf8 (joined_names names) ≡ true

@@ -4,6 +4,8 @@ use Rattle.ssh_wire.specs.Lines as lines
 use Rattle.ssh_wire.specs.Lines.{IdFound, id_of, line_end, longest_line, other_line_limit}
 use Rattle.ssh_wire.specs.declared.error.Error.{Error}
 use Rattle.ssh_wire.specs.declared.error.Error.TheVariants.{Version, Disconnect}
+use Rattle.ssh_wire.specs.declared.error.IdError.{IdError}
+use Rattle.ssh_wire.specs.declared.error.IdError.TheVariants as id_errors
 use Rattle.ssh_wire.specs.declared.read_id.IdProgress.{IdProgress}
 use Rattle.ssh_wire.specs.declared.read_id.IdProgress.TheVariants.{NotYet, Id}
 
@@ -57,7 +59,7 @@ waiting_length Failed = 0
 
 -- less than a line waits, behind no more other lines than may stand there
 abbrev pub IsShort : IdReading → Type 0
-IsShort (Waiting bytes others) = (length bytes < longest_line) × (others ≤ other_line_limit)
+IsShort (Waiting bytes others) = (length bytes < longest_line) × (line_end bytes ≡ None) × (others ≤ other_line_limit)
 IsShort (Heard text) = Unit {0}
 IsShort Failed = Unit {0}
 
@@ -65,6 +67,12 @@ abbrev pub waits : IdReading → Bool
 waits (Waiting bytes others) = true
 waits (Heard text) = false
 waits Failed = false
+
+-- what stays answered after an id or Version; nothing before them
+abbrev pub outcome_of : IdReading → Option (Result (Unit {0}) IdError)
+outcome_of (Waiting bytes others) = None
+outcome_of (Heard text) = Some (Ok tt)
+outcome_of Failed = Some (Err id_errors.Version)
 
 -- what is answered at the end of all bytes
 abbrev pub end_answer : IdReading → Result (Unit {0}) Error

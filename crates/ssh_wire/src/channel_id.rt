@@ -1,6 +1,6 @@
 //! Numbers of channels (RFC 4254 section 5.1).
 
-ghost use Rattle.std.specs.Prelude.{◌≡◌, ◌++◌, ◌<◌, ◌^◌, List, ℕ, OnOk, OnErr, IfOk, IfErr};
+ghost use Rattle.std.specs.Prelude.{◌≡◌, ◌++◌, ◌+◌, ◌<◌, ◌≤◌, ◌^◌, vec_len, vec_capacity, IsOk, List, ℕ, OnOk, OnErr, IfOk, IfErr};
 ghost use Rattle.ssh_wire.specs.Forms.{u32be};
 ghost use Rattle.ssh_wire.specs.Fields.{u32_at, TakesForm, IsRead};
 ghost use Rattle.ssh_wire.specs.declared.error.Error.TheVariants.{Memory};
@@ -36,6 +36,8 @@ impl ChannelId {
         ensures ok { OnOk result (out.new.items ≡ out.old.items ++ u32be self.now) }
         ensures unchanged { OnErr result (out.new.items ≡ out.old.items) }
         ensures err { IfErr result (λ e. e ≡ Memory) }
+        ensures ready { vec_len out.old + 4 ≤ vec_capacity out.old → IsOk result }
+        ensures capacity { vec_capacity out.old ≤ vec_capacity out.new }
     {
         put_u32(out, self.0)
     }
@@ -62,6 +64,10 @@ impl From<ChannelId> for u32 {
 }
 
 impl fmt::Display for ChannelId {
+    ghost use Rattle.std.specs.Prelude.{Some, decimal};
+
+    ghost output = { λ id. Some (decimal id) };
+
     fn fmt<W: fmt::Write>(&self, f: &mut fmt::Formatter<W>) -> fmt::Result {
         let number = self.0;
         write!(f, "{number}")

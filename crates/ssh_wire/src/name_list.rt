@@ -1,6 +1,6 @@
 //! Lists of names as text (RFC 4251 section 5, name-list).
 
-ghost use Rattle.std.specs.Prelude.{◌≡◌, ◌<◌, ◌≤◌, ◌^◌, ◌++◌, ◌∷◌, [], nat_lt, List, ℕ, length, take, OnOk, OnErr, IfOk, IfErr, IfSome, MatchResult, ◌⊎◌, Result, Ok, None, position};
+ghost use Rattle.std.specs.Prelude.{◌≡◌, ◌<◌, ◌≤◌, ◌^◌, ◌++◌, ◌∷◌, [], nat_lt, List, ℕ, ◌+◌, length, vec_len, vec_capacity, take, OnOk, OnErr, IfOk, IfErr, IfSome, IsOk, MatchResult, ◌⊎◌, Result, Ok, None, position};
 ghost use Rattle.std.specs.List.{slice_split, list_all};
 ghost use Rattle.std.specs.String.{string_bytes};
 ghost use Rattle.ssh_wire.specs.Forms.{joined_names, name_list};
@@ -9,7 +9,7 @@ ghost use Rattle.ssh_wire.specs.Names.{is_comma, without_last_comma, is_name, fa
 ghost use Rattle.ssh_wire.specs.Naming.{parts_behind, behind_comma, Admits, Spelled};
 ghost use Rattle.ssh_wire.specs.declared.error.Error.TheVariants.{Memory};
 
-use crate::bytes::{NameList, Text};
+use crate::bytes::Text;
 use crate::encoding::put_u32;
 use crate::error::{EncodingFault, Error};
 use crate::fields::{limited_of, utf8_of};
@@ -21,6 +21,10 @@ const NAME_LIMIT: usize = 1025;
 
 /// How many bytes a list may have as text.
 const NAME_LIST_LIMIT: usize = 16384;
+
+/// Names of algorithms in order of preference (RFC 4251 section 5, name-list).
+#[derive(Debug, PartialEq, Eq, Drop)]
+pub struct NameList(pub Vec<Text>);
 
 impl NameList {
     /// The names of a text that is cut at its commas. The empty text is no names, and one comma at the end
@@ -52,6 +56,8 @@ impl NameList {
         ensures ok { OnOk result (out.new.items ≡ out.old.items ++ name_list self.now.0.items) }
         ensures unchanged { OnErr result (out.new.items ≡ out.old.items) }
         ensures err { IfErr result (λ e. e ≡ Memory) }
+        ensures ready { vec_len out.old + length (name_list self.now.0.items) ≤ vec_capacity out.old → IsOk result }
+        ensures capacity { vec_capacity out.old ≤ vec_capacity out.new }
     {
         let start = out.len();
         put_u32(out, joined_len(self.0.as_slice()) as u32)?;
@@ -213,6 +219,8 @@ fn put_names(out: &mut Vec<u8>, names: &[Text]) -> Result<(), Error>
     ensures ok { OnOk result (out.new.items ≡ out.old.items ++ joined_names names.now) }
     ensures front { OnErr result (take (length out.old.items) out.new.items ≡ out.old.items) }
     ensures err { IfErr result (λ e. e ≡ Memory) }
+    ensures ready { vec_len out.old + length (joined_names names.now) ≤ vec_capacity out.old → IsOk result }
+    ensures capacity { vec_capacity out.old ≤ vec_capacity out.new }
 {
     for (i, name) in names.iter().enumerate() {
         put_name(out, i > 0, name.as_str())?;
@@ -225,8 +233,10 @@ fn put_name(out: &mut Vec<u8>, is_behind: bool, name: &str) -> Result<(), Error>
     ensures ok { OnOk result (out.new.items ≡ out.old.items ++ behind_comma is_behind name.now) }
     ensures unchanged { OnErr result (out.new.items ≡ out.old.items) }
     ensures err { IfErr result (λ e. e ≡ Memory) }
+    ensures ready { vec_len out.old + length (behind_comma is_behind name.now) ≤ vec_capacity out.old → IsOk result }
+    ensures capacity { vec_capacity out.old ≤ vec_capacity out.new }
 {
-    out.reserve(name.len() + 1)?;
+    out.reserve(name_len(is_behind, name))?;
     if is_behind {
         out.push(b',')?;
     }

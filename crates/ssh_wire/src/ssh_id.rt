@@ -1,6 +1,6 @@
 //! Version lines as they are sent (RFC 4253 section 4.2).
 
-ghost use Rattle.std.specs.Prelude.{◌≡◌, ◌++◌, OnOk, OnErr, IfErr};
+ghost use Rattle.std.specs.Prelude.{◌≡◌, ◌++◌, ◌+◌, ◌≤◌, length, vec_len, vec_capacity, OnOk, OnErr, IfErr, IsOk};
 ghost use Rattle.ssh_wire.specs.Lines.{is_line_end, without_line_ends};
 ghost use Rattle.ssh_wire.specs.declared.error.Error.TheVariants.{Memory};
 
@@ -36,6 +36,8 @@ impl SshId {
         ensures ok { OnOk result (out.new.items ≡ out.old.items ++ id_line self.now) }
         ensures unchanged { OnErr result (out.new.items ≡ out.old.items) }
         ensures err { IfErr result (λ e. e ≡ Memory) }
+        ensures ready { vec_len out.old + length (id_line self.now) ≤ vec_capacity out.old → IsOk result }
+        ensures capacity { vec_capacity out.old ≤ vec_capacity out.new }
     {
         match self {
             SshId::Standard(text) => {

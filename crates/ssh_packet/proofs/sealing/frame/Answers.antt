@@ -1,6 +1,7 @@
 use Rattle.std.proofs.Common.{rules, ◌≡◌, ◌-◌, ◌++◌, ◌∙◌, ap, subst, arith, length, take, drop}
 use borrow.Rule.Slice.PartMut.{put_mid}
-use Rattle.ssh_packet.specs.Sealing.{AreBytes, framed_text, padding_drawn}
+use Rattle.ssh_wire.specs.Forms.{AreBytes}
+use Rattle.ssh_packet.specs.Sealing.{framed_text, padding_drawn}
 use Rattle.ssh_packet.proofs.Framing.{framed_made, bytes_behind}
 use Rattle.ssh_packet.proofs.sealing.frame.Goals as goal
 
