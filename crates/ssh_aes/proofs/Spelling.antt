@@ -1,7 +1,7 @@
 -- Numbers of sixteen bytes.
-use Rattle.std.proofs.Common.{◌≡◌, ℕ, ◌+◌, ◌*◌, ◌/◌, ◌%◌, ◌^◌, ◌<◌, ◌∷◌, ◌++◌, drop, replicate, ◌∙◌, ap, arith}
+use Rattle.std.proofs.Common.{◌≡◌, ℕ, ◌+◌, ◌*◌, ◌/◌, ◌%◌, ◌∷◌, drop, ◌∙◌, ap, arith}
 use Rattle.std.proofs.Math.Nat.{div-div-eq-div-mul}
-use Rattle.std.specs.Int.{w128, from_be_bytes, to_be_bytes}
+use Rattle.std.specs.Int.{w128, to_be_bytes}
 use Rattle.ssh_aes.specs.Laws.{NumberSpelled, TwelveBytes}
 
 byte_and_rest : (n p : ℕ) → n / p ≡ n / p % 256 + n / (p * 256) * 256

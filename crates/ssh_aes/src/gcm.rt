@@ -5,7 +5,7 @@ ghost use Rattle.ssh_aes.specs.Gcm.{nonce_stream, gcm_counter_text, gcm_text, gc
 
 use crate::aes::Aes;
 use crate::blocks::add_block;
-use crate::hash::{hash_after, from_block, lengths, product, to_block};
+use crate::hash::{from_block, hash_after, lengths, product, to_block};
 use std::marker::Model;
 
 /// AES in Galois counter mode under one key. A contract sees the key.

@@ -41,10 +41,7 @@ pub const USAGE: &[u8] = b"usage\n";
 
 /// The words behind the program's name; none where an argument isn't UTF-8, since no command has such a word.
 /// OutOfMemory where the arguments or the words had no memory.
-pub fn words_of(
-    alloc: Global,
-    arguments: io::Result<Args<Global>>,
-) -> Result<Vec<Word>, AllocError>
+pub fn words_of(alloc: Global, arguments: io::Result<Args<Global>>) -> Result<Vec<Word>, AllocError>
     ensures { IfOk result (λ words. AreWords arguments words.items) }
 {
     match arguments {

@@ -1,7 +1,5 @@
-use Rattle.std.proofs.Common.{◌≡◌, ℕ, subst, sym}
+use Rattle.std.proofs.Common.{◌≡◌}
 use Rattle.std.specs.Process.{exit_status}
-use Rattle.ssh_link.specs.Program.{IsWritten}
-use Rattle.ssh_link.specs.Statuses.{source_failed, want_of_memory}
 use Rattle.ssh_link.proofs.program.exit_code.Goals as goal
 
 pub returns-in-Ok-clause-answered : goal.returns-in-Ok-clause-answered
