@@ -12,8 +12,6 @@ mod laws;
 mod runs;
 mod steps;
 mod tables;
-#[cfg(test)]
-mod tests;
 
 pub use crate::aes::Aes;
 pub use crate::cbc::CbcWrapper;

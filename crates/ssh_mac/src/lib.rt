@@ -7,8 +7,6 @@ mod hash_value;
 mod hmac;
 mod keys;
 pub mod mac;
-#[cfg(test)]
-mod tests;
 
 pub use crate::digest::{DigestKind, Hasher};
 pub use crate::hash_value::HashValue;

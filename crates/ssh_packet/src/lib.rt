@@ -13,8 +13,6 @@ mod keys;
 mod laws;
 mod reader;
 mod sealing;
-#[cfg(test)]
-mod tests;
 mod writer;
 
 pub use crate::buffer::{PacketBytesWriter, SSHBuffer};

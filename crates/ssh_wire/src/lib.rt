@@ -27,8 +27,6 @@ mod signal;
 mod ssh_id;
 mod ssh_read;
 mod strict_order;
-#[cfg(test)]
-mod tests;
 
 pub use crate::algorithm::{Algorithm, EcdsaCurve, HashAlg};
 pub use crate::bytes::{Blob, NameList, Payload, PayloadList, Text};
