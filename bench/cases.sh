@@ -1,24 +1,44 @@
 #!/usr/bin/env bash
 # Usage: bench/cases.sh [FOLDER]
-# Runs the program on each case of the folder (cases/ if none is given) and compares what it writes and its
-# exit status. A case is a folder with `args` (one word a line), `stdin`, `stdout` and `status`.
+# Runs the program on each case of the folder, or, if none is given, on those of cases/ and on the examples, and
+# compares what it writes and its exit status. A case is a folder with `args` (one word a line), `stdin`, `stdout` and
+# `status`; in place of `stdin` a line `COUNT TEXT` in `repeat` stands for so many lines of the text. An example is a
+# script NAME.txt of the command `clear`, with NAME.stdout and NAME.status beside it.
 set -u
 cd "$(dirname "$0")/.." || exit 1
-folder=${1:-cases}
 agree=0
 differ=0
 written=$(mktemp)
-for input in $(find "$folder" -name stdin | sort); do
-  case=$(dirname "$input")
-  mapfile -t words <"$case/args"
-  ./sshlink "${words[@]}" <"$input" >"$written"
-  if [ $? = "$(cat "$case/status")" ] && cmp -s "$written" "$case/stdout"; then
+trap 'rm -f "$written"' EXIT
+
+# judge NAME STATUS STDOUT WANTED_STATUS
+judge() {
+  if [ "$2" = "$(cat "$4")" ] && cmp -s "$written" "$3"; then
     agree=$((agree + 1))
   else
     differ=$((differ + 1))
-    echo "$case differs"
+    echo "$1 differs"
   fi
-done
-rm -f "$written"
+}
+
+lines() { yes "$2" | head -n "$1"; }
+
+while read -r args; do
+  case=$(dirname "$args")
+  mapfile -t words <"$args"
+  if [ -f "$case/repeat" ]; then
+    read -r count text <"$case/repeat"
+    lines "$count" "$text" | ./sshlink "${words[@]}" >"$written"
+  else
+    ./sshlink "${words[@]}" <"$case/stdin" >"$written"
+  fi
+  judge "$case" "$?" "$case/stdout" "$case/status"
+done < <(find "${1:-cases}" -name args | sort)
+if [ "$#" = 0 ]; then
+  for script in examples/*.txt; do
+    ./sshlink clear <"$script" >"$written"
+    judge "$script" "$?" "${script%.txt}.stdout" "${script%.txt}.status"
+  done
+fi
 echo "cases: $agree passed, $differ failed"
 [ "$differ" = 0 ] && [ "$agree" -gt 0 ]

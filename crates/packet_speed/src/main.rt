@@ -4,9 +4,9 @@
 #![tactic(auto)]
 
 ghost use Rattle.std.specs.Prelude.{◌≡◌, ◌≤◌, length};
-ghost use Rattle.ssh_mac.specs.Names.{key_length as mac_key_length};
+ghost use Rattle.ssh_mac.specs.Names.{mac_key_length};
 ghost use Rattle.ssh_packet.specs.Keys.{opening_of, sealing_of};
-ghost use Rattle.ssh_packet.specs.Names.{key_length, nonce_length};
+ghost use Rattle.ssh_packet.specs.Names.{cipher_key_length, nonce_length};
 
 use rand_chacha::ChaCha20Rng;
 use rand_core::SeedableRng;
@@ -39,7 +39,7 @@ fn run(
     let mut rng = ChaCha20Rng::from_seed([1; 32]);
     let mut payload = Vec::new(alloc);
     payload.resize(length, 97)?;
-    let mut writer = PacketWriter::new(keys.local_to_remote, Compress::None, alloc);
+    let mut writer = PacketWriter::new(alloc, keys.local_to_remote, Compress::None);
     let mut reader = PacketReader::new(alloc);
     let mut opening = keys.remote_to_local;
     for _turn in 0..count {

@@ -4,7 +4,7 @@ use Rattle.std.specs.Prelude.{bit_xor, slice_index}
 use Rattle.std.proofs.lemmas.Bool.{eqb-true, ltb-true, and_parts}
 use Rattle.ssh_aes.specs.declared.tables.TheConstants.{SUBSTITUTION, INVERSE_SUBSTITUTION, ROUND_CONSTANTS}
 use Rattle.ssh_aes.specs.Field.{byte_product, product_modulo, polynomial_product, remainder}
-use Rattle.ssh_aes.specs.Aes.{substitute, inverse_substitute, round_constant, inverse, times_squares, combined}
+use Rattle.ssh_aes.specs.Aes.{substitute, inverse_substitute, round_constant, inverse, times_squares, mixed_byte}
 use Rattle.ssh_aes.proofs.Below.{all_below, all_below-at}
 
 -- ---- the inverse is one
@@ -157,7 +157,7 @@ fourteen-lt b h = ltb-true _ _ (and_parts _ _ (all_below-at 256 (λ b. ltb (byte
 
 -- what the row j, k, l, m makes of four products of a byte
 abbrev pub crossed : (j k l m p q r s b : ℕ) → ℕ
-crossed j k l m p q r s b = combined j k l m (byte_product p b) (byte_product q b) (byte_product r b) (byte_product s b)
+crossed j k l m p q r s b = mixed_byte j k l m (byte_product p b) (byte_product q b) (byte_product r b) (byte_product s b)
 
 -- the row j, k, l, m undoes the columns of the row p, q, r, s
 pub record UndoesRow (j k l m p q r s : ℕ) : Type 0 where

@@ -6,59 +6,59 @@ use Rattle.std.proofs.lemmas.Bool.{cases_lt}
 use Rattle.std.proofs.lemmas.Nat.{xor_comm, xor_of_8}
 use Rattle.std.proofs.lemmas.List.{get_or_past, length-append}
 use Rattle.ssh_aes.specs.Field.{byte_product}
-use Rattle.ssh_aes.specs.Aes.{listed, substitute, inverse_substitute, sub_bytes, inverse_sub_bytes, shift_rows, inverse_shift_rows, combined, mixed_column, unmixed_column, mix_columns, inverse_mix_columns, add_round_key, rounds, inverse_rounds, cipher, inverse_cipher, aes, inverse_aes, expanded_key, schedule, next_word, plus_word, word_byte, block, bytes_of, key_words, round_constant}
+use Rattle.ssh_aes.specs.Aes.{bytes_by, substitute, inverse_substitute, sub_bytes, inverse_sub_bytes, shift_rows, inverse_shift_rows, mixed_byte, mixed_column, unmixed_column, mix_columns, inverse_mix_columns, add_round_key, rounds, inverse_rounds, cipher, inverse_cipher, aes, inverse_aes, expanded_key, schedule, next_word, plus_word, word_byte, block, bytes_of, key_words, round_constant}
 use Rattle.ssh_aes.specs.declared.tables.TheConstants.{INVERSE_SUBSTITUTION}
-use Rattle.ssh_aes.specs.Laws.{IsBytes, BlocksUndone}
+use Rattle.ssh_aes.specs.Laws.{AreBytes, BlocksUndone}
 use Rattle.ssh_aes.proofs.Polynomials.{xor_across, xor_cancel, product_modulo-sum}
 use Rattle.ssh_aes.proofs.Entries.{substitution_is, inverse_substitution_is, substitution-lt, restored_is, one_is, two-lt, three-lt, UndoesRow, crossed, unmixed_undoes, mixed_undoes}
-use Rattle.ssh_aes.proofs.Schedules.{length-listed, listed-at, listed-same, block-same}
+use Rattle.ssh_aes.proofs.Schedules.{length-bytes_by, bytes_by-at, bytes_by-same, block-same}
 use Rattle.ssh_aes.proofs.Written.{sixteen-elements}
 
 -- 16 bytes
 pub record IsBlock (s : List ℕ) : Type 0 where
   pub length_is : length s ≡ 16
-  pub bytes : IsBytes s
+  pub bytes : AreBytes s
 
-pub IsBytes-listed : (n : ℕ) (f : ℕ → ℕ) → ((i : ℕ) → i < n → f i < 256) → IsBytes (listed n f)
-IsBytes-listed n f h i = elim (cases_lt i n) [
-  | inl l ↦ rw (listed-at n f i l) (h i l)
-  | inr l ↦ let e = get_or_past (listed n f) i 0 (omega (arith, length-listed n f)) in rw e (omega arith)
+pub AreBytes-bytes_by : (n : ℕ) (f : ℕ → ℕ) → ((i : ℕ) → i < n → f i < 256) → AreBytes (bytes_by n f)
+AreBytes-bytes_by n f h i = elim (cases_lt i n) [
+  | inl l ↦ rw (bytes_by-at n f i l) (h i l)
+  | inr l ↦ let e = get_or_past (bytes_by n f) i 0 (omega (arith, length-bytes_by n f)) in rw e (omega arith)
 ]
 
-pub IsBlock-listed : (f : ℕ → ℕ) → ((i : ℕ) → i < 16 → f i < 256) → IsBlock (listed 16 f)
-IsBlock-listed f h = record { length_is = length-listed 16 f; bytes = IsBytes-listed 16 f h }
+pub IsBlock-bytes_by : (f : ℕ → ℕ) → ((i : ℕ) → i < 16 → f i < 256) → IsBlock (bytes_by 16 f)
+IsBlock-bytes_by f h = record { length_is = length-bytes_by 16 f; bytes = AreBytes-bytes_by 16 f h }
 
 pub xor-lt : (a b : ℕ) → a < 256 → b < 256 → bit_xor a b < 256
 xor-lt a b h k = xor_of_8 a b h k
 
 -- ---- bytes
 
-pub IsBytes-nil : IsBytes []
-IsBytes-nil zero = omega arith
-IsBytes-nil (suc i) = omega arith
+pub AreBytes-nil : AreBytes []
+AreBytes-nil zero = omega arith
+AreBytes-nil (suc i) = omega arith
 
-pub IsBytes-cons : (x : ℕ) (xs : List ℕ) → x < 256 → IsBytes xs → IsBytes (x ∷ xs)
-IsBytes-cons x xs h b zero = h
-IsBytes-cons x xs h b (suc i) = b i
+pub AreBytes-cons : (x : ℕ) (xs : List ℕ) → x < 256 → AreBytes xs → AreBytes (x ∷ xs)
+AreBytes-cons x xs h b zero = h
+AreBytes-cons x xs h b (suc i) = b i
 
-pub IsBytes-append : (xs ys : List ℕ) → IsBytes xs → IsBytes ys → IsBytes (xs ++ ys)
-IsBytes-append [] ys a b = b
-IsBytes-append (x ∷ xs) ys a b = IsBytes-cons x (xs ++ ys) (a 0) (IsBytes-append xs ys (λ i. a (suc i)) b)
+pub AreBytes-append : (xs ys : List ℕ) → AreBytes xs → AreBytes ys → AreBytes (xs ++ ys)
+AreBytes-append [] ys a b = b
+AreBytes-append (x ∷ xs) ys a b = AreBytes-cons x (xs ++ ys) (a 0) (AreBytes-append xs ys (λ i. a (suc i)) b)
 
-pub IsBytes-four : (a b c d : ℕ) → a < 256 → b < 256 → c < 256 → d < 256 → IsBytes (a ∷ b ∷ c ∷ d ∷ [])
-IsBytes-four a b c d h i j k =
-    IsBytes-cons a (b ∷ c ∷ d ∷ []) h (IsBytes-cons b (c ∷ d ∷ []) i (IsBytes-cons c (d ∷ []) j (IsBytes-cons d [] k IsBytes-nil)))
+pub AreBytes-four : (a b c d : ℕ) → a < 256 → b < 256 → c < 256 → d < 256 → AreBytes (a ∷ b ∷ c ∷ d ∷ [])
+AreBytes-four a b c d h i j k =
+    AreBytes-cons a (b ∷ c ∷ d ∷ []) h (AreBytes-cons b (c ∷ d ∷ []) i (AreBytes-cons c (d ∷ []) j (AreBytes-cons d [] k AreBytes-nil)))
 
 -- ---- each step
 
-pub add_round_key-block : (w : List ℕ) (r : ℕ) (s : List ℕ) → IsBytes w → IsBlock s → IsBlock (add_round_key w r s)
+pub add_round_key-block : (w : List ℕ) (r : ℕ) (s : List ℕ) → AreBytes w → IsBlock s → IsBlock (add_round_key w r s)
 unfolding add_round_key
-add_round_key-block w r s h b = IsBlock-listed (λ i. bit_xor (slice_index s i) (slice_index w (16 * r + i))) (λ i l. xor-lt _ _ (b.bytes i) (h (16 * r + i)))
+add_round_key-block w r s h b = IsBlock-bytes_by (λ i. bit_xor (slice_index s i) (slice_index w (16 * r + i))) (λ i l. xor-lt _ _ (b.bytes i) (h (16 * r + i)))
 
 pub add_round_key-twice : (w : List ℕ) (r : ℕ) (s : List ℕ) → IsBlock s → add_round_key w r (add_round_key w r s) ≡ s
 unfolding add_round_key
 add_round_key-twice w r s b =
-    listed-same 16 _ (slice_index s) (λ i l. ap (λ x. bit_xor x (slice_index w (16 * r + i))) (listed-at 16 (λ j. bit_xor (slice_index s j) (slice_index w (16 * r + j))) i l) ∙ xor_cancel (slice_index s i) (slice_index w (16 * r + i)))
+    bytes_by-same 16 _ (slice_index s) (λ i l. ap (λ x. bit_xor x (slice_index w (16 * r + i))) (bytes_by-at 16 (λ j. bit_xor (slice_index s j) (slice_index w (16 * r + j))) i l) ∙ xor_cancel (slice_index s i) (slice_index w (16 * r + i)))
     ∙ sixteen-elements s b.length_is
 
 pub substitute-lt : (b : ℕ) → b < 256 → substitute b < 256
@@ -71,17 +71,17 @@ substitute-back b h =
 
 pub sub_bytes-block : (s : List ℕ) → IsBlock s → IsBlock (sub_bytes s)
 unfolding sub_bytes
-sub_bytes-block s b = IsBlock-listed (λ i. substitute (slice_index s i)) (λ i l. substitute-lt _ (b.bytes i))
+sub_bytes-block s b = IsBlock-bytes_by (λ i. substitute (slice_index s i)) (λ i l. substitute-lt _ (b.bytes i))
 
 pub sub_bytes-back : (s : List ℕ) → IsBlock s → inverse_sub_bytes (sub_bytes s) ≡ s
 unfolding sub_bytes inverse_sub_bytes
 sub_bytes-back s b =
-    listed-same 16 _ (slice_index s) (λ i l. ap inverse_substitute (listed-at 16 (λ j. substitute (slice_index s j)) i l) ∙ substitute-back _ (b.bytes i))
+    bytes_by-same 16 _ (slice_index s) (λ i l. ap inverse_substitute (bytes_by-at 16 (λ j. substitute (slice_index s j)) i l) ∙ substitute-back _ (b.bytes i))
     ∙ sixteen-elements s b.length_is
 
 pub shift_rows-block : (s : List ℕ) → IsBlock s → IsBlock (shift_rows s)
 unfolding shift_rows
-shift_rows-block s b = IsBlock-listed (λ i. slice_index s ((i + 4 * (i % 4)) % 16)) (λ i l. b.bytes _)
+shift_rows-block s b = IsBlock-bytes_by (λ i. slice_index s ((i + 4 * (i % 4)) % 16)) (λ i l. b.bytes _)
 
 pub shift_rows-back : (s : List ℕ) → IsBlock s → inverse_shift_rows (shift_rows s) ≡ s
 unfolding shift_rows inverse_shift_rows
@@ -89,13 +89,13 @@ shift_rows-back s b = sixteen-elements s b.length_is
 
 -- ---- the columns
 
-turned : (j k l m a b c d : ℕ) → combined j k l m a b c d ≡ combined k l m j b c d a
+turned : (j k l m a b c d : ℕ) → mixed_byte j k l m a b c d ≡ mixed_byte k l m j b c d a
 turned j k l m a b c d =
     ap (λ x. bit_xor x (bit_xor (byte_product l c) (byte_product m d))) (xor_comm (byte_product j a) (byte_product k b))
     ∙ xor_across (byte_product k b) (byte_product j a) (byte_product l c) (byte_product m d)
     ∙ ap (bit_xor (bit_xor (byte_product k b) (byte_product l c))) (xor_comm (byte_product j a) (byte_product m d))
 
-spread : (j p q r s a b c d : ℕ) → byte_product j (combined p q r s a b c d) ≡ bit_xor (bit_xor (byte_product j (byte_product p a)) (byte_product j (byte_product q b))) (bit_xor (byte_product j (byte_product r c)) (byte_product j (byte_product s d)))
+spread : (j p q r s a b c d : ℕ) → byte_product j (mixed_byte p q r s a b c d) ≡ bit_xor (bit_xor (byte_product j (byte_product p a)) (byte_product j (byte_product q b))) (bit_xor (byte_product j (byte_product r c)) (byte_product j (byte_product s d)))
 spread j p q r s a b c d =
     product_modulo-sum 8 0x11b j (bit_xor (byte_product p a) (byte_product q b)) (bit_xor (byte_product r c) (byte_product s d))
     ∙ ap (λ x. bit_xor x (byte_product j (bit_xor (byte_product r c) (byte_product s d)))) (product_modulo-sum 8 0x11b j (byte_product p a) (byte_product q b))
@@ -109,7 +109,7 @@ four_across a b c d e f g h =
 
 -- the row j, k, l, m of the columns of the row p, q, r, s
 abbrev twice : (j k l m p q r s a b c d : ℕ) → ℕ
-twice j k l m p q r s a b c d = combined j k l m (combined p q r s a b c d) (combined s p q r a b c d) (combined r s p q a b c d) (combined q r s p a b c d)
+twice j k l m p q r s a b c d = mixed_byte j k l m (mixed_byte p q r s a b c d) (mixed_byte s p q r a b c d) (mixed_byte r s p q a b c d) (mixed_byte q r s p a b c d)
 
 abbrev four : (a b c d : ℕ) → ℕ
 four a b c d = bit_xor (bit_xor a b) (bit_xor c d)
@@ -134,11 +134,11 @@ first j k l m p q r s a b c d u ha hb hc hd =
 -- a column and the rows, turned by one
 turn : (j k l m p q r s a b c d : ℕ) → twice j k l m p q r s a b c d ≡ twice k l m j p q r s b c d a
 turn j k l m p q r s a b c d =
-    turned j k l m (combined p q r s a b c d) (combined s p q r a b c d) (combined r s p q a b c d) (combined q r s p a b c d)
-    ∙ ap (λ x. combined k l m j x (combined r s p q a b c d) (combined q r s p a b c d) (combined p q r s a b c d)) (turned s p q r a b c d)
-    ∙ ap (λ x. combined k l m j (combined p q r s b c d a) x (combined q r s p a b c d) (combined p q r s a b c d)) (turned r s p q a b c d)
-    ∙ ap (λ x. combined k l m j (combined p q r s b c d a) (combined s p q r b c d a) x (combined p q r s a b c d)) (turned q r s p a b c d)
-    ∙ ap (λ x. combined k l m j (combined p q r s b c d a) (combined s p q r b c d a) (combined r s p q b c d a) x) (turned p q r s a b c d)
+    turned j k l m (mixed_byte p q r s a b c d) (mixed_byte s p q r a b c d) (mixed_byte r s p q a b c d) (mixed_byte q r s p a b c d)
+    ∙ ap (λ x. mixed_byte k l m j x (mixed_byte r s p q a b c d) (mixed_byte q r s p a b c d) (mixed_byte p q r s a b c d)) (turned s p q r a b c d)
+    ∙ ap (λ x. mixed_byte k l m j (mixed_byte p q r s b c d a) x (mixed_byte q r s p a b c d) (mixed_byte p q r s a b c d)) (turned r s p q a b c d)
+    ∙ ap (λ x. mixed_byte k l m j (mixed_byte p q r s b c d a) (mixed_byte s p q r b c d a) x (mixed_byte p q r s a b c d)) (turned q r s p a b c d)
+    ∙ ap (λ x. mixed_byte k l m j (mixed_byte p q r s b c d a) (mixed_byte s p q r b c d a) (mixed_byte r s p q b c d a) x) (turned p q r s a b c d)
 
 second : (j k l m p q r s a b c d : ℕ) → UndoesRow j k l m p q r s → a < 256 → b < 256 → c < 256 → d < 256 → twice m j k l p q r s a b c d ≡ b
 second j k l m p q r s a b c d u ha hb hc hd = turn m j k l p q r s a b c d ∙ first j k l m p q r s b c d a u hb hc hd ha
@@ -151,16 +151,16 @@ fourth j k l m p q r s a b c d u ha hb hc hd = turn k l m j p q r s a b c d ∙ 
 
 -- the four rows of a column
 abbrev turned_rows : (j k l m a b c d : ℕ) → List ℕ
-turned_rows j k l m a b c d = combined j k l m a b c d ∷ combined m j k l a b c d ∷ combined l m j k a b c d ∷ combined k l m j a b c d ∷ []
+turned_rows j k l m a b c d = mixed_byte j k l m a b c d ∷ mixed_byte m j k l a b c d ∷ mixed_byte l m j k a b c d ∷ mixed_byte k l m j a b c d ∷ []
 
-rows-back : (j k l m p q r s a b c d : ℕ) → UndoesRow j k l m p q r s → a < 256 → b < 256 → c < 256 → d < 256 → turned_rows j k l m (combined p q r s a b c d) (combined s p q r a b c d) (combined r s p q a b c d) (combined q r s p a b c d) ≡ a ∷ b ∷ c ∷ d ∷ []
+rows-back : (j k l m p q r s a b c d : ℕ) → UndoesRow j k l m p q r s → a < 256 → b < 256 → c < 256 → d < 256 → turned_rows j k l m (mixed_byte p q r s a b c d) (mixed_byte s p q r a b c d) (mixed_byte r s p q a b c d) (mixed_byte q r s p a b c d) ≡ a ∷ b ∷ c ∷ d ∷ []
 rows-back j k l m p q r s a b c d u ha hb hc hd = rw (first j k l m p q r s a b c d u ha hb hc hd, second j k l m p q r s a b c d u ha hb hc hd, third j k l m p q r s a b c d u ha hb hc hd, fourth j k l m p q r s a b c d u ha hb hc hd) refl
 
-column-back : (a b c d : ℕ) → a < 256 → b < 256 → c < 256 → d < 256 → unmixed_column (combined 2 3 1 1 a b c d) (combined 1 2 3 1 a b c d) (combined 1 1 2 3 a b c d) (combined 3 1 1 2 a b c d) ≡ a ∷ b ∷ c ∷ d ∷ []
+column-back : (a b c d : ℕ) → a < 256 → b < 256 → c < 256 → d < 256 → unmixed_column (mixed_byte 2 3 1 1 a b c d) (mixed_byte 1 2 3 1 a b c d) (mixed_byte 1 1 2 3 a b c d) (mixed_byte 3 1 1 2 a b c d) ≡ a ∷ b ∷ c ∷ d ∷ []
 unfolding unmixed_column
 column-back a b c d ha hb hc hd = rows-back 14 11 13 9 2 3 1 1 a b c d unmixed_undoes ha hb hc hd
 
-pub column-again : (a b c d : ℕ) → a < 256 → b < 256 → c < 256 → d < 256 → mixed_column (combined 14 11 13 9 a b c d) (combined 9 14 11 13 a b c d) (combined 13 9 14 11 a b c d) (combined 11 13 9 14 a b c d) ≡ a ∷ b ∷ c ∷ d ∷ []
+pub column-again : (a b c d : ℕ) → a < 256 → b < 256 → c < 256 → d < 256 → mixed_column (mixed_byte 14 11 13 9 a b c d) (mixed_byte 9 14 11 13 a b c d) (mixed_byte 13 9 14 11 a b c d) (mixed_byte 11 13 9 14 a b c d) ≡ a ∷ b ∷ c ∷ d ∷ []
 unfolding mixed_column
 column-again a b c d ha hb hc hd = rows-back 2 3 1 1 14 11 13 9 a b c d mixed_undoes ha hb hc hd
 
@@ -173,20 +173,20 @@ mix_columns-back s b =
     let t = column-back (slice_index s 12) (slice_index s 13) (slice_index s 14) (slice_index s 15) (b.bytes 12) (b.bytes 13) (b.bytes 14) (b.bytes 15) in
     rw (p, q, r, t) (sixteen-elements s b.length_is)
 
-pub combined-lt : (j k l m a b c d : ℕ) → byte_product j a < 256 → byte_product k b < 256 → byte_product l c < 256 → byte_product m d < 256 → combined j k l m a b c d < 256
-combined-lt j k l m a b c d p q r s = xor-lt _ _ (xor-lt _ _ p q) (xor-lt _ _ r s)
+pub mixed_byte-lt : (j k l m a b c d : ℕ) → byte_product j a < 256 → byte_product k b < 256 → byte_product l c < 256 → byte_product m d < 256 → mixed_byte j k l m a b c d < 256
+mixed_byte-lt j k l m a b c d p q r s = xor-lt _ _ (xor-lt _ _ p q) (xor-lt _ _ r s)
 
 one-lt : (b : ℕ) → b < 256 → byte_product 1 b < 256
 one-lt b h = subst (λ (x : ℕ). x < 256) (sym (one_is b h)) h
 
-mixed_column-bytes : (a b c d : ℕ) → a < 256 → b < 256 → c < 256 → d < 256 → IsBytes (mixed_column a b c d)
+mixed_column-bytes : (a b c d : ℕ) → a < 256 → b < 256 → c < 256 → d < 256 → AreBytes (mixed_column a b c d)
 unfolding mixed_column
 mixed_column-bytes a b c d h i j k =
-    IsBytes-four _ _ _ _
-    (combined-lt 2 3 1 1 a b c d (two-lt a h) (three-lt b i) (one-lt c j) (one-lt d k))
-    (combined-lt 1 2 3 1 a b c d (one-lt a h) (two-lt b i) (three-lt c j) (one-lt d k))
-    (combined-lt 1 1 2 3 a b c d (one-lt a h) (one-lt b i) (two-lt c j) (three-lt d k))
-    (combined-lt 3 1 1 2 a b c d (three-lt a h) (one-lt b i) (one-lt c j) (two-lt d k))
+    AreBytes-four _ _ _ _
+    (mixed_byte-lt 2 3 1 1 a b c d (two-lt a h) (three-lt b i) (one-lt c j) (one-lt d k))
+    (mixed_byte-lt 1 2 3 1 a b c d (one-lt a h) (two-lt b i) (three-lt c j) (one-lt d k))
+    (mixed_byte-lt 1 1 2 3 a b c d (one-lt a h) (one-lt b i) (two-lt c j) (three-lt d k))
+    (mixed_byte-lt 3 1 1 2 a b c d (three-lt a h) (one-lt b i) (one-lt c j) (two-lt d k))
 
 length-mixed_column : (a b c d : ℕ) → length (mixed_column a b c d) ≡ 4
 unfolding mixed_column
@@ -195,10 +195,10 @@ length-mixed_column a b c d = refl
 pub mix_columns-block : (s : List ℕ) → IsBlock s → IsBlock (mix_columns s)
 unfolding mix_columns
 mix_columns-block s b =
-    let column : (i : ℕ) → IsBytes (mixed_column (slice_index s i) (slice_index s (i + 1)) (slice_index s (i + 2)) (slice_index s (i + 3))) = λ i. mixed_column-bytes _ _ _ _ (b.bytes i) (b.bytes (i + 1)) (b.bytes (i + 2)) (b.bytes (i + 3)) in
+    let column : (i : ℕ) → AreBytes (mixed_column (slice_index s i) (slice_index s (i + 1)) (slice_index s (i + 2)) (slice_index s (i + 3))) = λ i. mixed_column-bytes _ _ _ _ (b.bytes i) (b.bytes (i + 1)) (b.bytes (i + 2)) (b.bytes (i + 3)) in
     record {
       length_is = simp (length-append, length-mixed_column) refl;
-      bytes = IsBytes-append _ _ (IsBytes-append _ _ (IsBytes-append _ _ (column 0) (column 4)) (column 8)) (column 12);
+      bytes = AreBytes-append _ _ (AreBytes-append _ _ (AreBytes-append _ _ (column 0) (column 4)) (column 8)) (column 12);
     }
 
 -- ---- the schedule
@@ -212,12 +212,12 @@ unfolding round_constant
 round_constant-lt zero = omega arith
 round_constant-lt (suc n) = two-lt (round_constant n) (round_constant-lt n)
 
-plus_word-bytes : (w : List ℕ) (i a b c d : ℕ) → IsBytes w → a < 256 → b < 256 → c < 256 → d < 256 → IsBytes (plus_word w i a b c d)
+plus_word-bytes : (w : List ℕ) (i a b c d : ℕ) → AreBytes w → a < 256 → b < 256 → c < 256 → d < 256 → AreBytes (plus_word w i a b c d)
 plus_word-bytes w i a b c d x h j k l =
     let t = λ (n : ℕ). word_byte w i n in
-    IsBytes-four (bit_xor (t 0) a) (bit_xor (t 1) b) (bit_xor (t 2) c) (bit_xor (t 3) d) (xor-lt (t 0) a (x (4 * i + 0)) h) (xor-lt (t 1) b (x (4 * i + 1)) j) (xor-lt (t 2) c (x (4 * i + 2)) k) (xor-lt (t 3) d (x (4 * i + 3)) l)
+    AreBytes-four (bit_xor (t 0) a) (bit_xor (t 1) b) (bit_xor (t 2) c) (bit_xor (t 3) d) (xor-lt (t 0) a (x (4 * i + 0)) h) (xor-lt (t 1) b (x (4 * i + 1)) j) (xor-lt (t 2) c (x (4 * i + 2)) k) (xor-lt (t 3) d (x (4 * i + 3)) l)
 
-next_word-bytes : (n : ℕ) (w : List ℕ) (i : ℕ) → IsBytes w → IsBytes (next_word n w i)
+next_word-bytes : (n : ℕ) (w : List ℕ) (i : ℕ) → AreBytes w → AreBytes (next_word n w i)
 unfolding next_word
 next_word-bytes n w i x =
     let t = λ (j : ℕ). word_byte w (i - 1) j in
@@ -228,30 +228,30 @@ next_word-bytes n w i x =
     let a = plus_word w (i - n) (bit_xor (u 1) r) (u 2) (u 3) (u 0) in
     let b = plus_word w (i - n) (u 0) (u 1) (u 2) (u 3) in
     let c = plus_word w (i - n) (t 0) (t 1) (t 2) (t 3) in
-    cond-has IsBytes (eqb (i % n) 0) a (cond (eqb n 8 && eqb (i % 8) 4) b c)
+    cond-has AreBytes (eqb (i % n) 0) a (cond (eqb n 8 && eqb (i % 8) 4) b c)
     (plus_word-bytes w (i - n) (bit_xor (u 1) r) (u 2) (u 3) (u 0) x (xor-lt (u 1) r (k 1) (round_constant-lt (i / n - 1))) (k 2) (k 3) (k 0))
-    (cond-has IsBytes (eqb n 8 && eqb (i % 8) 4) b c
+    (cond-has AreBytes (eqb n 8 && eqb (i % 8) 4) b c
     (plus_word-bytes w (i - n) (u 0) (u 1) (u 2) (u 3) x (k 0) (k 1) (k 2) (k 3))
     (plus_word-bytes w (i - n) (t 0) (t 1) (t 2) (t 3) x (h 0) (h 1) (h 2) (h 3)))
 
-pub bytes_of-bytes : (n : ℕ) (s : List ℕ) → IsBytes (bytes_of n s)
-bytes_of-bytes n s = IsBytes-listed n (λ i. slice_index s i % 256) (λ i l. omega arith)
+pub bytes_of-bytes : (n : ℕ) (s : List ℕ) → AreBytes (bytes_of n s)
+bytes_of-bytes n s = AreBytes-bytes_by n (λ i. slice_index s i % 256) (λ i l. omega arith)
 
-pub schedule-bytes : (n : ℕ) (key : List ℕ) (k : ℕ) → IsBytes (schedule n key k)
+pub schedule-bytes : (n : ℕ) (key : List ℕ) (k : ℕ) → AreBytes (schedule n key k)
 unfolding schedule
 schedule-bytes n key zero = bytes_of-bytes (4 * n) key
-schedule-bytes n key (suc k) = IsBytes-append (schedule n key k) (next_word n (schedule n key k) (n + k)) (schedule-bytes n key k) (next_word-bytes n (schedule n key k) (n + k) (schedule-bytes n key k))
+schedule-bytes n key (suc k) = AreBytes-append (schedule n key k) (next_word n (schedule n key k) (n + k)) (schedule-bytes n key k) (next_word-bytes n (schedule n key k) (n + k) (schedule-bytes n key k))
 
-pub expanded_key-bytes : (key : List ℕ) → IsBytes (expanded_key key)
+pub expanded_key-bytes : (key : List ℕ) → AreBytes (expanded_key key)
 unfolding expanded_key
 expanded_key-bytes key = schedule-bytes (key_words key) key (3 * key_words key + 28)
 
 -- ---- all rounds
 
 pub block-block : (s : List ℕ) → IsBlock (block s)
-block-block s = record { length_is = length-listed 16 (λ i. slice_index s i % 256); bytes = bytes_of-bytes 16 s }
+block-block s = record { length_is = length-bytes_by 16 (λ i. slice_index s i % 256); bytes = bytes_of-bytes 16 s }
 
-rounds-block : (w : List ℕ) (k : ℕ) (s : List ℕ) → IsBytes w → IsBlock s → IsBlock (rounds w k s)
+rounds-block : (w : List ℕ) (k : ℕ) (s : List ℕ) → AreBytes w → IsBlock s → IsBlock (rounds w k s)
 unfolding rounds
 rounds-block w zero s h b = add_round_key-block w 0 s h b
 rounds-block w (suc k) s h b = add_round_key-block w (suc k) _ h (mix_columns-block _ (shift_rows-block _ (sub_bytes-block _ (rounds-block w k s h b))))
@@ -260,15 +260,15 @@ rounds-block w (suc k) s h b = add_round_key-block w (suc k) _ h (mix_columns-bl
 abbrev shifted : List ℕ → ℕ → List ℕ → List ℕ
 shifted w k s = shift_rows (sub_bytes (rounds w k s))
 
-shifted-block : (w : List ℕ) (k : ℕ) (s : List ℕ) → IsBytes w → IsBlock s → IsBlock (shifted w k s)
+shifted-block : (w : List ℕ) (k : ℕ) (s : List ℕ) → AreBytes w → IsBlock s → IsBlock (shifted w k s)
 shifted-block w k s h b = shift_rows-block _ (sub_bytes-block _ (rounds-block w k s h b))
 
-shifted-back : (w : List ℕ) (k : ℕ) (s : List ℕ) → IsBytes w → IsBlock s → inverse_sub_bytes (inverse_shift_rows (shifted w k s)) ≡ rounds w k s
+shifted-back : (w : List ℕ) (k : ℕ) (s : List ℕ) → AreBytes w → IsBlock s → inverse_sub_bytes (inverse_shift_rows (shifted w k s)) ≡ rounds w k s
 shifted-back w k s h b =
     ap inverse_sub_bytes (shift_rows-back (sub_bytes (rounds w k s)) (sub_bytes-block _ (rounds-block w k s h b)))
     ∙ sub_bytes-back (rounds w k s) (rounds-block w k s h b)
 
-rounds-back : (w : List ℕ) (k : ℕ) (s : List ℕ) → IsBytes w → IsBlock s → inverse_rounds w k (shifted w k s) ≡ s
+rounds-back : (w : List ℕ) (k : ℕ) (s : List ℕ) → AreBytes w → IsBlock s → inverse_rounds w k (shifted w k s) ≡ s
 unfolding inverse_rounds rounds
 rounds-back w zero s h b = ap (add_round_key w 0) (shifted-back w zero s h b) ∙ add_round_key-twice w 0 s b
 rounds-back w (suc k) s h b =
@@ -281,7 +281,7 @@ pub aes-block : (key s : List ℕ) → IsBlock (aes key s)
 unfolding aes cipher
 aes-block key s = add_round_key-block (expanded_key key) _ _ (expanded_key-bytes key) (shifted-block (expanded_key key) (key_words key + 5) (block s) (expanded_key-bytes key) (block-block s))
 
-cipher-back : (w : List ℕ) (k : ℕ) (s : List ℕ) → IsBytes w → IsBlock s → inverse_cipher w k (cipher w k s) ≡ s
+cipher-back : (w : List ℕ) (k : ℕ) (s : List ℕ) → AreBytes w → IsBlock s → inverse_cipher w k (cipher w k s) ≡ s
 unfolding inverse_cipher cipher
 cipher-back w k s h b = ap (inverse_rounds w k) (add_round_key-twice w (k + 1) (shifted w k s) (shifted-block w k s h b)) ∙ rounds-back w k s h b
 

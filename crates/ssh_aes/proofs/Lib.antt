@@ -11,3 +11,5 @@ pub mod Closing
 pub mod Chaining
 pub mod Sealing
 pub mod Fronts
+pub mod Spelling
+pub mod Lemmas

@@ -2,7 +2,7 @@
 use Rattle.std.proofs.Common.{[], ◌∷◌, ◌++◌, sym, ap, ◌≡◌, ◌≢◌, ℕ, ◌+◌, ◌<◌, ◌≤◌, List, length, set, slice_index, arith, refl, below_more, get_or-set_same, get_or-set_other, ◌∙◌}
 use Rattle.std.proofs.Math.ListN.{length-set}
 use Rattle.std.proofs.lemmas.List.FromFn.{fill_by_all}
-use Rattle.ssh_aes.specs.Aes.{listed}
+use Rattle.ssh_aes.specs.Aes.{bytes_by}
 
 -- up to i the list has been written by f, and from i on it is the old one
 pub record IsWritten (f : ℕ → ℕ) (now old : List ℕ) (i : ℕ) : Type 0 where
@@ -22,14 +22,14 @@ IsWritten-more f now old i v h e w =
       same_length = rw length-set w.same_length;
     }
 
-pub IsWritten-all : (f : ℕ → ℕ) (now old : List ℕ) (n : ℕ) → length old ≡ n → IsWritten f now old n → now ≡ listed n f
+pub IsWritten-all : (f : ℕ → ℕ) (now old : List ℕ) (n : ℕ) → length old ≡ n → IsWritten f now old n → now ≡ bytes_by n f
 IsWritten-all f now old n e w = fill_by_all f now n 0 (w.same_length ∙ e) w.done
 
 -- a list written out, by its elements
 pub four-elements : (s : List ℕ) → length s ≡ 4 → slice_index s 0 ∷ slice_index s 1 ∷ slice_index s 2 ∷ slice_index s 3 ∷ [] ≡ s
 four-elements s h = sym (fill_by_all (slice_index s) s 4 0 h (λ k l. refl))
 
-pub sixteen-elements : (s : List ℕ) → length s ≡ 16 → listed 16 (slice_index s) ≡ s
+pub sixteen-elements : (s : List ℕ) → length s ≡ 16 → bytes_by 16 (slice_index s) ≡ s
 sixteen-elements s h = sym (fill_by_all (slice_index s) s 16 0 h (λ k l. refl))
 
 pub four-fours : (p q r s : List ℕ) → length p ≡ 4 → length q ≡ 4 → length r ≡ 4 → length s ≡ 4

@@ -6,12 +6,12 @@ use Rattle.std.specs.List.{range_with_len}
 use Rattle.ssh_aes.specs.Field.{byte_product}
 
 -- f 0, …, f (n - 1)
-abbrev pub listed : ℕ → (ℕ → ℕ) → List ℕ
-listed n f = map f (range_with_len 0 n)
+abbrev pub bytes_by : ℕ → (ℕ → ℕ) → List ℕ
+bytes_by n f = map f (range_with_len 0 n)
 
 -- the first n bytes of s
 abbrev pub bytes_of : ℕ → List ℕ → List ℕ
-bytes_of n s = listed n (λ i. slice_index s i % 256)
+bytes_of n s = bytes_by n (λ i. slice_index s i % 256)
 
 -- the first block of s
 abbrev pub block : List ℕ → List ℕ
@@ -30,7 +30,7 @@ inverse b = times_squares 7 (byte_product b b) 1
 
 -- the byte whose bit i is f i modulo 2
 abbrev pub from_bits : (ℕ → ℕ) → ℕ
-from_bits f = sum (listed 8 (λ i. f i % 2 * 2 ^ i))
+from_bits f = sum (bytes_by 8 (λ i. f i % 2 * 2 ^ i))
 
 -- the affine map (5.3)
 abbrev pub affine : ℕ → ℕ
@@ -52,19 +52,19 @@ inverse_substitute b = inverse (inverse_affine b)
 
 -- SubBytes: each byte is substituted (section 5.1.1)
 unfoldable pub sub_bytes : List ℕ → List ℕ
-sub_bytes s = listed 16 (λ i. substitute (slice_index s i))
+sub_bytes s = bytes_by 16 (λ i. substitute (slice_index s i))
 
 -- ShiftRows: row r goes r places to the left (section 5.1.2)
 unfoldable pub shift_rows : List ℕ → List ℕ
-shift_rows s = listed 16 (λ i. slice_index s ((i + 4 * (i % 4)) % 16))
+shift_rows s = bytes_by 16 (λ i. slice_index s ((i + 4 * (i % 4)) % 16))
 
 -- a combination of four bytes
-abbrev pub combined : (j k l m a b c d : ℕ) → ℕ
-combined j k l m a b c d = bit_xor (bit_xor (byte_product j a) (byte_product k b)) (bit_xor (byte_product l c) (byte_product m d))
+abbrev pub mixed_byte : (j k l m a b c d : ℕ) → ℕ
+mixed_byte j k l m a b c d = bit_xor (bit_xor (byte_product j a) (byte_product k b)) (bit_xor (byte_product l c) (byte_product m d))
 
 -- MixColumns on one column (section 5.1.3)
 unfoldable pub mixed_column : (a b c d : ℕ) → List ℕ
-mixed_column a b c d = combined 2 3 1 1 a b c d ∷ combined 1 2 3 1 a b c d ∷ combined 1 1 2 3 a b c d ∷ combined 3 1 1 2 a b c d ∷ []
+mixed_column a b c d = mixed_byte 2 3 1 1 a b c d ∷ mixed_byte 1 2 3 1 a b c d ∷ mixed_byte 1 1 2 3 a b c d ∷ mixed_byte 3 1 1 2 a b c d ∷ []
 
 -- f of each column, one after another
 abbrev pub by_columns : (ℕ → ℕ → ℕ → ℕ → List ℕ) → List ℕ → List ℕ
@@ -80,7 +80,7 @@ mix_columns s = by_columns mixed_column s
 
 -- AddRoundKey: with the four words of the schedule w that belong to a round (section 5.1.4)
 unfoldable pub add_round_key : List ℕ → ℕ → List ℕ → List ℕ
-add_round_key w round s = listed 16 (λ i. bit_xor (slice_index s i) (slice_index w (16 * round + i)))
+add_round_key w round s = bytes_by 16 (λ i. bit_xor (slice_index s i) (slice_index w (16 * round + i)))
 
 -- ---- the key schedule (section 5.2)
 
@@ -148,15 +148,15 @@ aes key s = cipher (expanded_key key) (key_words key + 5) (block s)
 
 -- InvShiftRows: row r goes r places to the right (section 5.3.1)
 unfoldable pub inverse_shift_rows : List ℕ → List ℕ
-inverse_shift_rows s = listed 16 (λ i. slice_index s ((i + 12 * (i % 4)) % 16))
+inverse_shift_rows s = bytes_by 16 (λ i. slice_index s ((i + 12 * (i % 4)) % 16))
 
 -- InvSubBytes (section 5.3.2)
 unfoldable pub inverse_sub_bytes : List ℕ → List ℕ
-inverse_sub_bytes s = listed 16 (λ i. inverse_substitute (slice_index s i))
+inverse_sub_bytes s = bytes_by 16 (λ i. inverse_substitute (slice_index s i))
 
 -- InvMixColumns on one column (section 5.3.3)
 unfoldable pub unmixed_column : (a b c d : ℕ) → List ℕ
-unmixed_column a b c d = combined 14 11 13 9 a b c d ∷ combined 9 14 11 13 a b c d ∷ combined 13 9 14 11 a b c d ∷ combined 11 13 9 14 a b c d ∷ []
+unmixed_column a b c d = mixed_byte 14 11 13 9 a b c d ∷ mixed_byte 9 14 11 13 a b c d ∷ mixed_byte 13 9 14 11 a b c d ∷ mixed_byte 11 13 9 14 a b c d ∷ []
 
 -- InvMixColumns (section 5.3.3)
 unfoldable pub inverse_mix_columns : List ℕ → List ℕ

@@ -13,8 +13,8 @@ pub record CbcState : Type 0 where
   pub key : List ℕ
   pub last : List ℕ
 
-abbrev pub counting : CtrState → Running
-counting s = Ctr s.key s.iv s.place
+abbrev pub ctr_running : CtrState → Running
+ctr_running s = Ctr s.key s.iv s.place
 
-abbrev pub chaining : CbcState → Running
-chaining s = Cbc s.key s.last
+abbrev pub cbc_running : CbcState → Running
+cbc_running s = Cbc s.key s.last

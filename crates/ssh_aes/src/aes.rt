@@ -102,10 +102,10 @@ fn word_after(keys: &[u8; 240], words: usize, i: usize) -> [u8; 4]
             keys,
             i - words,
             [
-                substituted(b) ^ constant,
-                substituted(c),
-                substituted(d),
-                substituted(a),
+                substitute_for(b) ^ constant,
+                substitute_for(c),
+                substitute_for(d),
+                substitute_for(a),
             ],
         );
     }
@@ -114,10 +114,10 @@ fn word_after(keys: &[u8; 240], words: usize, i: usize) -> [u8; 4]
             keys,
             i - words,
             [
-                substituted(a),
-                substituted(b),
-                substituted(c),
-                substituted(d),
+                substitute_for(a),
+                substitute_for(b),
+                substitute_for(c),
+                substitute_for(d),
             ],
         );
     }
@@ -140,7 +140,7 @@ fn sum_with_word(keys: &[u8; 240], i: usize, word: [u8; 4]) -> [u8; 4]
 }
 
 /// The substitution of a byte.
-fn substituted(byte: u8) -> u8
+fn substitute_for(byte: u8) -> u8
     ensures { result ≡ substitute byte }
 {
     SUBSTITUTION[byte as usize]

@@ -2,7 +2,7 @@
 
 ghost use Rattle.std.specs.Prelude.{◌≡◌, ◌≤◌, ◌+◌, ◌++◌, length, take, drop};
 ghost use Rattle.ssh_aes.specs.Aes.{block};
-ghost use Rattle.ssh_aes.specs.Modes.{xored};
+ghost use Rattle.ssh_aes.specs.Modes.{block_sum};
 
 /// The block at a place.
 pub(crate) fn block_at(bytes: &[u8], at: usize) -> [u8; 16]
@@ -25,7 +25,7 @@ pub(crate) fn put_block(bytes: &mut [u8], at: usize, put: &[u8; 16])
 
 /// Adds a block to another.
 pub(crate) fn add_block(sum: &mut [u8; 16], other: &[u8; 16])
-    ensures { sum.new ≡ xored sum.old other.now }
+    ensures { sum.new ≡ block_sum sum.old other.now }
 {
     for i in 0..16 {
         sum[i] ^= other[i];

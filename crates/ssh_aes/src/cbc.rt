@@ -2,8 +2,8 @@
 
 ghost use Rattle.std.specs.Prelude.{◌≡◌, ◌/◌, length};
 ghost use Rattle.ssh_aes.specs.Keys.{IsKeyLength};
-ghost use Rattle.ssh_aes.specs.Modes.{chained, unchained, last_block};
-ghost use Rattle.ssh_aes.specs.States.{chaining};
+ghost use Rattle.ssh_aes.specs.Modes.{chained_text, unchained_text, last_block};
+ghost use Rattle.ssh_aes.specs.States.{cbc_running};
 
 use crate::aes::Aes;
 use crate::blocks::{add_block, block_at, put_block};
@@ -41,7 +41,7 @@ impl CbcWrapper {
 
 /// Encrypts each whole block, chained to the one before.
 fn chain(aes: &Aes, last: &mut [u8; 16], bytes: &mut [u8])
-    ensures text { bytes.new ≡ chained aes.now last.old (length bytes.old / 16) bytes.old }
+    ensures text { bytes.new ≡ chained_text aes.now last.old (length bytes.old / 16) bytes.old }
     ensures last { last.new ≡ last_block last.old (length bytes.new / 16) bytes.new }
 {
     for k in 0..bytes.len() / 16 {
@@ -55,7 +55,7 @@ fn chain(aes: &Aes, last: &mut [u8; 16], bytes: &mut [u8])
 
 /// Decrypts each whole block, chained to the one before.
 fn unchain(aes: &Aes, last: &mut [u8; 16], bytes: &mut [u8])
-    ensures text { bytes.new ≡ unchained aes.now last.old (length bytes.old / 16) bytes.old }
+    ensures text { bytes.new ≡ unchained_text aes.now last.old (length bytes.old / 16) bytes.old }
     ensures last { last.new ≡ last_block last.old (length bytes.old / 16) bytes.old }
 {
     for k in 0..bytes.len() / 16 {
@@ -69,7 +69,7 @@ fn unchain(aes: &Aes, last: &mut [u8; 16], bytes: &mut [u8])
 }
 
 impl BlockStreamCipher for CbcWrapper {
-    ghost running = { chaining };
+    ghost running = { cbc_running };
 
     fn encrypt_data(&mut self, bytes: &mut [u8]) {
         chain(&self.aes, &mut self.last, bytes);
@@ -86,7 +86,7 @@ impl PacketLengthProbe for CbcWrapper {
         unchain(&self.aes, &mut last, first_block);
     }
 
-    fn least_len(&self) -> usize {
+    fn shortest_text_len(&self) -> usize {
         16
     }
 }

@@ -2,8 +2,8 @@
 
 ghost use Rattle.std.specs.Prelude.{◌≡◌, ◌≢◌, ◌+◌, ◌/◌, ◌%◌, ◌^◌, length};
 ghost use Rattle.ssh_aes.specs.Keys.{IsKeyLength};
-ghost use Rattle.ssh_aes.specs.Modes.{stream_block, counted};
-ghost use Rattle.ssh_aes.specs.States.{counting};
+ghost use Rattle.ssh_aes.specs.Modes.{stream_block, counter_text};
+ghost use Rattle.ssh_aes.specs.States.{ctr_running};
 
 use crate::aes::Aes;
 use crate::runs::{BlockStreamCipher, PacketLengthProbe};
@@ -64,7 +64,7 @@ impl CtrWrapper {
 
     /// Combines bytes with the key stream from the place on.
     fn mask(&self, bytes: &mut [u8])
-        ensures { bytes.new ≡ counted self.now.key self.now.iv self.now.place bytes.old }
+        ensures { bytes.new ≡ counter_text self.now.key self.now.iv self.now.place bytes.old }
     {
         let mut block = self.stream_at(self.place);
         for i in 0..bytes.len() {
@@ -85,7 +85,7 @@ impl CtrWrapper {
 }
 
 impl BlockStreamCipher for CtrWrapper {
-    ghost running = { counting };
+    ghost running = { ctr_running };
 
     fn encrypt_data(&mut self, bytes: &mut [u8]) {
         self.mask(bytes);
@@ -103,7 +103,7 @@ impl PacketLengthProbe for CtrWrapper {
         self.mask(first_block);
     }
 
-    fn least_len(&self) -> usize {
+    fn shortest_text_len(&self) -> usize {
         4
     }
 }

@@ -1,11 +1,11 @@
 //! Galois counter mode (SP 800-38D), with a nonce of 12 bytes and a tag of 16.
 
 ghost use Rattle.std.specs.Prelude.{◌≡◌, ◌≢◌, ◌↔◌, ◌<◌, ◌^◌, ◌+◌, ◌/◌, ◌%◌, ◌⊎◌, IsTrue, MatchBool, length};
-ghost use Rattle.ssh_aes.specs.Gcm.{nonce_stream, gcm_counted, gcm_text, gcm_plain, gcm_tag, cipher_tag};
+ghost use Rattle.ssh_aes.specs.Gcm.{nonce_stream, gcm_counter_text, gcm_text, gcm_plain, gcm_tag, cipher_tag};
 
 use crate::aes::Aes;
 use crate::blocks::add_block;
-use crate::hash::{absorbed, from_block, lengths, product, to_block};
+use crate::hash::{hash_after, from_block, lengths, product, to_block};
 use std::marker::Model;
 
 /// AES in Galois counter mode under one key. A contract sees the key.
@@ -96,7 +96,7 @@ impl Gcm {
     /// Combines a text with the key stream.
     fn mask(&self, nonce: &[u8; 12], bytes: &mut [u8])
         requires { length bytes.old < 2 ^ 32 }
-        ensures { bytes.new ≡ gcm_counted self.now nonce.now bytes.old }
+        ensures { bytes.new ≡ gcm_counter_text self.now nonce.now bytes.old }
     {
         let mut block = [0; 16];
         for i in 0..bytes.len() {
@@ -111,7 +111,7 @@ impl Gcm {
         requires bytes { length bytes.now < 2 ^ 32 }
         ensures { result ≡ cipher_tag self.now nonce.now aad.now bytes.now }
     {
-        let front = absorbed(self.subkey, absorbed(self.subkey, 0, aad), bytes);
+        let front = hash_after(self.subkey, hash_after(self.subkey, 0, aad), bytes);
         let last = from_block(lengths(aad.len(), bytes.len()));
         let mut tag = to_block(product(front ^ last, self.subkey));
         add_block(&mut tag, &self.stream(nonce, 1));

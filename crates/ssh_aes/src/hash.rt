@@ -4,8 +4,8 @@
 ghost use Rattle.std.specs.Prelude.{◌≡◌, ◌<◌, ◌^◌, ◌+◌, ◌*◌, ℕ, length, take, drop, bit_xor, slice_index};
 ghost use Rattle.std.specs.Int.{bit_at};
 ghost use Rattle.ssh_aes.specs.Field.{times_x, block_modulus, block_product};
-ghost use Rattle.ssh_aes.specs.Aes.{listed};
-ghost use Rattle.ssh_aes.specs.Gcm.{element, element_block, hashed, padded_blocks, length_block};
+ghost use Rattle.ssh_aes.specs.Aes.{bytes_by};
+ghost use Rattle.ssh_aes.specs.Gcm.{element, element_block, hash_of_blocks, padded_blocks, length_block};
 
 /// The polynomial of a block, whose first bit is the coefficient of x^0.
 pub(crate) fn from_block(bytes: [u8; 16]) -> u128
@@ -22,7 +22,7 @@ pub(crate) fn to_block(polynomial: u128) -> [u8; 16]
 }
 
 /// The product with x.
-fn raised(term: u128) -> u128
+fn product_with_x(term: u128) -> u128
     ensures { result ≡ times_x 128 block_modulus term }
 {
     if term < 1 << 127 {
@@ -49,7 +49,7 @@ pub(crate) fn product(a: u128, b: u128) -> u128
     for _turn in 0..128u32 {
         total = with_term(total, left, term);
         left /= 2;
-        term = raised(term);
+        term = product_with_x(term);
     }
     total
 }
@@ -62,9 +62,9 @@ fn byte_at(bytes: &[u8], at: usize) -> u8
 }
 
 /// The block at a place, filled up with zeros.
-fn padded_at(bytes: &[u8], at: usize) -> [u8; 16]
+fn zero_filled_block(bytes: &[u8], at: usize) -> [u8; 16]
     requires { at < 2 ^ 32 }
-    ensures { result ≡ listed 16 (λ i. slice_index bytes.now (at + i)) }
+    ensures { result ≡ bytes_by 16 (λ i. slice_index bytes.now (at + i)) }
 {
     let mut cut = [0; 16];
     for i in 0..16 {
@@ -74,13 +74,13 @@ fn padded_at(bytes: &[u8], at: usize) -> [u8; 16]
 }
 
 /// The hash with the blocks of some bytes taken in.
-pub(crate) fn absorbed(subkey: u128, state: u128, bytes: &[u8]) -> u128
+pub(crate) fn hash_after(subkey: u128, state: u128, bytes: &[u8]) -> u128
     requires { length bytes.now < 2 ^ 32 }
-    ensures { result ≡ hashed subkey state (padded_blocks bytes.now) }
+    ensures { result ≡ hash_of_blocks subkey state (padded_blocks bytes.now) }
 {
     let mut hash = state;
     for k in 0..(bytes.len() + 15) / 16 {
-        hash = product(hash ^ from_block(padded_at(bytes, 16 * k)), subkey);
+        hash = product(hash ^ from_block(zero_filled_block(bytes, 16 * k)), subkey);
     }
     hash
 }

@@ -18,7 +18,7 @@ pub use crate::cbc::CbcWrapper;
 pub use crate::ctr::CtrWrapper;
 pub use crate::gcm::Gcm;
 pub use crate::laws::{
-    blocks_redone, blocks_undone, closes_well, fronts_kept, gcm_closes_well, gcm_well, opens_well,
-    runs_well, streams_undone, worked_examples,
+    blocks_redone, blocks_undone, closes_well, fronts_kept, gcm_closes_well, gcm_well,
+    number_spelled, opens_well, runs_well, streams_undone, twelve_bytes, worked_examples,
 };
 pub use crate::runs::{BlockStreamCipher, PacketLengthProbe};

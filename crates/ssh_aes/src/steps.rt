@@ -48,7 +48,7 @@ pub(crate) fn move_rows_right(block: &mut [u8; 16])
 
 /// The product with x.
 #[tactic(auto, using(crate::proofs::Entries::doubling_is))]
-fn doubled(byte: u8) -> u8
+fn double_of(byte: u8) -> u8
     ensures { result ≡ byte_product 2 byte }
 {
     if byte < 128 {
@@ -60,10 +60,10 @@ fn doubled(byte: u8) -> u8
 
 /// The product with x + 1.
 #[tactic(auto, using(crate::proofs::Entries::three_is))]
-fn tripled(byte: u8) -> u8
+fn triple_of(byte: u8) -> u8
     ensures { result ≡ byte_product 3 byte }
 {
-    doubled(byte) ^ byte
+    double_of(byte) ^ byte
 }
 
 /// MixColumns on one column.
@@ -71,10 +71,10 @@ fn mix_column(a: u8, b: u8, c: u8, d: u8) -> [u8; 4]
     ensures { result ≡ mixed_column a b c d }
 {
     [
-        (doubled(a) ^ tripled(b)) ^ (c ^ d),
-        (a ^ doubled(b)) ^ (tripled(c) ^ d),
-        (a ^ b) ^ (doubled(c) ^ tripled(d)),
-        (tripled(a) ^ b) ^ (c ^ doubled(d)),
+        (double_of(a) ^ triple_of(b)) ^ (c ^ d),
+        (a ^ double_of(b)) ^ (triple_of(c) ^ d),
+        (a ^ b) ^ (double_of(c) ^ triple_of(d)),
+        (triple_of(a) ^ b) ^ (c ^ double_of(d)),
     ]
 }
 
@@ -93,9 +93,9 @@ fn products_of(byte: u8) -> Products
     ensures thirteen { result.thirteen ≡ byte_product 13 byte }
     ensures fourteen { result.fourteen ≡ byte_product 14 byte }
 {
-    let two = doubled(byte);
-    let four = doubled(two);
-    let eight = doubled(four);
+    let two = double_of(byte);
+    let four = double_of(two);
+    let eight = double_of(four);
     Products {
         nine: eight ^ byte,
         eleven: (eight ^ two) ^ byte,
@@ -121,7 +121,7 @@ fn unmix_column(a: u8, b: u8, c: u8, d: u8) -> [u8; 4]
 }
 
 /// Four columns as one block.
-fn joined(p: [u8; 4], q: [u8; 4], r: [u8; 4], s: [u8; 4]) -> [u8; 16]
+fn block_of_columns(p: [u8; 4], q: [u8; 4], r: [u8; 4], s: [u8; 4]) -> [u8; 16]
     ensures { result ≡ p ++ q ++ r ++ s }
 {
     [
@@ -135,7 +135,7 @@ pub(crate) fn mix_block(block: &mut [u8; 16])
     ensures { block.new ≡ mix_columns block.old }
 {
     let b = *block;
-    *block = joined(
+    *block = block_of_columns(
         mix_column(b[0], b[1], b[2], b[3]),
         mix_column(b[4], b[5], b[6], b[7]),
         mix_column(b[8], b[9], b[10], b[11]),
@@ -148,7 +148,7 @@ pub(crate) fn unmix_block(block: &mut [u8; 16])
     ensures { block.new ≡ inverse_mix_columns block.old }
 {
     let b = *block;
-    *block = joined(
+    *block = block_of_columns(
         unmix_column(b[0], b[1], b[2], b[3]),
         unmix_column(b[4], b[5], b[6], b[7]),
         unmix_column(b[8], b[9], b[10], b[11]),

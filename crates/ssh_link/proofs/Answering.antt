@@ -8,7 +8,7 @@ use Rattle.ssh_wire.specs.declared.ssh_id.SshId.{SshId}
 use Rattle.ssh_link.specs.ClearRun.{IsWholeLine}
 use Rattle.ssh_link.specs.Program.{AnswersScript, AnswersLeft, client_id, server_id}
 use Rattle.ssh_link.specs.Script.{clear_script}
-use Rattle.ssh_link.specs.Stream.{TakesFront, ReachesEnd}
+use Rattle.ssh_wire.specs.Outside.{TakesFront, ReachesEnd}
 use Rattle.ssh_link.specs.declared.answer.Answer.{Answer}
 use Rattle.ssh_link.specs.declared.script.ScriptKind.TheVariants.{TooLong}
 

@@ -14,10 +14,10 @@ use Rattle.ssh_link.specs.ClearRun.{IsWholeLine, clear_wire}
 use Rattle.ssh_link.specs.Delivering.{payloads_of}
 use Rattle.ssh_link.specs.Receiving.{ReadsOn, CannotRead, TakesBy, TakesLine, CannotTakeBy, CannotTakeLine}
 use Rattle.ssh_link.specs.declared.receiver.Receiver.{Receiver}
-use Rattle.ssh_link.proofs.Sent.{sent_from, AreSent, size_of, IsShort, finds_sent}
+use Rattle.ssh_link.proofs.Sent.{sent_from, AreSent, size_of, IsLessThanNext, finds_sent}
 
 -- a part of the line was taken
-pub record ReadsLine (id : SshId) (taken : ℕ) (waiting : List ℕ) (r : Receiver) : Type 0 where
+pub record WaitsForLine (id : SshId) (taken : ℕ) (waiting : List ℕ) (r : Receiver) : Type 0 where
   pub short : taken < length (id_line id)
   pub waits : waiting ≡ take taken (id_line id)
   pub number : r.reader.number ≡ 0
@@ -26,22 +26,22 @@ pub record ReadsLine (id : SshId) (taken : ℕ) (waiting : List ℕ) (r : Receiv
   pub none : r.delivered.items ≡ []
 
 -- the line and some packets were taken, and less than the next packet
-pub record ReadsPackets (id : SshId) (payloads : List (List ℕ)) (taken : ℕ) (r : Receiver) : Type 0 where
+pub record HasPackets (id : SshId) (payloads : List (List ℕ)) (taken : ℕ) (r : Receiver) : Type 0 where
   pub later : List (List ℕ)
   pub split : payloads ≡ r.delivered.items ++ later
   pub stands : r.reader.waiting ++ drop taken (clear_wire id payloads) ≡ sent_from r.reader.number later
-  pub short : IsShort r.reader.waiting later
+  pub short : IsLessThanNext r.reader.waiting later
   pub count : taken ≡ length (id_line id) + (size_of r.delivered.items + length r.reader.waiting)
   pub live : r.reader.failed ≡ false
 
-abbrev pub ReadsBy : IdReading → SshId → List (List ℕ) → ℕ → Receiver → Type 0
-ReadsBy (Waiting waiting others) id payloads taken r = ReadsLine id taken waiting r
-ReadsBy (Heard text) id payloads taken r = ReadsPackets id payloads taken r
-ReadsBy Failed id payloads taken r = ⊥
+abbrev pub HasReadBy : IdReading → SshId → List (List ℕ) → ℕ → Receiver → Type 0
+HasReadBy (Waiting waiting others) id payloads taken r = WaitsForLine id taken waiting r
+HasReadBy (Heard text) id payloads taken r = HasPackets id payloads taken r
+HasReadBy Failed id payloads taken r = ⊥
 
 -- what a side has read that took so many bytes of what the other, with this id, sent for these payloads
-abbrev pub Reads : SshId → List (List ℕ) → ℕ → Receiver → Type 0
-Reads id payloads taken r = ReadsBy r.id id payloads taken r
+abbrev pub HasReadOf : SshId → List (List ℕ) → ℕ → Receiver → Type 0
+HasReadOf id payloads taken r = HasReadBy r.id id payloads taken r
 
 are_sent_drop : (a b : List (List ℕ)) → AreSent (a ++ b) → AreSent b
 are_sent_drop [] b h = h
@@ -69,7 +69,7 @@ reads_packets : (id : SshId) (payloads delivered later : List (List ℕ)) (taken
     → payloads ≡ r.delivered.items ++ later → AreSent payloads
     → (r.reader.waiting ++ bytes) ++ drop taken (clear_wire id payloads) ≡ sent_from r.reader.number later
     → taken ≡ length (id_line id) + (size_of r.delivered.items + length (r.reader.waiting ++ bytes))
-    → ReadsOn r bytes new → ReadsPackets id payloads taken new
+    → ReadsOn r bytes new → HasPackets id payloads taken new
 reads_packets id payloads delivered later taken r new bytes split ok stands count h =
     let sent = are_sent_drop r.delivered.items later (subst AreSent split ok) in
     let first = finds_sent r.reader.number later (r.reader.waiting ++ bytes) (drop taken (clear_wire id payloads)) h.items new.reader.waiting Unfinished sent stands h.found in
@@ -91,7 +91,7 @@ reads_all payloads later r bytes more split ok live stands (inr h) =
     (finds_sent r.reader.number later (r.reader.waiting ++ bytes) more h.0 h.1 (Refused h.2) sent stands h.3).ends
 
 -- the bytes so far, where the line isn't whole
-line_so_far : (id : SshId) (payloads : List (List ℕ)) (taken n : ℕ) (waiting piece : List ℕ) (r : Receiver) → ReadsLine id taken waiting r → IsPiece (clear_wire id payloads) taken n piece → waiting ++ piece ≡ take (taken + n) (clear_wire id payloads)
+line_so_far : (id : SshId) (payloads : List (List ℕ)) (taken n : ℕ) (waiting piece : List ℕ) (r : Receiver) → WaitsForLine id taken waiting r → IsPiece (clear_wire id payloads) taken n piece → waiting ++ piece ≡ take (taken + n) (clear_wire id payloads)
 line_so_far id payloads taken n waiting piece r h p =
     let front : take taken (clear_wire id payloads) ≡ take taken (id_line id) = take-append-le taken (id_line id) _ (omega (arith, h.short)) in
     let size : length (take taken (clear_wire id payloads)) ≡ taken = length-take-le taken (clear_wire id payloads) (omega (arith, p.within)) in
@@ -101,24 +101,24 @@ line_so_far id payloads taken n waiting piece r h p =
     ∙ (ap (λ q. take taken (clear_wire id payloads) ++ q) p.piece_is
     ∙ (sym cut ∙ (ap (λ k. take (k + n) (take taken (clear_wire id payloads) ++ drop taken (clear_wire id payloads))) size ∙ ap (take (taken + n)) both)))
 
-found_not : (id : SshId) (payloads : List (List ℕ)) (taken n : ℕ) (waiting piece : List ℕ) (r : Receiver) → IsWholeLine id → ReadsLine id taken waiting r → IsPiece (clear_wire id payloads) taken n piece → taken + n < length (id_line id) → id_of 0 (waiting ++ piece) ≡ lines.NotYet
+found_not : (id : SshId) (payloads : List (List ℕ)) (taken n : ℕ) (waiting piece : List ℕ) (r : Receiver) → IsWholeLine id → WaitsForLine id taken waiting r → IsPiece (clear_wire id payloads) taken n piece → taken + n < length (id_line id) → id_of 0 (waiting ++ piece) ≡ lines.NotYet
 found_not id payloads taken n waiting piece r whole h p less =
     ap (id_of 0) (line_so_far id payloads taken n waiting piece r h p ∙ take-append-le (taken + n) (id_line id) _ (omega arith))
     ∙ less_than_a_line (id_line id) (id_text id) (taken + n) whole less
 
 -- the line, and what stands behind it
-line_and_more : (id : SshId) (payloads : List (List ℕ)) (taken n : ℕ) (waiting piece : List ℕ) (r : Receiver) → ReadsLine id taken waiting r → IsPiece (clear_wire id payloads) taken n piece → length (id_line id) ≤ taken + n → waiting ++ piece ≡ id_line id ++ take (taken + n - length (id_line id)) (sent_from 0 payloads)
+line_and_more : (id : SshId) (payloads : List (List ℕ)) (taken n : ℕ) (waiting piece : List ℕ) (r : Receiver) → WaitsForLine id taken waiting r → IsPiece (clear_wire id payloads) taken n piece → length (id_line id) ≤ taken + n → waiting ++ piece ≡ id_line id ++ take (taken + n - length (id_line id)) (sent_from 0 payloads)
 line_and_more id payloads taken n waiting piece r h p enough =
     let size : length (id_line id) + (taken + n - length (id_line id)) ≡ taken + n = omega arith in
     line_so_far id payloads taken n waiting piece r h p
     ∙ (ap (λ k. take k (id_line id ++ sent_from 0 payloads)) (sym size) ∙ take-append-add (id_line id) (sent_from 0 payloads) (taken + n - length (id_line id)))
 
-found_line : (id : SshId) (payloads : List (List ℕ)) (taken n : ℕ) (waiting piece : List ℕ) (r : Receiver) → IsWholeLine id → ReadsLine id taken waiting r → IsPiece (clear_wire id payloads) taken n piece → length (id_line id) ≤ taken + n → id_of 0 (waiting ++ piece) ≡ lines.Id (id_text id) (length (id_line id))
+found_line : (id : SshId) (payloads : List (List ℕ)) (taken n : ℕ) (waiting piece : List ℕ) (r : Receiver) → IsWholeLine id → WaitsForLine id taken waiting r → IsPiece (clear_wire id payloads) taken n piece → length (id_line id) ≤ taken + n → id_of 0 (waiting ++ piece) ≡ lines.Id (id_text id) (length (id_line id))
 found_line id payloads taken n waiting piece r whole h p enough =
     ap (id_of 0) (line_and_more id payloads taken n waiting piece r h p enough) ∙ id_stays (id_line id) _ (id_text id) (length (id_line id)) whole
 
 -- what stands behind the line in the piece, and what isn't taken yet
-behind_line : (id : SshId) (payloads : List (List ℕ)) (taken n : ℕ) (waiting piece : List ℕ) (r : Receiver) → ReadsLine id taken waiting r → IsPiece (clear_wire id payloads) taken n piece → length (id_line id) ≤ taken + n → drop (length (id_line id) - length waiting) piece ++ drop (taken + n) (clear_wire id payloads) ≡ sent_from 0 payloads
+behind_line : (id : SshId) (payloads : List (List ℕ)) (taken n : ℕ) (waiting piece : List ℕ) (r : Receiver) → WaitsForLine id taken waiting r → IsPiece (clear_wire id payloads) taken n piece → length (id_line id) ≤ taken + n → drop (length (id_line id) - length waiting) piece ++ drop (taken + n) (clear_wire id payloads) ≡ sent_from 0 payloads
 behind_line id payloads taken n waiting piece r h p enough =
     let waited : length waiting ≡ taken = ap length h.waits ∙ length-take-le taken (id_line id) (omega (arith, h.short)) in
     let sized = length_piece (clear_wire id payloads) taken n piece p in
@@ -131,20 +131,20 @@ behind_line id payloads taken n waiting piece r h p enough =
     ∙ (ap (λ k. drop k (clear_wire id payloads)) place ∙ drop-append_seam (id_line id) (sent_from 0 payloads))))
 
 -- the first bytes behind the line are read
-begins : (id : SshId) (payloads : List (List ℕ)) (taken n : ℕ) (waiting piece : List ℕ) (r : Receiver) → ReadsLine id taken waiting r → IsPiece (clear_wire id payloads) taken n piece → length (id_line id) ≤ taken + n
+begins : (id : SshId) (payloads : List (List ℕ)) (taken n : ℕ) (waiting piece : List ℕ) (r : Receiver) → WaitsForLine id taken waiting r → IsPiece (clear_wire id payloads) taken n piece → length (id_line id) ≤ taken + n
     → (r.reader.waiting ++ drop (length (id_line id) - length waiting) piece) ++ drop (taken + n) (clear_wire id payloads) ≡ sent_from r.reader.number payloads
 begins id payloads taken n waiting piece r h p enough =
     ap (λ w. (w ++ drop (length (id_line id) - length waiting) piece) ++ drop (taken + n) (clear_wire id payloads)) h.empty
     ∙ (behind_line id payloads taken n waiting piece r h p enough ∙ ap (λ k. sent_from k payloads) (sym h.number))
 
-takes_line : (id : SshId) (payloads : List (List ℕ)) (taken n others : ℕ) (waiting piece : List ℕ) (r new : Receiver) → IsWholeLine id → AreSent payloads → ReadsLine id taken waiting r → IsPiece (clear_wire id payloads) taken n piece → TakesLine (id_of 0 (waiting ++ piece)) waiting others piece r new → Reads id payloads (taken + n) new
+takes_line : (id : SshId) (payloads : List (List ℕ)) (taken n others : ℕ) (waiting piece : List ℕ) (r new : Receiver) → IsWholeLine id → AreSent payloads → WaitsForLine id taken waiting r → IsPiece (clear_wire id payloads) taken n piece → TakesLine (id_of 0 (waiting ++ piece)) waiting others piece r new → HasReadOf id payloads (taken + n) new
 takes_line id payloads taken n others waiting piece r new whole ok h p t = by_size (nat_lt (taken + n) (length (id_line id))) refl where
-  by_size : (b : Bool) → nat_lt (taken + n) (length (id_line id)) ≡ b → Reads id payloads (taken + n) new
+  by_size : (b : Bool) → nat_lt (taken + n) (length (id_line id)) ≡ b → HasReadOf id payloads (taken + n) new
   by_size true e =
       let less : taken + n < length (id_line id) = grind (arith, nat_tests) in
       let P : IdFound → Type 0 = λ f. TakesLine f waiting others piece r new in
       let goes = subst P (found_not id payloads taken n waiting piece r whole h p less) t in
-      let N : IdReading → Type 0 = λ i. ReadsBy i id payloads (taken + n) new in
+      let N : IdReading → Type 0 = λ i. HasReadBy i id payloads (taken + n) new in
       subst N (sym goes.0) (record {
         short = less;
         waits = line_so_far id payloads taken n waiting piece r h p ∙ take-append-le (taken + n) (id_line id) _ (omega arith);
@@ -157,7 +157,7 @@ takes_line id payloads taken n others waiting piece r new whole ok h p t = by_si
       let enough : length (id_line id) ≤ taken + n = grind (arith, nat_tests) in
       let P : IdFound → Type 0 = λ f. TakesLine f waiting others piece r new in
       let goes = subst P (found_line id payloads taken n waiting piece r whole h p enough) t in
-      let N : IdReading → Type 0 = λ i. ReadsBy i id payloads (taken + n) new in
+      let N : IdReading → Type 0 = λ i. HasReadBy i id payloads (taken + n) new in
       let waited : length waiting ≡ taken = ap length h.waits ∙ length-take-le taken (id_line id) (omega (arith, h.short)) in
       let sized = length_piece (clear_wire id payloads) taken n piece p in
       let read : length (r.reader.waiting ++ drop (length (id_line id) - length waiting) piece) ≡ taken + n - length (id_line id) =
@@ -168,10 +168,10 @@ takes_line id payloads taken n others waiting piece r new whole ok h p t = by_si
       (omega (arith, read, ap size_of h.none)) goes.1)
 
 -- a piece that was taken is read
-pub takes_piece : (i : IdReading) (id : SshId) (payloads : List (List ℕ)) (taken n : ℕ) (piece : List ℕ) (r new : Receiver) → IsWholeLine id → AreSent payloads → ReadsBy i id payloads taken r → IsPiece (clear_wire id payloads) taken n piece → TakesBy i piece r new → Reads id payloads (taken + n) new
+pub takes_piece : (i : IdReading) (id : SshId) (payloads : List (List ℕ)) (taken n : ℕ) (piece : List ℕ) (r new : Receiver) → IsWholeLine id → AreSent payloads → HasReadBy i id payloads taken r → IsPiece (clear_wire id payloads) taken n piece → TakesBy i piece r new → HasReadOf id payloads (taken + n) new
 takes_piece (Waiting waiting others) id payloads taken n piece r new whole ok h p t = takes_line id payloads taken n others waiting piece r new whole ok h p t
 takes_piece (Heard text) id payloads taken n piece r new whole ok h p t =
-    let N : IdReading → Type 0 = λ i. ReadsBy i id payloads (taken + n) new in
+    let N : IdReading → Type 0 = λ i. HasReadBy i id payloads (taken + n) new in
     let sized = length_piece (clear_wire id payloads) taken n piece p in
     subst N (sym t.0)
     (reads_packets id payloads r.delivered.items h.later (taken + n) r new piece h.split ok
@@ -179,7 +179,7 @@ takes_piece (Heard text) id payloads taken n piece r new whole ok h p t =
     (omega (arith, h.count, sized, length-append r.reader.waiting piece)) t.1)
 takes_piece Failed id payloads taken n piece r new whole ok h p t = absurd h
 
-cannot_line : (id : SshId) (payloads : List (List ℕ)) (taken n : ℕ) (waiting piece : List ℕ) (r : Receiver) → IsWholeLine id → AreSent payloads → ReadsLine id taken waiting r → IsPiece (clear_wire id payloads) taken n piece → CannotTakeLine (id_of 0 (waiting ++ piece)) waiting piece r → ⊥
+cannot_line : (id : SshId) (payloads : List (List ℕ)) (taken n : ℕ) (waiting piece : List ℕ) (r : Receiver) → IsWholeLine id → AreSent payloads → WaitsForLine id taken waiting r → IsPiece (clear_wire id payloads) taken n piece → CannotTakeLine (id_of 0 (waiting ++ piece)) waiting piece r → ⊥
 cannot_line id payloads taken n waiting piece r whole ok h p t = by_size (nat_lt (taken + n) (length (id_line id))) refl where
   by_size : (b : Bool) → nat_lt (taken + n) (length (id_line id)) ≡ b → ⊥
   by_size true e =
@@ -193,7 +193,7 @@ cannot_line id payloads taken n waiting piece r whole ok h p t = by_size (nat_lt
       (begins id payloads taken n waiting piece r h p enough) (subst P (found_line id payloads taken n waiting piece r whole h p enough) t)
 
 -- no piece of what was sent is refused
-pub takes_all : (i : IdReading) (id : SshId) (payloads : List (List ℕ)) (taken n : ℕ) (piece : List ℕ) (r : Receiver) → IsWholeLine id → AreSent payloads → ReadsBy i id payloads taken r → IsPiece (clear_wire id payloads) taken n piece → CannotTakeBy i piece r → ⊥
+pub takes_all : (i : IdReading) (id : SshId) (payloads : List (List ℕ)) (taken n : ℕ) (piece : List ℕ) (r : Receiver) → IsWholeLine id → AreSent payloads → HasReadBy i id payloads taken r → IsPiece (clear_wire id payloads) taken n piece → CannotTakeBy i piece r → ⊥
 takes_all (Waiting waiting others) id payloads taken n piece r whole ok h p t = cannot_line id payloads taken n waiting piece r whole ok h p t
 takes_all (Heard text) id payloads taken n piece r whole ok h p t =
     reads_all payloads h.later r piece (drop (taken + n) (clear_wire id payloads)) h.split ok h.live

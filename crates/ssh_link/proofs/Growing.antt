@@ -5,22 +5,22 @@ use Rattle.std.proofs.lemmas.List.{drop-append-le}
 use Rattle.ssh_wire.specs.Lines.{id_line}
 use Rattle.ssh_wire.specs.Reading.{IdReading, Waiting, Heard, Failed}
 use Rattle.ssh_wire.specs.declared.ssh_id.SshId.{SshId}
-use Rattle.ssh_packet.specs.Sealing.{Clear, sealed, next_number, IsAdmissible}
+use Rattle.ssh_packet.specs.Sealing.{Clear, sealed_packet, next_number, IsAdmissible}
 use Rattle.ssh_link.specs.ClearRun.{clear_item, packet_size, clear_wire, whole_in}
 use Rattle.ssh_link.specs.declared.receiver.Receiver.{Receiver}
-use Rattle.ssh_link.proofs.Sent.{sent_from, AreSent, size_of, IsShort}
-use Rattle.ssh_link.proofs.Carried.{ReadsBy}
+use Rattle.ssh_link.proofs.Sent.{sent_from, AreSent, size_of, IsLessThanNext}
+use Rattle.ssh_link.proofs.Carried.{HasReadBy}
 
 -- the number of the packet behind some
 abbrev pub number_behind : ℕ → List (List ℕ) → ℕ
 number_behind number [] = number
 number_behind number (payload ∷ payloads) = number_behind (next_number number) payloads
 
-pub sent_from-push : (number : ℕ) (payloads : List (List ℕ)) (payload : List ℕ) → sent_from number (payloads ++ payload ∷ []) ≡ sent_from number payloads ++ sealed Clear (number_behind number payloads) (clear_item payload)
-sent_from-push number [] payload = append-nil (sealed Clear number (clear_item payload))
+pub sent_from-push : (number : ℕ) (payloads : List (List ℕ)) (payload : List ℕ) → sent_from number (payloads ++ payload ∷ []) ≡ sent_from number payloads ++ sealed_packet Clear (number_behind number payloads) (clear_item payload)
+sent_from-push number [] payload = append-nil (sealed_packet Clear number (clear_item payload))
 sent_from-push number (p ∷ payloads) payload =
-    ap (λ t. sealed Clear number (clear_item p) ++ t) (sent_from-push (next_number number) payloads payload)
-    ∙ sym (append_assoc (sealed Clear number (clear_item p)) (sent_from (next_number number) payloads) _)
+    ap (λ t. sealed_packet Clear number (clear_item p) ++ t) (sent_from-push (next_number number) payloads payload)
+    ∙ sym (append_assoc (sealed_packet Clear number (clear_item p)) (sent_from (next_number number) payloads) _)
 
 pub number_behind-push : (number : ℕ) (payloads : List (List ℕ)) (payload : List ℕ) → number_behind number (payloads ++ payload ∷ []) ≡ next_number (number_behind number payloads)
 number_behind-push number [] payload = refl
@@ -30,15 +30,15 @@ pub are_sent_push : (payloads : List (List ℕ)) (payload : List ℕ) → AreSen
 are_sent_push [] payload h k = (k, tt)
 are_sent_push (p ∷ payloads) payload h k = (h.0, are_sent_push payloads payload h.1 k)
 
-pub clear_wire-push : (id : SshId) (payloads : List (List ℕ)) (payload : List ℕ) → clear_wire id (payloads ++ payload ∷ []) ≡ clear_wire id payloads ++ sealed Clear (number_behind 0 payloads) (clear_item payload)
+pub clear_wire-push : (id : SshId) (payloads : List (List ℕ)) (payload : List ℕ) → clear_wire id (payloads ++ payload ∷ []) ≡ clear_wire id payloads ++ sealed_packet Clear (number_behind 0 payloads) (clear_item payload)
 clear_wire-push id payloads payload = ap (λ t. id_line id ++ t) (sent_from-push 0 payloads payload) ∙ sym (append_assoc (id_line id) (sent_from 0 payloads) _)
 
-short_push : (bytes : List ℕ) (later : List (List ℕ)) (payload : List ℕ) → IsShort bytes later → IsShort bytes (later ++ payload ∷ [])
+short_push : (bytes : List ℕ) (later : List (List ℕ)) (payload : List ℕ) → IsLessThanNext bytes later → IsLessThanNext bytes (later ++ payload ∷ [])
 short_push bytes [] payload h = omega (arith, ap length h)
 short_push bytes (p ∷ later) payload h = h
 
 -- more is sent
-pub reads_push : (i : IdReading) (id : SshId) (payloads : List (List ℕ)) (payload : List ℕ) (taken : ℕ) (r : Receiver) → taken ≤ length (clear_wire id payloads) → ReadsBy i id payloads taken r → ReadsBy i id (payloads ++ payload ∷ []) taken r
+pub reads_push : (i : IdReading) (id : SshId) (payloads : List (List ℕ)) (payload : List ℕ) (taken : ℕ) (r : Receiver) → taken ≤ length (clear_wire id payloads) → HasReadBy i id payloads taken r → HasReadBy i id (payloads ++ payload ∷ []) taken r
 reads_push (Waiting waiting others) id payloads payload taken r within h = h
 reads_push (Heard text) id payloads payload taken r within h = record {
   later = h.later ++ payload ∷ [];
@@ -47,7 +47,7 @@ reads_push (Heard text) id payloads payload taken r within h = record {
       ap (λ w. r.reader.waiting ++ drop taken w) (clear_wire-push id payloads payload)
       ∙ (ap (λ d. r.reader.waiting ++ d) (drop-append-le taken (clear_wire id payloads) _ within)
       ∙ (sym (append_assoc r.reader.waiting (drop taken (clear_wire id payloads)) _)
-      ∙ (ap (λ t. t ++ sealed Clear (number_behind 0 payloads) (clear_item payload)) h.stands
+      ∙ (ap (λ t. t ++ sealed_packet Clear (number_behind 0 payloads) (clear_item payload)) h.stands
       ∙ sym (sent_from-push r.reader.number h.later payload))));
   short = short_push r.reader.waiting h.later payload h.short;
   count = h.count;
@@ -55,13 +55,13 @@ reads_push (Heard text) id payloads payload taken r within h = record {
 }
 reads_push Failed id payloads payload taken r within h = h
 
-none_whole : (n : ℕ) (bytes : List ℕ) (later : List (List ℕ)) → IsShort bytes later → n ≡ length bytes → whole_in n later ≡ []
+none_whole : (n : ℕ) (bytes : List ℕ) (later : List (List ℕ)) → IsLessThanNext bytes later → n ≡ length bytes → whole_in n later ≡ []
 none_whole n bytes [] h e = refl
 none_whole n bytes (p ∷ later) h e =
     let below : nat_le (packet_size p) n ≡ false = grind (arith, nat_tests) in
     ap (λ t. if t then p ∷ whole_in (n - packet_size p) later else []) below
 
-whole_front : (delivered later : List (List ℕ)) (x : ℕ) (bytes : List ℕ) → IsShort bytes later → x ≡ length bytes → whole_in (size_of delivered + x) (delivered ++ later) ≡ delivered
+whole_front : (delivered later : List (List ℕ)) (x : ℕ) (bytes : List ℕ) → IsLessThanNext bytes later → x ≡ length bytes → whole_in (size_of delivered + x) (delivered ++ later) ≡ delivered
 whole_front [] later x bytes h e = ap (λ n. whole_in n later) (omega arith) ∙ none_whole x bytes later h e
 whole_front (p ∷ delivered) later x bytes h e =
     let enough : nat_le (packet_size p) (packet_size p + size_of delivered + x) ≡ true = grind (arith, nat_tests) in
@@ -76,7 +76,7 @@ nothing_whole (p ∷ payloads) =
     ap (λ t. if t then p ∷ whole_in (0 - packet_size p) payloads else []) below
 
 -- what was delivered are the payloads that lie whole in the bytes taken
-pub reads_whole : (i : IdReading) (id : SshId) (payloads : List (List ℕ)) (taken : ℕ) (r : Receiver) → ReadsBy i id payloads taken r → r.delivered.items ≡ whole_in (taken - length (id_line id)) payloads
+pub reads_whole : (i : IdReading) (id : SshId) (payloads : List (List ℕ)) (taken : ℕ) (r : Receiver) → HasReadBy i id payloads taken r → r.delivered.items ≡ whole_in (taken - length (id_line id)) payloads
 reads_whole (Waiting waiting others) id payloads taken r h =
     let none : taken - length (id_line id) ≡ 0 = omega (arith, h.short) in
     h.none ∙ sym (ap (λ n. whole_in n payloads) none ∙ nothing_whole payloads)

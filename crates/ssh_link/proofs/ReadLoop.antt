@@ -4,14 +4,14 @@ use Rattle.ssh_packet.specs.Sealing.{Item, next_number}
 use Rattle.ssh_packet.specs.Stream.{number_after}
 use Rattle.ssh_packet.specs.Front.{Front, Unfinished, Refused}
 use Rattle.ssh_packet.specs.Reading.{Reader}
-use Rattle.ssh_link.specs.Delivering.{Finds, payloads_of, DeliversOne, DeliversNone, IsRefused}
+use Rattle.ssh_link.specs.Delivering.{FindsPackets, payloads_of, DeliversOne, DeliversNone, RefusesPacket}
 use Rattle.ssh_link.specs.Receiving.{ReadsOn, CannotRead}
 use Rattle.ssh_link.specs.declared.receiver.Receiver.{Receiver}
 
 -- after some packets: whatever is found from here on is found behind them
 pub record HasRead (first : Receiver) (bytes : List ℕ) (now : Receiver) : Type 0 where
   pub items : List Item
-  pub goes_on : (more : List Item) (rest : List ℕ) (end : Front) → Finds now.reader.number now.reader.waiting more rest end → Finds first.reader.number (first.reader.waiting ++ bytes) (items ++ more) rest end
+  pub goes_on : (more : List Item) (rest : List ℕ) (end : Front) → FindsPackets now.reader.number now.reader.waiting more rest end → FindsPackets first.reader.number (first.reader.waiting ++ bytes) (items ++ more) rest end
   pub number : now.reader.number ≡ number_after first.reader.number items
   pub failed : now.reader.failed ≡ first.reader.failed
   pub delivered : now.delivered.items ≡ first.delivered.items ++ payloads_of items
@@ -30,8 +30,8 @@ pub read_one : (first now : Receiver) (bytes : List ℕ) (next : Receiver) (item
 read_one first now bytes next item h same d = record {
   items = h.items ++ item ∷ [];
   goes_on = λ more rest end f.
-      let P : List Item → Type 0 = λ l. Finds first.reader.number (first.reader.waiting ++ bytes) l rest end in
-      let N : ℕ → Type 0 = λ n. Finds n next.reader.waiting more rest end in
+      let P : List Item → Type 0 = λ l. FindsPackets first.reader.number (first.reader.waiting ++ bytes) l rest end in
+      let N : ℕ → Type 0 = λ n. FindsPackets n next.reader.waiting more rest end in
       subst P (sym (append_assoc h.items (item ∷ []) more)) (h.goes_on (item ∷ more) rest end (next.reader.waiting, d.front, subst N d.number f));
   number = d.number ∙ (ap next_number h.number ∙ sym (number_after-push first.reader.number h.items item));
   failed = d.stays_live ∙ (sym d.live ∙ h.failed);
@@ -42,7 +42,7 @@ read_one first now bytes next item h same d = record {
 -- no packet more
 pub read_all : (first now : Receiver) (bytes : List ℕ) (next : Receiver) → HasRead first bytes now → DeliversNone now.reader next.reader now.delivered.items next.delivered.items → ReadsOn first bytes next
 read_all first now bytes next h d =
-    let P : List Item → Type 0 = λ l. Finds first.reader.number (first.reader.waiting ++ bytes) l next.reader.waiting Unfinished in
+    let P : List Item → Type 0 = λ l. FindsPackets first.reader.number (first.reader.waiting ++ bytes) l next.reader.waiting Unfinished in
     let same : next.reader.waiting ≡ now.reader.waiting = ap (λ (r : Reader). r.waiting) d.same in
     record {
       items = h.items;
@@ -53,6 +53,6 @@ read_all first now bytes next h d =
     }
 
 -- a refusal behind some packets
-pub read_stops : (first now : Receiver) (bytes : List ℕ) → HasRead first bytes now → IsRefused now.reader → CannotRead first bytes
+pub read_stops : (first now : Receiver) (bytes : List ℕ) → HasRead first bytes now → RefusesPacket now.reader → CannotRead first bytes
 read_stops first now bytes h (inl failed) = inl (sym h.failed ∙ failed)
 read_stops first now bytes h (inr refused) = inr (h.items ++ [], now.reader.waiting, refused.0, h.goes_on [] now.reader.waiting (Refused refused.0) (refl, refused.1))

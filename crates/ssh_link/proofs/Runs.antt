@@ -9,9 +9,9 @@ use Rattle.ssh_wire.specs.declared.error.Error.{Error}
 use Rattle.ssh_wire.specs.declared.side.Side.{Side}
 use Rattle.ssh_wire.specs.declared.side.Side.TheVariants.{Client, Server}
 use Rattle.ssh_wire.specs.declared.ssh_id.SshId.{SshId}
-use Rattle.ssh_packet.specs.Sealing.{Clear, sealed, next_number}
+use Rattle.ssh_packet.specs.Sealing.{Clear, sealed_packet, next_number}
 use Rattle.ssh_link.specs.ClearLink.{IsFresh, Submits, CannotSubmit, Delivers, CannotDeliver, next_piece, StepsOn, CannotStep, TakesWithin}
-use Rattle.ssh_link.specs.ClearRun.{IsWholeLine, clear_item, packet_size, clear_wire, submitted, taken_in, whole_in, is_bad_size, first_refused, IsClearSide, IsClearRun, IsRefusedRun}
+use Rattle.ssh_link.specs.ClearRun.{IsWholeLine, clear_item, packet_size, clear_wire, submitted_payloads, taken_in, whole_in, is_bad_size, first_refused, IsClearSide, IsClearRun, IsRefusedRun}
 use Rattle.ssh_link.specs.declared.clear_link.ClearEnd.{ClearEnd}
 use Rattle.ssh_link.specs.declared.clear_link.ClearLink.{ClearLink}
 use Rattle.ssh_link.specs.declared.receiver.Receiver.{Receiver}
@@ -20,29 +20,29 @@ use Rattle.ssh_link.specs.declared.report.ClearSide.{ClearSide}
 use Rattle.ssh_link.specs.declared.step.ClearStep.{ClearStep}
 use Rattle.ssh_link.specs.declared.step.ClearStep.TheVariants.{Submit, Deliver}
 use Rattle.ssh_link.proofs.Sent.{AreSent, length_packet}
-use Rattle.ssh_link.proofs.Carried.{Reads, ReadsBy, IsPiece, takes_piece, takes_all}
+use Rattle.ssh_link.proofs.Carried.{HasReadOf, HasReadBy, IsPiece, takes_piece, takes_all}
 use Rattle.ssh_link.proofs.Growing.{number_behind, number_behind-push, are_sent_push, clear_wire-push, reads_push, reads_whole}
 
 -- one side, with the payloads it has sent: what it sent, what is sent from here on, and what it takes
 pub record Stands (own other : SshId) (side : Side) (all left : List ClearStep) (sent theirs : List (List ℕ)) (now : ClearEnd) : Type 0 where
-  pub steps : submitted side all ≡ sent ++ submitted side left
+  pub steps : submitted_payloads side all ≡ sent ++ submitted_payloads side left
   pub output : now.writer.output ≡ clear_wire own sent
   pub number : now.writer.number ≡ number_behind 0 sent
   pub sealing : now.writer.sealing ≡ Clear
   pub admissible : AreSent sent
   pub within : now.taken ≤ length (clear_wire other theirs)
   pub takes : taken_in side (length (id_line other)) all ≡ now.taken + taken_in side (length (clear_wire other theirs) - now.taken) left
-  pub reads : Reads other theirs now.taken now.receiver
+  pub reads : HasReadOf other theirs now.taken now.receiver
 
 -- a link with these steps to come
-pub record Runs (client_id server_id : SshId) (all left : List ClearStep) (link : ClearLink) : Type 0 where
+pub record IsUnderWay (client_id server_id : SshId) (all left : List ClearStep) (link : ClearLink) : Type 0 where
   pub client_sent : List (List ℕ)
   pub server_sent : List (List ℕ)
   pub client : Stands client_id server_id Client all left client_sent server_sent link.client
   pub server : Stands server_id client_id Server all left server_sent client_sent link.server
   pub refused : first_refused all ≡ first_refused left
 
-pub within : (client_id server_id : SshId) (all left : List ClearStep) (link : ClearLink) → Runs client_id server_id all left link → TakesWithin link
+pub within : (client_id server_id : SshId) (all left : List ClearStep) (link : ClearLink) → IsUnderWay client_id server_id all left link → TakesWithin link
 within client_id server_id all left link r = record {
   client = subst (λ w. link.client.taken ≤ length w) (sym r.server.output) r.client.within;
   server = subst (λ w. link.server.taken ≤ length w) (sym r.client.output) r.server.within;
@@ -66,7 +66,7 @@ fresh own other side all now some f = record {
       let place : length (clear_wire other []) - now.taken ≡ length (id_line other) = omega (arith, f.taken, ap length (wire_of_none other)) in
       sym (ap (λ n. now.taken + taken_in side n all) place ∙ (ap (λ n. n + taken_in side (length (id_line other)) all) f.taken ∙ (let z : 0 + taken_in side (length (id_line other)) all ≡ taken_in side (length (id_line other)) all = omega arith in z)));
   reads =
-      let N : IdReading → Type 0 = λ i. ReadsBy i other [] now.taken now.receiver in
+      let N : IdReading → Type 0 = λ i. HasReadBy i other [] now.taken now.receiver in
       subst N (sym f.line) (record {
         short = omega (arith, f.taken, some);
         waits = sym (ap (λ n. take n (id_line other)) f.taken);
@@ -81,7 +81,7 @@ some_line : (line text : List ℕ) → id_of 0 line ≡ Id text (length line) �
 some_line [] text h = absurd (let bad : ⊥ = cc in bad)
 some_line (b ∷ line) text h = omega arith
 
-pub starts : (client_id server_id : SshId) (all : List ClearStep) (link : ClearLink) → IsWholeLine client_id → IsWholeLine server_id → IsFresh client_id link.client → IsFresh server_id link.server → Runs client_id server_id all all link
+pub starts : (client_id server_id : SshId) (all : List ClearStep) (link : ClearLink) → IsWholeLine client_id → IsWholeLine server_id → IsFresh client_id link.client → IsFresh server_id link.server → IsUnderWay client_id server_id all all link
 starts client_id server_id all link hc hs fc fs = record {
   client_sent = [];
   server_sent = [];
@@ -94,8 +94,8 @@ starts client_id server_id all link hc hs fc fs = record {
 submits : (own other : SshId) (side s : Side) (all left : List ClearStep) (sent theirs : List (List ℕ)) (payload : List ℕ) (now next : ClearEnd) → same_side s side ≡ true
     → Stands own other side all (Submit s payload ∷ left) sent theirs now → Submits now payload next → Stands own other side all left (sent ++ payload ∷ []) theirs next
 submits own other side s all left sent theirs payload now next same h d = record {
-  steps = h.steps ∙ (ap (λ b. sent ++ (if b then payload ∷ submitted side left else submitted side left)) same ∙ sym (append_assoc sent (payload ∷ []) (submitted side left)));
-  output = d.output ∙ (ap (λ o. o ++ sealed Clear now.writer.number (clear_item payload)) h.output ∙ (ap (λ n. clear_wire own sent ++ sealed Clear n (clear_item payload)) h.number ∙ sym (clear_wire-push own sent payload)));
+  steps = h.steps ∙ (ap (λ b. sent ++ (if b then payload ∷ submitted_payloads side left else submitted_payloads side left)) same ∙ sym (append_assoc sent (payload ∷ []) (submitted_payloads side left)));
+  output = d.output ∙ (ap (λ o. o ++ sealed_packet Clear now.writer.number (clear_item payload)) h.output ∙ (ap (λ n. clear_wire own sent ++ sealed_packet Clear n (clear_item payload)) h.number ∙ sym (clear_wire-push own sent payload)));
   number = d.number ∙ (ap next_number h.number ∙ sym (number_behind-push 0 sent payload));
   sealing = d.sealing;
   admissible = are_sent_push sent payload h.admissible d.admissible;
@@ -104,8 +104,8 @@ submits own other side s all left sent theirs payload now next same h d = record
       ∙ (ap (λ b. now.taken + (if b then taken_in side (length (clear_wire other theirs) - now.taken) left else taken_in side (length (clear_wire other theirs) - now.taken + packet_size payload) left)) same
       ∙ ap (λ t. t + taken_in side (length (clear_wire other theirs) - t) left) (sym d.taken));
   reads =
-      let P : Receiver → Type 0 = λ r. Reads other theirs next.taken r in
-      let T : ℕ → Type 0 = λ t. Reads other theirs t now.receiver in
+      let P : Receiver → Type 0 = λ r. HasReadOf other theirs next.taken r in
+      let T : ℕ → Type 0 = λ t. HasReadOf other theirs t now.receiver in
       subst P (sym d.receiver) (subst T (sym d.taken) h.reads);
 }
 
@@ -117,7 +117,7 @@ offered own other side s all left sent theirs payload now same h =
     ap length (clear_wire-push other theirs payload) ∙ (length-append (clear_wire other theirs) _ ∙ ap (λ n. length (clear_wire other theirs) + n) (length_packet (number_behind 0 theirs) payload)) in
     let waits : length (clear_wire other theirs) - now.taken + packet_size payload ≡ length (clear_wire other (theirs ++ payload ∷ [])) - now.taken = omega (arith, longer, h.within) in
     record {
-      steps = h.steps ∙ ap (λ b. sent ++ (if b then payload ∷ submitted side left else submitted side left)) same;
+      steps = h.steps ∙ ap (λ b. sent ++ (if b then payload ∷ submitted_payloads side left else submitted_payloads side left)) same;
       output = h.output;
       number = h.number;
       sealing = h.sealing;
@@ -151,7 +151,7 @@ delivers own other side s all left sent theirs n now next same whole ok h d =
           ∙ (ap (λ m. now.taken + (min n (length (clear_wire other theirs) - now.taken) + taken_in side m left)) place
           ∙ omega (arith, d.taken)));
       reads =
-          let T : ℕ → Type 0 = λ t. Reads other theirs t next.receiver in
+          let T : ℕ → Type 0 = λ t. HasReadOf other theirs t next.receiver in
           subst T (sym d.taken) (takes_piece now.receiver.id other theirs now.taken _ _ now.receiver next.receiver whole ok h.reads (piece_of (clear_wire other theirs) now.taken n h.within) d.receiver);
     }
 
@@ -173,7 +173,7 @@ good_size : (payload : List ℕ) (s : Side) (left : List ClearStep) → is_bad_s
 good_size payload s left h = ap (λ b. if b then Some (length payload) else first_refused left) h
 
 -- one step
-pub goes_on : (client_id server_id : SshId) (all left : List ClearStep) (step : ClearStep) (link next : ClearLink) → IsWholeLine client_id → IsWholeLine server_id → Runs client_id server_id all (step ∷ left) link → StepsOn link step next → Runs client_id server_id all left next
+pub goes_on : (client_id server_id : SshId) (all left : List ClearStep) (step : ClearStep) (link next : ClearLink) → IsWholeLine client_id → IsWholeLine server_id → IsUnderWay client_id server_id all (step ∷ left) link → StepsOn link step next → IsUnderWay client_id server_id all left next
 goes_on client_id server_id all left (Submit Client payload) link next hc hs r d =
     let P : ClearEnd → Type 0 = λ e. Stands server_id client_id Server all left r.server_sent (r.client_sent ++ payload ∷ []) e in
     record {
@@ -225,7 +225,7 @@ no_fault own other side all left sent theirs n now error whole ok h (inl memory)
 no_fault own other side all left sent theirs n now error whole ok h (inr fault) =
     absurd (takes_all now.receiver.id other theirs now.taken _ _ now.receiver whole ok h.reads (piece_of (clear_wire other theirs) now.taken n h.within) fault)
 
-pub stops : (client_id server_id : SshId) (all left : List ClearStep) (step : ClearStep) (link : ClearLink) (error : Error) → IsWholeLine client_id → IsWholeLine server_id → Runs client_id server_id all (step ∷ left) link → CannotStep link step error → IsRefusedRun all error
+pub stops : (client_id server_id : SshId) (all left : List ClearStep) (step : ClearStep) (link : ClearLink) (error : Error) → IsWholeLine client_id → IsWholeLine server_id → IsUnderWay client_id server_id all (step ∷ left) link → CannotStep link step error → IsRefusedRun all error
 stops client_id server_id all left (Submit Client payload) link error hc hs r d = bad_size all left Client payload error r.refused d
 stops client_id server_id all left (Submit Server payload) link error hc hs r d = bad_size all left Server payload error r.refused d
 stops client_id server_id all left (Deliver Client n) link error hc hs r d =
@@ -241,16 +241,16 @@ pub record Reports (now : ClearEnd) (report : ClearSide) : Type 0 where
   pub taken : report.taken ≡ now.taken
   pub delivered : report.delivered ≡ now.receiver.delivered.items
 
-ends : (own other : SshId) (side : Side) (all : List ClearStep) (sent theirs : List (List ℕ)) (now : ClearEnd) (report : ClearSide) → submitted (other_side side) all ≡ theirs → Stands own other side all [] sent theirs now → Reports now report → IsClearSide own other side all report
+ends : (own other : SshId) (side : Side) (all : List ClearStep) (sent theirs : List (List ℕ)) (now : ClearEnd) (report : ClearSide) → submitted_payloads (other_side side) all ≡ theirs → Stands own other side all [] sent theirs now → Reports now report → IsClearSide own other side all report
 ends own other side all sent theirs now report whose h d =
-    let all_sent : submitted side all ≡ sent = h.steps ∙ append-nil sent in
+    let all_sent : submitted_payloads side all ≡ sent = h.steps ∙ append-nil sent in
     record {
       wire = d.wire ∙ (h.output ∙ ap (clear_wire own) (sym all_sent));
       taken = d.taken ∙ sym (h.takes ∙ omega arith);
       delivered = d.delivered ∙ (reads_whole now.receiver.id other theirs now.taken now.receiver h.reads ∙ (ap (λ t. whole_in (t - length (id_line other)) theirs) (sym d.taken) ∙ ap (whole_in (report.taken - length (id_line other))) (sym whose)));
     }
 
-pub finishes : (client_id server_id : SshId) (all : List ClearStep) (link : ClearLink) (report : ClearReport) → Runs client_id server_id all [] link → Reports link.client report.client → Reports link.server report.server → IsClearRun client_id server_id all report
+pub finishes : (client_id server_id : SshId) (all : List ClearStep) (link : ClearLink) (report : ClearReport) → IsUnderWay client_id server_id all [] link → Reports link.client report.client → Reports link.server report.server → IsClearRun client_id server_id all report
 finishes client_id server_id all link report r dc ds = record {
   client = ends client_id server_id Client all r.client_sent r.server_sent link.client report.client (r.server.steps ∙ append-nil r.server_sent) r.client dc;
   server = ends server_id client_id Server all r.server_sent r.client_sent link.server report.server (r.client.steps ∙ append-nil r.client_sent) r.server ds;

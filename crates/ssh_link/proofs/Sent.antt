@@ -2,13 +2,13 @@
 use Rattle.std.proofs.Common.{◌≡◌, ℕ, ◌+◌, ◌<◌, ◌≤◌, List, [], ◌∷◌, ◌++◌, length, map, take, drop, refl, sym, ◌∙◌, ap, subst, arith, Bool, true, false, nat_le, append_assoc, length-append}
 use Rattle.std.proofs.lemmas.Bool.Decides.{nat_tests}
 use Rattle.std.proofs.lemmas.List.{length-replicate, take-append-drop, length-take-le}
-use Rattle.ssh_packet.specs.Sealing.{Item, Clear, sealed, next_number, padding_length, IsAdmissible}
+use Rattle.ssh_packet.specs.Sealing.{Item, Clear, sealed_packet, next_number, padding_length, IsAdmissible}
 use Rattle.ssh_packet.specs.Stream.{packets, number_after}
 use Rattle.ssh_packet.specs.Front.{Front, Whole, Unfinished, Refused, front_of}
 use Rattle.ssh_packet.proofs.Shapes.{length_framed, cut_alike}
 use Rattle.ssh_packet.proofs.Fronts.{front_whole, front_stays_whole, front_stays_refused}
 use Rattle.ssh_link.specs.ClearRun.{clear_item, packet_size}
-use Rattle.ssh_link.specs.Delivering.{Finds, payloads_of}
+use Rattle.ssh_link.specs.Delivering.{FindsPackets, payloads_of}
 
 -- the packets of payloads, from a number on
 abbrev pub sent_from : ℕ → List (List ℕ) → List ℕ
@@ -23,17 +23,17 @@ size_of [] = 0
 size_of (payload ∷ payloads) = packet_size payload + size_of payloads
 
 -- less than the next packet
-abbrev pub IsShort : List ℕ → List (List ℕ) → Type 0
-IsShort bytes [] = bytes ≡ []
-IsShort bytes (payload ∷ payloads) = length bytes < packet_size payload
+abbrev pub IsLessThanNext : List ℕ → List (List ℕ) → Type 0
+IsLessThanNext bytes [] = bytes ≡ []
+IsLessThanNext bytes (payload ∷ payloads) = length bytes < packet_size payload
 
-pub length_packet : (number : ℕ) (payload : List ℕ) → length (sealed Clear number (clear_item payload)) ≡ packet_size payload
+pub length_packet : (number : ℕ) (payload : List ℕ) → length (sealed_packet Clear number (clear_item payload)) ≡ packet_size payload
 length_packet number payload = omega (arith, length_framed (clear_item payload), length-replicate {A = ℕ} (padding_length Clear (length payload)) 0)
 
 -- a reader that stopped for want of bytes, or by a fault
 abbrev pub EndsWell : Front → List ℕ → List (List ℕ) → Type 0
 EndsWell (Whole item rest) bytes later = Unit {0}
-EndsWell Unfinished bytes later = IsShort bytes later
+EndsWell Unfinished bytes later = IsLessThanNext bytes later
 EndsWell (Refused fault) bytes later = ⊥
 
 nothing : (bytes more : List ℕ) → bytes ++ more ≡ [] → bytes ≡ []
@@ -45,11 +45,11 @@ unfolding front_of
 front_nothing number = refl
 
 -- bytes that hold a whole packet begin with it
-holds_packet : (number : ℕ) (payload bytes more behind : List ℕ) → bytes ++ more ≡ sealed Clear number (clear_item payload) ++ behind → packet_size payload ≤ length bytes → bytes ≡ sealed Clear number (clear_item payload) ++ drop (packet_size payload) bytes
+holds_packet : (number : ℕ) (payload bytes more behind : List ℕ) → bytes ++ more ≡ sealed_packet Clear number (clear_item payload) ++ behind → packet_size payload ≤ length bytes → bytes ≡ sealed_packet Clear number (clear_item payload) ++ drop (packet_size payload) bytes
 holds_packet number payload bytes more behind e h =
     let size = length_packet number payload in
-    let cut : take (packet_size payload) bytes ++ (drop (packet_size payload) bytes ++ more) ≡ sealed Clear number (clear_item payload) ++ behind = sym (append_assoc (take (packet_size payload) bytes) (drop (packet_size payload) bytes) more) ∙ (ap (λ t. t ++ more) (take-append-drop (packet_size payload) bytes) ∙ e) in
-    let front : take (packet_size payload) bytes ≡ sealed Clear number (clear_item payload) = (cut_alike _ _ _ _ (length-take-le (packet_size payload) bytes h ∙ sym size) cut).0 in
+    let cut : take (packet_size payload) bytes ++ (drop (packet_size payload) bytes ++ more) ≡ sealed_packet Clear number (clear_item payload) ++ behind = sym (append_assoc (take (packet_size payload) bytes) (drop (packet_size payload) bytes) more) ∙ (ap (λ t. t ++ more) (take-append-drop (packet_size payload) bytes) ∙ e) in
+    let front : take (packet_size payload) bytes ≡ sealed_packet Clear number (clear_item payload) = (cut_alike _ _ _ _ (length-take-le (packet_size payload) bytes h ∙ sym size) cut).0 in
     sym (take-append-drop (packet_size payload) bytes) ∙ ap (λ t. t ++ drop (packet_size payload) bytes) front
 
 -- what is found at the front of what was sent
@@ -88,7 +88,7 @@ item_is i payload a b e =
     let item : i ≡ clear_item payload = cc in
     (ap (λ (x : Item). x.payload) item, cc)
 
-pub finds_sent : (number : ℕ) (payloads : List (List ℕ)) (bytes more : List ℕ) (items : List Item) (rest : List ℕ) (end : Front) → AreSent payloads → bytes ++ more ≡ sent_from number payloads → Finds number bytes items rest end → AreFirst number bytes more items rest end payloads
+pub finds_sent : (number : ℕ) (payloads : List (List ℕ)) (bytes more : List ℕ) (items : List Item) (rest : List ℕ) (end : Front) → AreSent payloads → bytes ++ more ≡ sent_from number payloads → FindsPackets number bytes items rest end → AreFirst number bytes more items rest end payloads
 finds_sent number payloads bytes more [] rest end ok e f = record {
   later = payloads;
   split = refl;
@@ -106,7 +106,7 @@ finds_sent number (payload ∷ payloads) bytes more (i ∷ items) rest end ok e 
     sym (front_stays_whole Clear number bytes more f.0 i f.1) ∙ (ap (front_of Clear number) e ∙ front_whole Clear number (clear_item payload) (sent_from (next_number number) payloads) ok.0) in
     let same = item_is i payload _ _ there in
     let r = finds_sent (next_number number) payloads f.0 more items rest end ok.1 same.1 f.2 in
-    let whole_size : length bytes + length more ≡ packet_size payload + length (sent_from (next_number number) payloads) = sym (length-append bytes more) ∙ (ap length e ∙ (length-append (sealed Clear number (clear_item payload)) (sent_from (next_number number) payloads) ∙ ap (λ n. n + length (sent_from (next_number number) payloads)) (length_packet number payload))) in
+    let whole_size : length bytes + length more ≡ packet_size payload + length (sent_from (next_number number) payloads) = sym (length-append bytes more) ∙ (ap length e ∙ (length-append (sealed_packet Clear number (clear_item payload)) (sent_from (next_number number) payloads) ∙ ap (λ n. n + length (sent_from (next_number number) payloads)) (length_packet number payload))) in
     let behind : length f.0 + length more ≡ length (sent_from (next_number number) payloads) = sym (length-append f.0 more) ∙ ap length same.1 in
     record {
       later = r.later;

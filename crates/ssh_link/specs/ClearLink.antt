@@ -6,9 +6,9 @@ use Rattle.ssh_wire.specs.declared.error.Error.{Error}
 use Rattle.ssh_wire.specs.declared.error.Error.TheVariants.{PacketSize, Memory}
 use Rattle.ssh_wire.specs.declared.side.Side.TheVariants.{Client, Server}
 use Rattle.ssh_wire.specs.declared.ssh_id.SshId.{SshId}
-use Rattle.ssh_packet.specs.Sealing.{Clear, sealed, next_number, IsAdmissible}
+use Rattle.ssh_packet.specs.Sealing.{Clear, sealed_packet, next_number, IsAdmissible}
 use Rattle.ssh_link.specs.ClearRun.{clear_item, is_bad_size}
-use Rattle.ssh_link.specs.Receiving.{Takes, CannotTake}
+use Rattle.ssh_link.specs.Receiving.{TakesPiece, CannotTake}
 use Rattle.ssh_link.specs.declared.clear_link.ClearEnd.{ClearEnd}
 use Rattle.ssh_link.specs.declared.clear_link.ClearLink.{ClearLink}
 use Rattle.ssh_link.specs.declared.step.ClearStep.{ClearStep}
@@ -26,7 +26,7 @@ pub record IsFresh (id : SshId) (side : ClearEnd) : Type 0 where
 
 -- a payload was sealed behind what the side sent before
 pub record Submits (old : ClearEnd) (payload : List ℕ) (new : ClearEnd) : Type 0 where
-  pub output : new.writer.output ≡ old.writer.output ++ sealed Clear old.writer.number (clear_item payload)
+  pub output : new.writer.output ≡ old.writer.output ++ sealed_packet Clear old.writer.number (clear_item payload)
   pub number : new.writer.number ≡ next_number old.writer.number
   pub sealing : new.writer.sealing ≡ Clear
   pub receiver : new.receiver ≡ old.receiver
@@ -44,7 +44,7 @@ next_piece wire taken n = take (min n (length wire - taken)) (drop taken wire)
 
 pub record Delivers (old : ClearEnd) (wire : List ℕ) (n : ℕ) (new : ClearEnd) : Type 0 where
   pub taken : new.taken ≡ old.taken + min n (length wire - old.taken)
-  pub receiver : Takes old.receiver (next_piece wire old.taken n) new.receiver
+  pub receiver : TakesPiece old.receiver (next_piece wire old.taken n) new.receiver
   pub writer : new.writer ≡ old.writer
 
 abbrev pub CannotDeliver : ClearEnd → List ℕ → ℕ → Error → Type 0

@@ -31,10 +31,10 @@ abbrev pub clear_wire : SshId → List (List ℕ) → List ℕ
 clear_wire id payloads = id_line id ++ packets Clear 0 (map clear_item payloads)
 
 -- the payloads that a side submits in these steps
-abbrev pub submitted : Side → List ClearStep → List (List ℕ)
-submitted side [] = []
-submitted side (Submit s payload ∷ steps) = if same_side s side then payload ∷ submitted side steps else submitted side steps
-submitted side (Deliver s n ∷ steps) = submitted side steps
+abbrev pub submitted_payloads : Side → List ClearStep → List (List ℕ)
+submitted_payloads side [] = []
+submitted_payloads side (Submit s payload ∷ steps) = if same_side s side then payload ∷ submitted_payloads side steps else submitted_payloads side steps
+submitted_payloads side (Deliver s n ∷ steps) = submitted_payloads side steps
 
 -- how many bytes a side takes in these steps, where so many wait for it: the smaller of what it is told and what waits
 abbrev pub taken_in : Side → ℕ → List ClearStep → ℕ
@@ -49,9 +49,9 @@ whole_in n (payload ∷ payloads) = if nat_le (packet_size payload) n then paylo
 
 -- one side's part of the report
 pub record IsClearSide (own other : SshId) (side : Side) (steps : List ClearStep) (report : ClearSide) : Type 0 where
-  pub wire : report.wire ≡ clear_wire own (submitted side steps)
+  pub wire : report.wire ≡ clear_wire own (submitted_payloads side steps)
   pub taken : report.taken ≡ taken_in side (length (id_line other)) steps
-  pub delivered : report.delivered ≡ whole_in (report.taken - length (id_line other)) (submitted (other_side side) steps)
+  pub delivered : report.delivered ≡ whole_in (report.taken - length (id_line other)) (submitted_payloads (other_side side) steps)
 
 pub record IsClearRun (client_id server_id : SshId) (steps : List ClearStep) (report : ClearReport) : Type 0 where
   pub client : IsClearSide client_id server_id Client steps report.client

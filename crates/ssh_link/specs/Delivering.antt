@@ -5,9 +5,9 @@ use Rattle.ssh_packet.specs.Front.{Front, Whole, Unfinished, Fault, Refused, fro
 use Rattle.ssh_packet.specs.Reading.{Reader}
 
 -- the reader finds these packets at the front of the bytes, one after the other, and then it finds `end` before the rest
-abbrev pub Finds : ℕ → List ℕ → List Item → List ℕ → Front → Type 0
-Finds number bytes [] rest end = (bytes ≡ rest) × (front_of Clear number bytes ≡ end)
-Finds number bytes (item ∷ items) rest end = (more : List ℕ) × (front_of Clear number bytes ≡ Whole item more) × Finds (next_number number) more items rest end
+abbrev pub FindsPackets : ℕ → List ℕ → List Item → List ℕ → Front → Type 0
+FindsPackets number bytes [] rest end = (bytes ≡ rest) × (front_of Clear number bytes ≡ end)
+FindsPackets number bytes (item ∷ items) rest end = (more : List ℕ) × (front_of Clear number bytes ≡ Whole item more) × FindsPackets (next_number number) more items rest end
 
 abbrev pub payloads_of : List Item → List (List ℕ)
 payloads_of items = map (λ item. item.payload) items
@@ -29,5 +29,5 @@ pub record DeliversNone (old new : Reader) (delivered delivered' : List (List �
   pub delivers : delivered' ≡ delivered
 
 -- the reader has failed, or refuses what stands at the front
-abbrev pub IsRefused : Reader → Type 0
-IsRefused old = (old.failed ≡ true) ⊎ ((fault : Fault) × (front_of Clear old.number old.waiting ≡ Refused fault))
+abbrev pub RefusesPacket : Reader → Type 0
+RefusesPacket old = (old.failed ≡ true) ⊎ ((fault : Fault) × (front_of Clear old.number old.waiting ≡ Refused fault))

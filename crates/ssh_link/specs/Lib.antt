@@ -6,4 +6,5 @@ pub mod Program
 pub mod Receiving
 pub mod Report
 pub mod Script
-pub mod Stream
+pub mod Adapters
+pub mod Statuses

@@ -1,19 +1,29 @@
 -- The top call of the program: what it answers, and how it ends.
-use Rattle.std.specs.Prelude.{◌≡◌, ℕ, ◌⊎◌, List, [], ◌∷◌, codes, Option, Some, None, IfSome, Result, Ok, Err}
-use Rattle.ssh_wire.specs.Outside.{Appends, Rose}
+use Rattle.std.specs.Prelude.{◌≡◌, ℕ, ◌⊎◌, List, [], ◌∷◌, codes, drop, map, Option, Some, None, IfSome, Result, Ok, Err}
+use Rattle.std.specs.Global.{Global}
+use Rattle.std.specs.String.{string_bytes}
+use Rattle.std.specs.Vec.Iter.{into_iter_items}
+use Rattle.std.specs.declared.string.String.{String}
+use Rattle.std.specs.declared.vec.IntoIter.{IntoIter}
+use Rattle.ssh_wire.specs.Outside.{Appends, Rose, AppendsFront}
 use Rattle.ssh_wire.specs.declared.error.Error.{Error}
 use Rattle.ssh_wire.specs.declared.ssh_id.SshId.{SshId}
 use Rattle.ssh_wire.specs.declared.ssh_id.SshId.TheVariants.{Standard}
 use Rattle.ssh_link.specs.ClearRun.{IsClearRun, IsRefusedSize, first_refused}
-use Rattle.ssh_link.specs.Report.{clear_printed, fault_printed, refusal_printed}
+use Rattle.ssh_link.specs.Report.{clear_report_text, fault_line, refusal_line}
 use Rattle.ssh_link.specs.Script.{clear_script}
-use Rattle.ssh_link.specs.Stream.{AppendsFront}
+use Rattle.ssh_link.specs.Statuses.{report_written, run_refused, no_command, script_faulty, sink_failed}
 use Rattle.ssh_link.specs.declared.answer.Answer.{Answer}
 use Rattle.ssh_link.specs.declared.answer.Answer.TheVariants.{Usage, Faulty, Refused, Ran}
 use Rattle.ssh_link.specs.declared.answer.MainEnd.{MainEnd}
 use Rattle.ssh_link.specs.declared.report.ClearReport.{ClearReport}
 use Rattle.ssh_link.specs.declared.script.ScriptFault.{ScriptFault}
 use Rattle.ssh_link.specs.declared.step.ClearStep.{ClearStep}
+
+-- the words that a program was called with: those behind its name, or none where one of all isn't UTF-8
+abbrev pub AreWords : {E : Type 0} → Result (IntoIter (String Global) Global) E → List (List ℕ) → Type 0
+AreWords (Ok arguments) words = words ≡ map string_bytes (drop 1 (into_iter_items arguments))
+AreWords (Err e) words = words ≡ []
 
 -- the words of the one command
 abbrev pub IsCommand : List (List ℕ) → Type 0
@@ -53,16 +63,16 @@ IsAnswer words left (Ran report) = IsCommand words × AnswersLeft left (Ran repo
 -- what is written
 abbrev pub answer_text : Answer → List ℕ
 answer_text Usage = codes "usage\n"
-answer_text (Faulty fault) = fault_printed fault
-answer_text (Refused e) = refusal_printed e
-answer_text (Ran report) = clear_printed report
+answer_text (Faulty fault) = fault_line fault
+answer_text (Refused e) = refusal_line e
+answer_text (Ran report) = clear_report_text report
 
 -- the exit status, once all is written
 abbrev pub answer_status : Answer → ℕ
-answer_status Usage = 2
-answer_status (Faulty fault) = 3
-answer_status (Refused e) = 1
-answer_status (Ran report) = 0
+answer_status Usage = no_command
+answer_status (Faulty fault) = script_faulty
+answer_status (Refused e) = run_refused
+answer_status (Ran report) = report_written
 
 abbrev pub shown_clear : Answer → Option ClearReport
 shown_clear Usage = None
@@ -94,4 +104,4 @@ ShowsNone end = (end.clear ≡ None) × (end.refused ≡ None) × (end.fault ≡
 abbrev pub IsWritten : Answer → ℕ → Option (List ℕ) → Option (List ℕ) → ℕ → ℕ → Type 0
 IsWritten answer status held now faults faults_now =
     ((status ≡ answer_status answer) × Appends (answer_text answer) held now)
-    ⊎ ((status ≡ 5) × Rose faults faults_now × AppendsFront (answer_text answer) held now)
+    ⊎ ((status ≡ sink_failed) × Rose faults faults_now × AppendsFront (answer_text answer) held now)

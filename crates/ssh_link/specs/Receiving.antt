@@ -8,20 +8,20 @@ use Rattle.ssh_wire.specs.declared.error.Error.TheVariants.{Memory}
 use Rattle.ssh_packet.specs.Sealing.{Item}
 use Rattle.ssh_packet.specs.Stream.{number_after}
 use Rattle.ssh_packet.specs.Front.{Unfinished, Fault, Refused}
-use Rattle.ssh_link.specs.Delivering.{Finds, payloads_of}
+use Rattle.ssh_link.specs.Delivering.{FindsPackets, payloads_of}
 use Rattle.ssh_link.specs.declared.receiver.Receiver.{Receiver}
 
 -- bytes were read: all packets that stand whole are delivered
 pub record ReadsOn (old : Receiver) (bytes : List ℕ) (new : Receiver) : Type 0 where
   pub items : List Item
-  pub found : Finds old.reader.number (old.reader.waiting ++ bytes) items new.reader.waiting Unfinished
+  pub found : FindsPackets old.reader.number (old.reader.waiting ++ bytes) items new.reader.waiting Unfinished
   pub number : new.reader.number ≡ number_after old.reader.number items
   pub live : new.reader.failed ≡ false
   pub delivered : new.delivered.items ≡ old.delivered.items ++ payloads_of items
 
 -- bytes can't be read: the reader has failed, or it refuses what stands behind some packets
 abbrev pub CannotRead : Receiver → List ℕ → Type 0
-CannotRead old bytes = (old.reader.failed ≡ true) ⊎ ((items : List Item) × (rest : List ℕ) × (fault : Fault) × Finds old.reader.number (old.reader.waiting ++ bytes) items rest (Refused fault))
+CannotRead old bytes = (old.reader.failed ≡ true) ⊎ ((items : List Item) × (rest : List ℕ) × (fault : Fault) × FindsPackets old.reader.number (old.reader.waiting ++ bytes) items rest (Refused fault))
 
 abbrev pub SameReading : Receiver → Receiver → Type 0
 SameReading old new = (new.reader ≡ old.reader) × (new.delivered.items ≡ old.delivered.items)
@@ -38,8 +38,8 @@ TakesBy (Waiting waiting others) piece old new = TakesLine (id_of 0 (waiting ++ 
 TakesBy (Heard text) piece old new = (new.id ≡ Heard text) × ReadsOn old piece new
 TakesBy Failed piece old new = ⊥
 
-abbrev pub Takes : Receiver → List ℕ → Receiver → Type 0
-Takes old piece new = TakesBy old.id piece old new
+abbrev pub TakesPiece : Receiver → List ℕ → Receiver → Type 0
+TakesPiece old piece new = TakesBy old.id piece old new
 
 abbrev pub CannotTakeLine : IdFound → List ℕ → List ℕ → Receiver → Type 0
 CannotTakeLine lines.NotYet waiting piece old = ⊥

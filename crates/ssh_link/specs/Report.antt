@@ -34,18 +34,18 @@ abbrev pub report_line : Side → List ℕ → List ℕ → List ℕ
 report_line side name value = join_with_byte 32 (side_name side ∷ name ∷ value ∷ []) ++ 10 ∷ []
 
 -- one line for each payload
-abbrev pub delivered_printed : Side → List (List ℕ) → List ℕ
-delivered_printed side payloads = flat_map (λ payload. report_line side (codes "delivered") (hex_word payload)) payloads
+abbrev pub delivered_lines : Side → List (List ℕ) → List ℕ
+delivered_lines side payloads = flat_map (λ payload. report_line side (codes "delivered") (hex_word payload)) payloads
 
 -- what one side did
-abbrev pub side_printed : Side → ClearSide → List ℕ
-side_printed side report = report_line side (codes "wire") (hex_word report.wire) ++ report_line side (codes "taken") (decimal report.taken) ++ delivered_printed side report.delivered
+abbrev pub side_lines : Side → ClearSide → List ℕ
+side_lines side report = report_line side (codes "wire") (hex_word report.wire) ++ report_line side (codes "taken") (decimal report.taken) ++ delivered_lines side report.delivered
 
 -- the report of a clear link: the client, then the server
-abbrev pub clear_printed : ClearReport → List ℕ
-clear_printed report = side_printed Client report.client ++ side_printed Server report.server
+abbrev pub clear_report_text : ClearReport → List ℕ
+clear_report_text report = side_lines Client report.client ++ side_lines Server report.server
 
-report-example : clear_printed (record { client = record { wire = 171 ∷ 9 ∷ []; taken = 12; delivered = [] }; server = record { wire = []; taken = 0; delivered = (1 ∷ []) ∷ [] ∷ [] } })
+report-example : clear_report_text (record { client = record { wire = 171 ∷ 9 ∷ []; taken = 12; delivered = [] }; server = record { wire = []; taken = 0; delivered = (1 ∷ []) ∷ [] ∷ [] } })
     ≡ codes "client wire ab09\nclient taken 12\nserver wire -\nserver taken 0\nserver delivered 01\nserver delivered -\n"
 unfolding encode_with digits
 report-example = refl
@@ -112,13 +112,13 @@ script_kind_name script.Malformed = codes "Malformed"
 script_kind_name script.TooLong = codes "TooLong"
 
 -- the line that tells a script's fault
-abbrev pub fault_printed : ScriptFault → List ℕ
-fault_printed fault = codes "script " ++ decimal fault.line ++ codes " " ++ script_kind_name fault.kind ++ codes "\n"
+abbrev pub fault_line : ScriptFault → List ℕ
+fault_line fault = codes "script " ++ decimal fault.line ++ codes " " ++ script_kind_name fault.kind ++ codes "\n"
 
 -- the line that tells a refusal
-abbrev pub refusal_printed : Error → List ℕ
-refusal_printed e = codes "refused " ++ error_text e ++ codes "\n"
+abbrev pub refusal_line : Error → List ℕ
+refusal_line e = codes "refused " ++ error_text e ++ codes "\n"
 
-fault-example : fault_printed (record { line = 1; kind = script.NotBuilt }) ≡ codes "script 1 NotBuilt\n"
+fault-example : fault_line (record { line = 1; kind = script.NotBuilt }) ≡ codes "script 1 NotBuilt\n"
 unfolding digits
 fault-example = refl

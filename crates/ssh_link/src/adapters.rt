@@ -1,8 +1,9 @@
 //! A source over a reader, and a sink over a writer. Nothing is told of their bytes.
 
-ghost use Rattle.std.specs.Prelude.{◌≡◌, ◌≤◌, length, take, None, IfOk, IfSome, OnErr, OnOk};
+ghost use Rattle.std.specs.Prelude.{◌≡◌, ◌≤◌, length, take, None, IfOk, IfSome, OnErr, IfNone, OnOk};
 ghost use Rattle.std.specs.Io.KnownBytes.{ReadConsumes, Appends};
-ghost use Rattle.ssh_wire.specs.Outside.{IsPartOf, counted};
+ghost use Rattle.ssh_wire.specs.Outside.{IsPartOf, next_count};
+ghost use Rattle.ssh_link.specs.Adapters.{GrowsByFront};
 
 use ssh_wire::{Failed, Sink, Source};
 use std::io::{Read, Write};
@@ -16,9 +17,9 @@ pub struct StdSource<R> {
 }
 
 impl<R> Model for StdSource<R> {
-    ghost use Rattle.ssh_link.specs.Stream.{Counted};
+    ghost use Rattle.ssh_link.specs.Adapters.{WithFaults};
 
-    ghost Value = { Counted R };
+    ghost Value = { WithFaults R };
 
     ghost view = { λ s. record { inner = s.reader; faults = s.faults } };
 }
@@ -41,7 +42,7 @@ impl<R: Read> Source for StdSource<R> {
     fn read(&mut self, out: &mut [u8]) -> Result<usize, Failed>
         ensures within { IfOk result (λ n. n ≤ length out.old) }
         ensures bytes { ReadConsumes (R.remaining self.old.inner) (R.remaining self.new.inner) result out.new }
-        ensures fault { OnErr result (self.new.faults ≡ counted self.old.faults) }
+        ensures fault { OnErr result (self.new.faults ≡ next_count self.old.faults) }
         ensures none { OnOk result (self.new.faults ≡ self.old.faults) }
     {
         match self.reader.read(out) {
@@ -62,9 +63,9 @@ pub struct StdSink<W> {
 }
 
 impl<W> Model for StdSink<W> {
-    ghost use Rattle.ssh_link.specs.Stream.{Counted};
+    ghost use Rattle.ssh_link.specs.Adapters.{WithFaults};
 
-    ghost Value = { Counted W };
+    ghost Value = { WithFaults W };
 
     ghost view = { λ s. record { inner = s.writer; faults = s.faults } };
 }
@@ -83,11 +84,13 @@ impl<W: Write> Sink for StdSink<W> {
 
     ghost held = { λ _. None };
 
-    /// Writes once, and flushes. A write of nothing of a piece that isn't empty is a fault too.
+    /// Writes once, and flushes. A write of nothing of a piece that isn't empty is a fault too. On `Failed` a
+    /// front of the piece may have been written.
     fn write(&mut self, bytes: &[u8]) -> Result<usize, Failed>
         ensures part { IfOk result (λ n. IsPartOf (length bytes.now) n) }
         ensures bytes { IfOk result (λ n. Appends (W.contents self.old.inner) (W.contents self.new.inner) (take n bytes.now)) }
-        ensures fault { OnErr result (self.new.faults ≡ counted self.old.faults) }
+        ensures front { OnErr result (GrowsByFront bytes.now (W.contents self.old.inner) (W.contents self.new.inner)) }
+        ensures fault { OnErr result (self.new.faults ≡ next_count self.old.faults) }
         ensures none { OnOk result (self.new.faults ≡ self.old.faults) }
     {
         match write_through(&mut self.writer, bytes) {
@@ -104,6 +107,7 @@ impl<W: Write> Sink for StdSink<W> {
 fn write_through<W: Write>(writer: &mut W, bytes: &[u8]) -> Option<usize>
     ensures part { IfSome result (λ n. IsPartOf (length bytes.now) n) }
     ensures bytes { IfSome result (λ n. Appends (W.contents writer.old) (W.contents writer.new) (take n bytes.now)) }
+    ensures front { IfNone result (GrowsByFront bytes.now (W.contents writer.old) (W.contents writer.new)) }
 {
     let n = writer.write(bytes).ok()?;
     if n == 0 && !bytes.is_empty() {

@@ -4,9 +4,12 @@ ghost use Rattle.std.specs.Prelude.{◌≡◌, [], ◌++◌, IfOk, IfErr};
 ghost use Rattle.ssh_link.specs.Program.{answer_text, answer_status, Shows, ShowsNone};
 ghost use Rattle.ssh_wire.specs.declared.error.Error.TheVariants.{Memory};
 
-use crate::print::{print_clear, push_fault, push_refusal};
+use crate::clear_report::print_clear;
+use crate::command::USAGE;
+use crate::refusal::{push_fault, push_refusal};
 use crate::report::ClearReport;
 use crate::script::ScriptFault;
+use crate::status::{NO_COMMAND, REPORT_WRITTEN, RUN_REFUSED, SCRIPT_FAULTY};
 use ssh_wire::Error;
 use std::alloc::Global;
 
@@ -26,8 +29,8 @@ pub enum Answer {
 /// How a call of the program ended.
 #[derive(Debug, Drop)]
 pub struct MainEnd {
-    /// The exit status: 0 the report is written, 1 the run was refused, 2 the words are no command, 3
-    /// the script is faulty, 4 the source failed, 5 the sink failed, 6 want of memory.
+    /// The exit status, one of `status`: 0 the report is written, 1 the run was refused, 2 the words are no
+    /// command, 3 the script is faulty, 4 the source failed, 5 the sink failed, 6 want of memory.
     pub status: u8,
     /// The report, where the run went to its end.
     pub clear: Option<ClearReport>,
@@ -73,10 +76,10 @@ impl Answer {
         ensures { result ≡ answer_status self.now }
     {
         match self {
-            Answer::Usage => 2,
-            Answer::Faulty(_) => 3,
-            Answer::Refused(_) => 1,
-            Answer::Ran(_) => 0,
+            Answer::Usage => NO_COMMAND,
+            Answer::Faulty(_) => SCRIPT_FAULTY,
+            Answer::Refused(_) => RUN_REFUSED,
+            Answer::Ran(_) => REPORT_WRITTEN,
         }
     }
 
@@ -95,6 +98,3 @@ impl Answer {
         Ok(out)
     }
 }
-
-/// What is written where the words are no command.
-pub const USAGE: &[u8] = b"usage\n";

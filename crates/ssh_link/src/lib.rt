@@ -4,6 +4,7 @@
 mod adapters;
 mod answer;
 mod clear_link;
+mod clear_report;
 mod clear_script;
 mod command;
 mod fields;
@@ -11,22 +12,26 @@ mod lines;
 mod print;
 mod program;
 mod receiver;
+mod refusal;
 mod report;
 mod run;
 mod script;
+mod status;
 mod step;
 mod stream;
-#[cfg(test)]
-mod tests;
 mod words;
 
 pub use crate::adapters::{StdSink, StdSource};
 pub use crate::answer::MainEnd;
+pub use crate::clear_report::print_clear;
 pub use crate::clear_script::parse_clear;
 pub use crate::command::Word;
-pub use crate::print::print_clear;
-pub use crate::program::link_main;
+pub use crate::program::{exit_code, link_main};
 pub use crate::report::{ClearReport, ClearSide};
 pub use crate::run::run_clear;
 pub use crate::script::{ScriptError, ScriptFault, ScriptKind};
+pub use crate::status::{
+    NO_COMMAND, REPORT_WRITTEN, RUN_REFUSED, SCRIPT_FAULTY, SINK_FAILED, SOURCE_FAILED,
+    WANT_OF_MEMORY, exit_statuses,
+};
 pub use crate::step::ClearStep;

@@ -1,33 +1,54 @@
 //! The top call of the program.
 
-ghost use Rattle.std.specs.Prelude.{◌≡◌, ◌≢◌, ◌≤◌, ◌+◌, ◌⊎◌, IfOk, IfErr, OnSome};
-ghost use Rattle.ssh_wire.specs.Outside.{Rose};
+ghost use Rattle.std.specs.Prelude.{◌≡◌, ◌≢◌, ◌≤◌, ◌+◌, ◌⊎◌, ℕ, List, Err, IfOk, IfErr, OnSome};
+ghost use Rattle.std.specs.Process.{exit_status};
+ghost use Rattle.ssh_wire.specs.Outside.{Rose, TakesAtMost, ReachesEnd};
 ghost use Rattle.ssh_wire.specs.declared.ssh_id.SshId.TheVariants.{Standard};
 ghost use Rattle.ssh_link.specs.Parsing.{IsRefusal};
-ghost use Rattle.ssh_link.specs.Program.{IsCommand, AnswersSteps, AnswersScript, AnswersLeft, IsAnswer, Shows, ShowsNone, IsWritten, answer_text, shown_clear, shown_refused};
+ghost use Rattle.ssh_link.specs.Program.{AreWords, IsCommand, AnswersSteps, AnswersScript, AnswersLeft, IsAnswer, Shows, ShowsNone, IsWritten, answer_text, shown_clear, shown_refused};
 ghost use Rattle.ssh_link.specs.Script.{clear_script, longest_script};
-ghost use Rattle.ssh_link.specs.Stream.{TakesAtMost, ReachesEnd};
+ghost use Rattle.ssh_link.specs.Statuses.{no_command, source_failed, sink_failed, want_of_memory};
 ghost use Rattle.ssh_link.specs.declared.answer.Answer.{Answer};
 ghost use Rattle.ssh_link.specs.declared.stream.ReadError.TheVariants.{Failed, Memory};
 
-use crate::answer::{Answer, MainEnd, USAGE};
+use crate::answer::{Answer, MainEnd};
 use crate::clear_script::parse_clear;
-use crate::command::{Word, is_command};
+use crate::command::{USAGE, Word, is_command, words_of};
 use crate::run::run_clear;
 use crate::script::ScriptError;
+use crate::status::{SINK_FAILED, SOURCE_FAILED, WANT_OF_MEMORY};
 use crate::step::ClearStep;
-use crate::stream::{ReadError, read_source, write_text};
-use ssh_wire::{Error, Sink, Source, SshId, Text};
+use crate::stream::{ReadError, read_source};
+use ssh_wire::{Error, Sink, Source, SshId, Text, write_all};
 use std::alloc::{AllocError, Global};
+use std::env::Args;
+use std::io;
+use std::process::ExitCode;
 
-/// The status where the source failed.
-const SOURCE_FAILED: u8 = 4;
-
-/// The status where the sink failed.
-const SINK_FAILED: u8 = 5;
-
-/// The status where memory ran out.
-const WANT_OF_MEMORY: u8 = 6;
+/// Runs the command that the arguments name, the program's own name first, as `link_main`, and gives the exit
+/// status. Arguments of which one isn't UTF-8 name no command. Status 6 where there was no memory for the words.
+pub fn exit_code<S: Source, K: Sink>(
+    alloc: Global,
+    arguments: io::Result<Args<Global>>,
+    source: &mut S,
+    sink: &mut K,
+) -> ExitCode
+    ensures status { exit_status result ≤ want_of_memory }
+    ensures answered { exit_status result ≢ source_failed → exit_status result ≢ want_of_memory
+        → (words : List (List ℕ)) × AreWords arguments words
+        × ((answer : Answer) × IsAnswer words (S.left source.old) answer
+        × IsWritten answer (exit_status result) (K.held sink.old) (K.held sink.new) (K.faults sink.old) (K.faults sink.new)) }
+    ensures source_failed { exit_status result ≡ source_failed → Rose (S.faults source.old) (S.faults source.new) }
+    ensures silent { (exit_status result ≡ source_failed) ⊎ (exit_status result ≡ want_of_memory)
+        → K.held sink.new ≡ K.held sink.old }
+    ensures source_unfailed { exit_status result ≢ source_failed → S.faults source.new ≡ S.faults source.old }
+    ensures sink_unfailed { exit_status result ≢ sink_failed → K.faults sink.new ≡ K.faults sink.old }
+{
+    match words_of(alloc, arguments) {
+        Ok(words) => ExitCode::from(link_main(alloc, words.as_slice(), source, sink).status),
+        Err(_) => ExitCode::from(WANT_OF_MEMORY),
+    }
+}
 
 /// Runs a command: tests the words, reads the script from the source, runs it, and writes what is
 /// answered to the sink. Nothing is written before all of the answer is known.
@@ -37,14 +58,16 @@ pub fn link_main<S: Source, K: Sink>(
     source: &mut S,
     sink: &mut K,
 ) -> MainEnd
-    ensures status { result.status ≤ 6 }
-    ensures answered { result.status ≢ 4 → result.status ≢ 6 → (answer : Answer) × IsAnswer words.now (S.left source.old) answer × Shows answer result × IsWritten answer result.status (K.held sink.old) (K.held sink.new) (K.faults sink.old) (K.faults sink.new) }
+    ensures status { result.status ≤ want_of_memory }
+    ensures answered { result.status ≢ source_failed → result.status ≢ want_of_memory → (answer : Answer) × IsAnswer words.now (S.left source.old) answer × Shows answer result × IsWritten answer result.status (K.held sink.old) (K.held sink.new) (K.faults sink.old) (K.faults sink.new) }
     ensures run_end { OnSome result.clear (ReachesEnd (S.left source.old) (S.left source.new)) }
     ensures refused_end { OnSome result.refused (ReachesEnd (S.left source.old) (S.left source.new)) }
-    ensures source_failed { result.status ≡ 4 → Rose (S.faults source.old) (S.faults source.new) }
-    ensures silent { (result.status ≡ 4) ⊎ (result.status ≡ 6) → ShowsNone result × (K.held sink.new ≡ K.held sink.old) }
-    ensures usage { ¬ (IsCommand words.now) → (result.status ≡ 2) ⊎ (result.status ≡ 5) }
-    ensures read { (result.status ≡ 4) ⊎ (result.status ≡ 6) → IsCommand words.now }
+    ensures source_failed { result.status ≡ source_failed → Rose (S.faults source.old) (S.faults source.new) }
+    ensures silent { (result.status ≡ source_failed) ⊎ (result.status ≡ want_of_memory) → ShowsNone result × (K.held sink.new ≡ K.held sink.old) }
+    ensures usage { ¬ (IsCommand words.now) → (result.status ≡ no_command) ⊎ (result.status ≡ sink_failed) }
+    ensures read { (result.status ≡ source_failed) ⊎ (result.status ≡ want_of_memory) → IsCommand words.now }
+    ensures source_unfailed { result.status ≢ source_failed → S.faults source.new ≡ S.faults source.old }
+    ensures sink_unfailed { result.status ≢ sink_failed → K.faults sink.new ≡ K.faults sink.old }
     ensures unread { ¬ (IsCommand words.now) → S.left source.new ≡ S.left source.old }
     ensures bounded { TakesAtMost (longest_script + 1) (S.left source.old) (S.left source.new) }
 {
@@ -64,6 +87,7 @@ fn clear_answer<S: Source>(alloc: Global, source: &mut S) -> Result<Answer, Read
     ensures run_end { IfOk result (λ answer. OnSome (shown_clear answer) (ReachesEnd (S.left source.old) (S.left source.new))) }
     ensures refused_end { IfOk result (λ answer. OnSome (shown_refused answer) (ReachesEnd (S.left source.old) (S.left source.new))) }
     ensures failed { IfErr result (λ e. e ≡ Failed → Rose (S.faults source.old) (S.faults source.new)) }
+    ensures unfailed { result ≢ Err Failed → S.faults source.new ≡ S.faults source.old }
     ensures bounded { TakesAtMost (longest_script + 1) (S.left source.old) (S.left source.new) }
 {
     let text = read_source(alloc, source)?;
@@ -111,11 +135,12 @@ fn standard_id(alloc: Global, text: &str) -> Result<SshId, AllocError>
 
 /// Writes the answer's text. Where there is no memory for it, nothing is written.
 fn print_answer<K: Sink>(alloc: Global, sink: &mut K, answer: Answer) -> MainEnd
-    ensures status { result.status ≤ 6 }
-    ensures not_four { result.status ≢ 4 }
-    ensures shown { result.status ≢ 6 → Shows answer result }
-    ensures written { result.status ≢ 6 → IsWritten answer result.status (K.held sink.old) (K.held sink.new) (K.faults sink.old) (K.faults sink.new) }
-    ensures silent { result.status ≡ 6 → ShowsNone result × (K.held sink.new ≡ K.held sink.old) }
+    ensures status { result.status ≤ want_of_memory }
+    ensures not_four { result.status ≢ source_failed }
+    ensures shown { result.status ≢ want_of_memory → Shows answer result }
+    ensures written { result.status ≢ want_of_memory → IsWritten answer result.status (K.held sink.old) (K.held sink.new) (K.faults sink.old) (K.faults sink.new) }
+    ensures unfailed { result.status ≢ sink_failed → K.faults sink.new ≡ K.faults sink.old }
+    ensures silent { result.status ≡ want_of_memory → ShowsNone result × (K.held sink.new ≡ K.held sink.old) }
 {
     match answer.text(alloc) {
         Ok(text) => write_answer(sink, answer, text.as_slice()),
@@ -126,12 +151,13 @@ fn print_answer<K: Sink>(alloc: Global, sink: &mut K, answer: Answer) -> MainEnd
 /// Writes the answer's text, which is this one.
 fn write_answer<K: Sink>(sink: &mut K, answer: Answer, text: &[u8]) -> MainEnd
     requires { text.now ≡ answer_text answer }
-    ensures status { result.status ≤ 5 }
-    ensures not_four { result.status ≢ 4 }
+    ensures status { result.status ≤ sink_failed }
+    ensures not_four { result.status ≢ source_failed }
     ensures shown { Shows answer result }
     ensures written { IsWritten answer result.status (K.held sink.old) (K.held sink.new) (K.faults sink.old) (K.faults sink.new) }
+    ensures unfailed { result.status ≢ sink_failed → K.faults sink.new ≡ K.faults sink.old }
 {
-    let status = match write_text(sink, text) {
+    let status = match write_all(sink, text) {
         Ok(()) => answer.status(),
         Err(_) => SINK_FAILED,
     };

@@ -4,7 +4,7 @@ ghost use Rattle.std.specs.Prelude.{◌≡◌, ◌++◌, ◌∷◌, ◌⊎◌, �
 ghost use Rattle.ssh_wire.specs.Reading.{Waiting};
 ghost use Rattle.ssh_wire.specs.declared.error.Error.TheVariants.{Memory};
 ghost use Rattle.ssh_packet.specs.Sealing.{Item};
-ghost use Rattle.ssh_link.specs.Delivering.{DeliversOne, DeliversNone, IsRefused};
+ghost use Rattle.ssh_link.specs.Delivering.{DeliversOne, DeliversNone, RefusesPacket};
 
 use ssh_packet::{OpenKey, PacketReader, clear};
 use ssh_wire::{Error, IdProgress, Payload, ReadSshIdBuffer};
@@ -19,7 +19,7 @@ pub struct Receiver {
 }
 
 impl Receiver {
-    ghost use Rattle.ssh_link.specs.Receiving.{Takes, CannotTake, ReadsOn, CannotRead};
+    ghost use Rattle.ssh_link.specs.Receiving.{TakesPiece, CannotTake, ReadsOn, CannotRead};
 
     /// A side that has read nothing.
     pub fn new(alloc: Global) -> Receiver
@@ -36,7 +36,7 @@ impl Receiver {
 
     /// Takes the next piece of what the peer sent.
     pub fn take(&mut self, alloc: Global, piece: &[u8]) -> Result<(), Error>
-        ensures takes { OnOk result (Takes self.old piece.now self.new) }
+        ensures takes { OnOk result (TakesPiece self.old piece.now self.new) }
         ensures cause { IfErr result (CannotTake self.old piece.now) }
     {
         match self.id.feed(piece, false)? {
@@ -67,7 +67,7 @@ fn read_packet(
         → (item : Item) × DeliversOne reader.old reader.new delivered.old.items delivered.new.items item) }
     ensures none { IfOk result (λ found. found ≡ false
         → DeliversNone reader.old reader.new delivered.old.items delivered.new.items) }
-    ensures cause { IfErr result (λ e. (e ≡ Memory) ⊎ IsRefused reader.old) }
+    ensures cause { IfErr result (λ e. (e ≡ Memory) ⊎ RefusesPacket reader.old) }
 {
     match reader.next(&mut OpenKey::Clear(clear::Key))? {
         Some(incoming) => {

@@ -1,12 +1,11 @@
-//! Reading a script whole and writing a text whole.
+//! Reading a script whole.
 
-ghost use Rattle.std.specs.Prelude.{◌≡◌, ◌∷◌, [], ◌++◌, ◌+◌, ◌<◌, ◌≤◌, ℕ, List, length, vec_len, IfOk, IfErr, OnOk, OnErr};
-ghost use Rattle.ssh_wire.specs.Outside.{Rose, Appends};
+ghost use Rattle.std.specs.Prelude.{◌≡◌, ◌≢◌, ◌++◌, ◌+◌, ◌<◌, ◌≤◌, ℕ, List, length, vec_len, Err, IfOk, IfErr};
+ghost use Rattle.ssh_wire.specs.Outside.{Rose, Appends, TakesFront, TakesAtMost, ReachesEnd, AppendsFront};
 ghost use Rattle.ssh_link.specs.Script.{longest_script};
-ghost use Rattle.ssh_link.specs.Stream.{TakesFront, TakesAtMost, ReachesEnd, AppendsFront};
 ghost use Rattle.ssh_link.specs.declared.stream.ReadError.TheVariants.{Memory, Failed as ReadFailed};
 
-use ssh_wire::{Failed, Sink, Source};
+use ssh_wire::{Failed, Source};
 use std::alloc::{AllocError, Global};
 
 /// The most that is read of a script, in bytes: one more than a script may have.
@@ -52,6 +51,7 @@ pub fn read_source<S: Source>(alloc: Global, source: &mut S) -> Result<Vec<u8>, 
     ensures limit { IfOk result (λ text. vec_len text ≤ longest_script + 1) }
     ensures bounded { TakesAtMost (longest_script + 1) (S.left source.old) (S.left source.new) }
     ensures failed { IfErr result (λ e. e ≡ ReadFailed → Rose (S.faults source.old) (S.faults source.new)) }
+    ensures unfailed { result ≢ Err ReadFailed → S.faults source.new ≡ S.faults source.old }
     ensures count { S.faults source.old ≤ S.faults source.new }
 {
     let mut buffer = zeros(alloc, PIECE)?;
@@ -82,24 +82,10 @@ fn read_piece<S: Source>(
     ensures end { IfOk result (λ n. n ≡ 0 → 0 < length buffer.old → ReachesEnd (S.left source.old) (S.left source.new)) }
     ensures bounded { TakesAtMost (length buffer.old) (S.left source.old) (S.left source.new) }
     ensures failed { IfErr result (λ e. e ≡ ReadFailed → Rose (S.faults source.old) (S.faults source.new)) }
+    ensures unfailed { result ≢ Err ReadFailed → S.faults source.new ≡ S.faults source.old }
     ensures count { S.faults source.old ≤ S.faults source.new }
 {
     let n = source.read(buffer)?;
     text.extend_from_slice(&buffer[..n])?;
     Ok(n)
-}
-
-/// Writes all of the text. After a fault a front of it is written.
-pub fn write_text<K: Sink>(sink: &mut K, text: &[u8]) -> Result<(), Failed>
-    ensures written { OnOk result (Appends text.now (K.held sink.old) (K.held sink.new)) }
-    ensures front { OnErr result (AppendsFront text.now (K.held sink.old) (K.held sink.new)) }
-    ensures failed { OnErr result (Rose (K.faults sink.old) (K.faults sink.new)) }
-    ensures count { K.faults sink.old ≤ K.faults sink.new }
-{
-    let mut rest = text;
-    while !rest.is_empty() {
-        let n = sink.write(rest)?;
-        rest = &rest[n..];
-    }
-    Ok(())
 }

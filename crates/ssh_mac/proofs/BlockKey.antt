@@ -4,7 +4,7 @@ use Rattle.std.proofs.lemmas.List.{take-map}
 use Rattle.ssh_mac.specs.declared.digest.DigestKind.{DigestKind}
 use Rattle.ssh_mac.specs.declared.digest.DigestKind.TheVariants.{Sha1, Sha256, Sha384, Sha512}
 use Rattle.ssh_mac.specs.Digests.{digest_of, block_length}
-use Rattle.ssh_mac.specs.Hmac.{block_key, short_key, combined, hmac}
+use Rattle.ssh_mac.specs.Hmac.{block_key, short_key, bytes_xor, hmac}
 use Rattle.ssh_mac.specs.Zeros.{zeros}
 use Rattle.ssh_mac.proofs.Filling.{zeros-dropped}
 use Rattle.std.proofs.lemmas.List.{take-replicate, append-nil, get_or_default}
@@ -59,21 +59,21 @@ other_key kind key front short same =
     rw e (front_filled 128 (block_length kind) key front same short b.1)
 
 -- one more byte combined
-pub combined_more : (byte : ℕ) (xs ys : List ℕ) (i : ℕ) → i < length xs → i < length ys → ys ≡ combined byte (take i xs) ++ drop i xs →
-    set ys i (bit_xor (get_or ys i 0) byte) ≡ combined byte (take (i + 1) xs) ++ drop (i + 1) xs
-unfolding combined
+pub combined_more : (byte : ℕ) (xs ys : List ℕ) (i : ℕ) → i < length xs → i < length ys → ys ≡ bytes_xor byte (take i xs) ++ drop i xs →
+    set ys i (bit_xor (get_or ys i 0) byte) ≡ bytes_xor byte (take (i + 1) xs) ++ drop (i + 1) xs
+unfolding bytes_xor
 combined_more byte xs ys i lt within so_far =
     map_over_more (λ b. bit_xor b byte) xs ys i (get_or ys i 0) lt so_far (get_or_default ys i 0 (get_or ys i 0) within)
 
 -- a front of combined bytes
-pub combined-taken : (byte n : ℕ) (bytes : List ℕ) → take n (combined byte bytes) ≡ combined byte (take n bytes)
-unfolding combined
+pub combined-taken : (byte n : ℕ) (bytes : List ℕ) → take n (bytes_xor byte bytes) ≡ bytes_xor byte (take n bytes)
+unfolding bytes_xor
 combined-taken byte n bytes = take-map (λ b. bit_xor b byte) n bytes
 
 -- the two digests are HMAC
 pub two_digests : (kind : DigestKind) (key block inner_block outer_block front rest inner bytes result : List ℕ) (n : ℕ) →
     take (block_length kind) block ≡ block_key kind key → n ≡ block_length kind →
-    inner_block ≡ combined 0x36 block → outer_block ≡ combined 0x5c block →
+    inner_block ≡ bytes_xor 0x36 block → outer_block ≡ bytes_xor 0x5c block →
     inner ≡ digest_of kind ((take n inner_block ++ front) ++ rest) → bytes ≡ inner →
     result ≡ digest_of kind ((take n outer_block ++ bytes) ++ []) →
     result ≡ hmac kind key (front ++ rest)

@@ -13,10 +13,10 @@ unfoldable pub block_key : DigestKind → List ℕ → List ℕ
 block_key kind key = short_key kind key ++ zeros (block_length kind - length (short_key kind key))
 
 -- each byte combined with the same byte by exclusive or
-unfoldable pub combined : ℕ → List ℕ → List ℕ
-combined byte bytes = map (λ b. bit_xor b byte) bytes
+unfoldable pub bytes_xor : ℕ → List ℕ → List ℕ
+bytes_xor byte bytes = map (λ b. bit_xor b byte) bytes
 
 -- H(K xor opad, H(K xor ipad, text)), with ipad 0x36 and opad 0x5c
 unfoldable pub hmac : DigestKind → List ℕ → List ℕ → List ℕ
 hmac kind key text =
-    digest_of kind (combined 0x5c (block_key kind key) ++ digest_of kind (combined 0x36 (block_key kind key) ++ text))
+    digest_of kind (bytes_xor 0x5c (block_key kind key) ++ digest_of kind (bytes_xor 0x36 (block_key kind key) ++ text))

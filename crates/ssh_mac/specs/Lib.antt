@@ -5,4 +5,4 @@ pub mod Hmac
 pub mod Tags
 pub mod Keys
 pub mod Names
-pub mod TagLaws
+pub mod Laws

@@ -7,24 +7,24 @@ use Rattle.ssh_mac.specs.declared.mac.Name.{Name}
 use Rattle.ssh_mac.specs.declared.mac.Name.TheVariants.{NoMac, HmacSha1, HmacSha256, HmacSha512, HmacSha1Etm, HmacSha256Etm, HmacSha512Etm}
 
 -- the text of a name
-abbrev pub text_of : Name → List ℕ
-text_of NoMac = codes "none"
-text_of HmacSha1 = codes "hmac-sha1"
-text_of HmacSha256 = codes "hmac-sha2-256"
-text_of HmacSha512 = codes "hmac-sha2-512"
-text_of HmacSha1Etm = codes "hmac-sha1-etm@openssh.com"
-text_of HmacSha256Etm = codes "hmac-sha2-256-etm@openssh.com"
-text_of HmacSha512Etm = codes "hmac-sha2-512-etm@openssh.com"
+abbrev pub mac_name : Name → List ℕ
+mac_name NoMac = codes "none"
+mac_name HmacSha1 = codes "hmac-sha1"
+mac_name HmacSha256 = codes "hmac-sha2-256"
+mac_name HmacSha512 = codes "hmac-sha2-512"
+mac_name HmacSha1Etm = codes "hmac-sha1-etm@openssh.com"
+mac_name HmacSha256Etm = codes "hmac-sha2-256-etm@openssh.com"
+mac_name HmacSha512Etm = codes "hmac-sha2-512-etm@openssh.com"
 
 -- the length of its key in bytes, and of its tag
-abbrev pub key_length : Name → ℕ
-key_length NoMac = 0
-key_length HmacSha1 = 20
-key_length HmacSha256 = 32
-key_length HmacSha512 = 64
-key_length HmacSha1Etm = 20
-key_length HmacSha256Etm = 32
-key_length HmacSha512Etm = 64
+abbrev pub mac_key_length : Name → ℕ
+mac_key_length NoMac = 0
+mac_key_length HmacSha1 = 20
+mac_key_length HmacSha256 = 32
+mac_key_length HmacSha512 = 64
+mac_key_length HmacSha1Etm = 20
+mac_key_length HmacSha256Etm = 32
+mac_key_length HmacSha512Etm = 64
 
 -- the MAC of a name under a key
 abbrev pub mac_named : Name → List ℕ → MacOf

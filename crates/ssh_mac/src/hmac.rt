@@ -2,7 +2,7 @@
 
 ghost use Rattle.std.specs.Prelude.{◌≡◌, ◌++◌, ◌≤◌, length, take};
 ghost use Rattle.ssh_mac.specs.Digests.{block_length, digest_of};
-ghost use Rattle.ssh_mac.specs.Hmac.{hmac, block_key, combined};
+ghost use Rattle.ssh_mac.specs.Hmac.{hmac, block_key, bytes_xor};
 
 use crate::digest::{DigestKind, Hasher};
 use crate::hash_value::HashValue;
@@ -56,7 +56,7 @@ fn block_of(kind: DigestKind, key: &[u8]) -> [u8; LONGEST_BLOCK]
 
 // Combines each byte with the same byte by exclusive or.
 fn combine(block: &mut [u8], byte: u8)
-    ensures { block.new ≡ combined byte block.old }
+    ensures { block.new ≡ bytes_xor byte block.old }
 {
     for b in block.iter_mut() {
         *b ^= byte;

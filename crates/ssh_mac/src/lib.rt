@@ -6,8 +6,12 @@ mod digest;
 mod hash_value;
 mod hmac;
 mod keys;
+mod laws;
 pub mod mac;
 
 pub use crate::digest::{DigestKind, Hasher};
 pub use crate::hash_value::HashValue;
 pub use crate::hmac::hmac_of;
+pub use crate::laws::{
+    digests_have_length, own_tag_taken, tags_are_short, tags_have_length, taken_is_tag,
+};

@@ -6,8 +6,9 @@ use Rattle.std.proofs.Math.ListN.{drop_of_length-le}
 use Rattle.std.proofs.Math.Seq.{take-append-add, take-append_seam, drop-append_seam}
 use Rattle.rand_core.specs.Stream.{Stream}
 use Rattle.ssh_wire.specs.Forms.{u32be}
-use Rattle.ssh_aes.proofs.Running.{IsBytes-drop}
-use Rattle.ssh_packet.specs.Sealing.{Sealing, IsBytes, framed, framing, item_of, padding_length}
+use Rattle.ssh_aes.proofs.Lemmas.{AreBytes-drop}
+use Rattle.ssh_wire.specs.Forms.{AreBytes}
+use Rattle.ssh_packet.specs.Sealing.{Sealing, framed_text, item_padded_by, item_of, padding_length}
 use borrow.Rule.Slice.PartMut.{put_mid}
 
 -- what was written from a place to the end
@@ -24,11 +25,11 @@ front_kept head rest n five h =
 head_is : (l : List ℕ) (n padding : ℕ) → l ≡ u32be n → slice_index l 0 ∷ slice_index l 1 ∷ slice_index l 2 ∷ slice_index l 3 ∷ padding ∷ [] ≡ u32be n ++ padding ∷ []
 head_is l n padding e = ap (λ x. slice_index x 0 ∷ slice_index x 1 ∷ slice_index x 2 ∷ slice_index x 3 ∷ padding ∷ []) e
 
-framed_by : (payload pad : List ℕ) (n padding : ℕ) → n ≡ 1 + length payload + length pad → padding ≡ length pad → (u32be n ++ padding ∷ []) ++ (payload ++ pad) ≡ framed (record { payload = payload; padding = pad })
-unfolding framed
+framed_by : (payload pad : List ℕ) (n padding : ℕ) → n ≡ 1 + length payload + length pad → padding ≡ length pad → (u32be n ++ padding ∷ []) ++ (payload ++ pad) ≡ framed_text (record { payload = payload; padding = pad })
+unfolding framed_text
 framed_by payload pad n padding e f = ap (λ m. u32be m ++ padding ∷ (payload ++ pad)) e ∙ ap (λ m. u32be (1 + length payload + length pad) ++ m ∷ (payload ++ pad)) f
 
-pub framed_made : (text copied pad l : List ℕ) (padding : ℕ) → 5 + padding ≤ length text → length pad ≡ padding → l ≡ u32be (length text - 4) → copied ≡ slice_index l 0 ∷ slice_index l 1 ∷ slice_index l 2 ∷ slice_index l 3 ∷ padding ∷ [] → put_mid (length text - padding) (length (copied ++ drop 5 text) - (length text - padding)) (copied ++ drop 5 text) pad ≡ framed (record { payload = take (length text - 5 - padding) (drop 5 text); padding = pad })
+pub framed_made : (text copied pad l : List ℕ) (padding : ℕ) → 5 + padding ≤ length text → length pad ≡ padding → l ≡ u32be (length text - 4) → copied ≡ slice_index l 0 ∷ slice_index l 1 ∷ slice_index l 2 ∷ slice_index l 3 ∷ padding ∷ [] → put_mid (length text - padding) (length (copied ++ drop 5 text) - (length text - padding)) (copied ++ drop 5 text) pad ≡ framed_text (record { payload = take (length text - 5 - padding) (drop 5 text); padding = pad })
 framed_made text copied pad l padding room size shown made =
     let head : copied ≡ u32be (length text - 4) ++ padding ∷ [] = made ∙ head_is l (length text - 4) padding shown in
     let five : length copied ≡ 5 = ap length made in
@@ -81,16 +82,16 @@ packet_behind old now items packet zeros start size there whole room long =
 
 -- the item that was made is that of the payload
 pub item_behind : (sealing : Sealing) (old now zeros part : List ℕ) (start padding tag : ℕ) (stream : Stream) → now ≡ old ++ zeros → length zeros ≡ padding + tag → start + 5 ≤ length old → part ≡ drop (start + 5) old → padding ≡ padding_length sealing (length part)
-    → framing sealing padding (take (length (take (length now - start) (drop start now)) - 5 - padding - tag) (drop 5 (take (length now - start) (drop start now)))) stream ≡ item_of sealing (drop (start + 5) old) stream
+    → item_padded_by sealing padding (take (length (take (length now - start) (drop start now)) - 5 - padding - tag) (drop 5 (take (length now - start) (drop start now)))) stream ≡ item_of sealing (drop (start + 5) old) stream
 item_behind sealing old now zeros part start padding tag stream there size room same padded =
-    ap (λ p. framing sealing padding p stream) (payload_behind old now zeros start padding tag there size room)
-    ∙ ap (λ n. framing sealing n (drop (start + 5) old) stream) (padded ∙ ap (λ p. padding_length sealing (length p)) same)
+    ap (λ p. item_padded_by sealing padding p stream) (payload_behind old now zeros start padding tag there size room)
+    ∙ ap (λ n. item_padded_by sealing n (drop (start + 5) old) stream) (padded ∙ ap (λ p. padding_length sealing (length p)) same)
 
 pub part_behind : (old now : List ℕ) (n : ℕ) → now ≡ old → take (length now - n) (drop n now) ≡ drop n old
 part_behind old now n same = take_rest now n ∙ ap (drop n) same
 
 -- what was written to the end is bytes where all is
-pub bytes_behind : (a : ℕ) (xs ys : List ℕ) → IsBytes (put_mid a (length xs - a) xs ys) → IsBytes ys
+pub bytes_behind : (a : ℕ) (xs ys : List ℕ) → AreBytes (put_mid a (length xs - a) xs ys) → AreBytes ys
 bytes_behind a xs ys h =
-    let joined : IsBytes (take a xs ++ ys) = subst IsBytes (put_behind a (length xs - a) xs ys (omega arith)) h in
-    subst IsBytes (drop-append_seam (take a xs) ys) (IsBytes-drop (length (take a xs)) (take a xs ++ ys) joined)
+    let joined : AreBytes (take a xs ++ ys) = subst AreBytes (put_behind a (length xs - a) xs ys (omega arith)) h in
+    subst AreBytes (drop-append_seam (take a xs) ys) (AreBytes-drop (length (take a xs)) (take a xs ++ ys) joined)

@@ -1,14 +1,14 @@
 -- The part of a reader's buffer that is lent, as part of what waited, and what a refusal leaves.
-use Rattle.std.proofs.Common.{◌≡◌, refl, subst, true, false, ℕ, ◌+◌, ◌-◌, ◌≤◌, List, length, take, drop, sym, ◌∙◌, ap, arith, length-drop}
+use Rattle.std.proofs.Common.{◌≡◌, inl, inr, refl, subst, true, false, ℕ, ◌+◌, ◌-◌, ◌≤◌, List, ◌++◌, length, take, drop, sym, ◌∙◌, ap, arith, length-append, length-drop}
 use Rattle.std.proofs.lemmas.Grind.{common_steps}
 use Rattle.std.proofs.lemmas.List.{drop-drop}
 use Rattle.ssh_packet.specs.Errors.{open_error}
-use Rattle.ssh_packet.specs.Finding.{RefusesBy, IsBadLength, OpensPart}
-use Rattle.ssh_packet.specs.Front.{Fault, PacketSize, PacketAuth, DecryptionError, IndexOutOfBounds, Whole, Refused, front_of, key_behind, RunsOn}
-use Rattle.ssh_packet.specs.Lending.{Refuses, IsOver, EndsAt}
-use Rattle.ssh_packet.specs.Reading.{Reader}
+use Rattle.ssh_packet.specs.Finding.{RefusesBy, LeavesFront, OpensPart}
+use Rattle.ssh_packet.specs.Front.{Fault, PacketSize, PacketAuth, DecryptionError, IndexOutOfBounds, Whole, Refused, front_of, is_bad_length, key_behind}
+use Rattle.ssh_packet.specs.Reading.{Reader, RefusesNext, IsOver, EndsAt}
 use Rattle.ssh_packet.specs.Sealing.{Sealing}
 use Rattle.ssh_packet.specs.declared.error.OpenError.{OpenError}
+use Rattle.ssh_packet.specs.declared.error.OpenError.TheVariants as errors
 use Rattle.ssh_packet.specs.declared.front.Part.{Part}
 
 pub part_is : (now items : List ℕ) (start payload : ℕ) → now ≡ items → take (start + 5 + payload - (start + 5)) (drop (start + 5) now) ≡ take payload (drop 5 (drop start items))
@@ -24,6 +24,10 @@ length_part items start payload h =
 
 -- ---- what is left
 
+-- the bytes of a packet are those before the rest
+pub spent_is : (start end : ℕ) (there rest packet : List ℕ) → there ≡ packet ++ rest → length there ≡ end + length rest → start + end ≡ start + length packet
+spent_is start end there rest packet e h = omega (arith, h, ap length e, length-append packet rest)
+
 rest_is : (start end : ℕ) (there now : List ℕ) → drop end (drop start now) ≡ drop end (drop start there) → drop end (drop start there) ≡ drop (start + end) now
 rest_is start end there now h = sym h ∙ drop-drop end start now
 
@@ -35,22 +39,31 @@ moved_is key key' start end there now rest h = h ∙ ap (key_behind key (drop st
 
 -- ---- a refusal
 
-refused_by : (old : Reader) (key : Sealing) (fault : Fault) → old.failed ≡ false → front_of key old.number old.waiting ≡ Refused fault → Refuses old key (open_error fault)
+refused_by : (old : Reader) (key : Sealing) (fault : Fault) → old.failed ≡ false → front_of key old.number old.waiting ≡ Refused fault → RefusesNext old key (open_error fault)
 refused_by old key (PacketSize n) live e = (live, e)
 refused_by old key PacketAuth live e = (live, e)
 refused_by old key DecryptionError live e = (live, e)
 refused_by old key IndexOutOfBounds live e = (live, e)
 
-ended_by : (old new : Reader) (key key' : Sealing) (fault : Fault) → IsOver old new → RunsOn key old.waiting key' → (IsBadLength key (open_error fault) → (new ≡ record old { failed = true }) × (key' ≡ key)) → EndsAt old key key' (open_error fault) new
-ended_by old new key key' (PacketSize n) over runs bad = (over, runs, λ h. bad (n, refl, h))
-ended_by old new key key' PacketAuth over runs bad = (over, runs)
-ended_by old new key key' DecryptionError over runs bad = (over, runs)
-ended_by old new key key' IndexOutOfBounds over runs bad = (over, runs)
+both_ways : (key : Sealing) (n m : ℕ) → errors.PacketSize n ≡ errors.PacketSize m → is_bad_length key m ≡ true → is_bad_length key n ≡ false → ⊥
+both_ways key n m e bad good =
+    let same : m ≡ n = cc in
+    let h : true ≡ false = sym bad ∙ (ap (is_bad_length key) same ∙ good) in cc
+
+ended_by : (old new : Reader) (key key' : Sealing) (fault : Fault) → IsOver old new → (new.waiting ≡ old.waiting → new ≡ record old { failed = true }) → LeavesFront key old.waiting new.waiting (open_error fault) key' → EndsAt old key key' (open_error fault) new
+ended_by old new key key' (PacketSize n) over same (inl (bad, waiting, kept)) = (over, λ h. (same waiting, kept), λ good. absurd (both_ways key n bad.0 bad.1 bad.2 good))
+ended_by old new key key' (PacketSize n) over same (inr (good, left)) = (over, λ bad. absurd (let h : true ≡ false = sym bad ∙ good n refl in cc), λ h. left)
+ended_by old new key key' PacketAuth over same (inl (bad, waiting, kept)) = absurd (let h : errors.PacketAuth ≡ errors.PacketSize bad.0 = bad.1 in cc)
+ended_by old new key key' PacketAuth over same (inr (good, left)) = (over, left)
+ended_by old new key key' DecryptionError over same (inl (bad, waiting, kept)) = absurd (let h : errors.DecryptionError ≡ errors.PacketSize bad.0 = bad.1 in cc)
+ended_by old new key key' DecryptionError over same (inr (good, left)) = (over, left)
+ended_by old new key key' IndexOutOfBounds over same (inl (bad, waiting, kept)) = absurd (let h : errors.IndexOutOfBounds ≡ errors.PacketSize bad.0 = bad.1 in cc)
+ended_by old new key key' IndexOutOfBounds over same (inr (good, left)) = (over, left)
 
 -- what is refused at the front is the end of the reader
-pub ends_at : (old new : Reader) (key key' : Sealing) (error : OpenError) → old.failed ≡ false → RefusesBy (front_of key old.number old.waiting) error → IsOver old new → RunsOn key old.waiting key' → (IsBadLength key error → (new ≡ record old { failed = true }) × (key' ≡ key)) → Refuses old key error × EndsAt old key key' error new
-ends_at old new key key' error live refused over runs bad =
+pub ends_at : (old new : Reader) (key key' : Sealing) (error : OpenError) → old.failed ≡ false → RefusesBy (front_of key old.number old.waiting) error → IsOver old new → (new.waiting ≡ old.waiting → new ≡ record old { failed = true }) → LeavesFront key old.waiting new.waiting error key' → RefusesNext old key error × EndsAt old key key' error new
+ends_at old new key key' error live refused over kept left =
     let same = refused.1 in (
-      subst (Refuses old key) (sym same) (refused_by old key refused.0 live refused.2),
-      subst (λ e. EndsAt old key key' e new) (sym same) (ended_by old new key key' refused.0 over runs (λ h. bad (subst (IsBadLength key) (sym same) h))),
+      subst (RefusesNext old key) (sym same) (refused_by old key refused.0 live refused.2),
+      subst (λ e. EndsAt old key key' e new) (sym same) (ended_by old new key key' refused.0 over kept (subst (λ e. LeavesFront key old.waiting new.waiting e key') same left)),
     )

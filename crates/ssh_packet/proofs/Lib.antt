@@ -1,7 +1,7 @@
 pub mod Finding
-pub mod Flushed
 pub mod Framing
 pub mod Fronts
+pub mod Lemmas
 pub mod Lent
 pub mod Padding
 pub mod Shapes

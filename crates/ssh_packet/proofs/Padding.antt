@@ -1,9 +1,10 @@
 -- Padding is 4 to 19 bytes, and fills up to whole units.
-use Rattle.std.proofs.Common.{◌≡◌, ℕ, ◌+◌, ◌-◌, ◌%◌, ◌<◌, ◌≤◌, Bool, true, false, nat_lt, if◌then◌else◌, refl, arith}
+use Rattle.std.proofs.Common.{◌≡◌, ℕ, List, length, ◌+◌, ◌-◌, ◌%◌, ◌<◌, ◌≤◌, Bool, true, false, nat_lt, if◌then◌else◌, refl, sym, ◌∙◌, ap, arith}
 use Rattle.std.proofs.lemmas.Bool.Decides.{nat_tests}
+use Rattle.rand_core.specs.Stream.{Stream}
 use Rattle.ssh_mac.specs.Tags.{is_encrypt_then_mac}
-use Rattle.ssh_packet.specs.Laws.{filled, unit_of, IsPadding}
-use Rattle.ssh_packet.specs.Sealing.{Sealing, Clear, Block, Gcm, at_least_four, block_padding, padding_length}
+use Rattle.ssh_packet.specs.Laws.{filled_length, unit_of, IsPadding}
+use Rattle.ssh_packet.specs.Sealing.{Sealing, Clear, Block, Gcm, IsPadded, at_least_four, block_padding, padding_drawn, item_of, padding_length}
 
 -- what is added is a whole unit or nothing
 by_16 : (m : ℕ) → IsPadding (at_least_four 16 (16 - m % 16)) (m + at_least_four 16 (16 - m % 16)) 16
@@ -22,7 +23,18 @@ by_block : (etm : Bool) (n : ℕ) → IsPadding (block_padding etm n) (if etm th
 by_block true n = by_16 (1 + n)
 by_block false n = by_16 (5 + n)
 
-pub padded : (sealing : Sealing) (n : ℕ) → IsPadding (padding_length sealing n) (filled sealing n (padding_length sealing n)) (unit_of sealing)
+pub padded : (sealing : Sealing) (n : ℕ) → IsPadding (padding_length sealing n) (filled_length sealing n (padding_length sealing n)) (unit_of sealing)
 padded Clear n = by_8 (5 + n)
 padded (Block running mac) n = by_block (is_encrypt_then_mac mac) n
 padded (Gcm key nonce) n = by_16 (1 + n)
+
+padded_by : (sealing : Sealing) (payload : List ℕ) (stream : Stream) → length (item_of sealing payload stream).padding ≡ padding_length sealing (length payload) → IsPadded sealing (item_of sealing payload stream)
+padded_by Clear payload stream h = refl
+padded_by (Block running mac) payload stream h = h
+padded_by (Gcm key nonce) payload stream h = h
+
+-- what is drawn for a payload pads it, where it has the length that was asked for
+pub padded_so : (sealing : Sealing) (payload part : List ℕ) (padding : ℕ) (stream : Stream) → part ≡ payload → padding ≡ padding_length sealing (length part) → length (padding_drawn sealing padding stream).0 ≡ padding → IsPadded sealing (item_of sealing payload stream)
+padded_so sealing payload part padding stream same asked size =
+    let all : padding ≡ padding_length sealing (length payload) = asked ∙ ap (λ p. padding_length sealing (length p)) same in
+    padded_by sealing payload stream (ap (λ n. length (padding_drawn sealing n stream).0) (sym all) ∙ (size ∙ all))

@@ -22,14 +22,14 @@ PlacesAgree (Some k) (Some p) None = Unit {0}
 PlacesAgree (Some k) (Some p) (Some q) = SamePlace k p q
 
 -- how many ends of epochs are still looked behind
-abbrev pub used : Bool → ℕ → Option ℕ
-used false k = Some k
-used true zero = None
-used true (suc k) = Some k
+abbrev pub ends_left : Bool → ℕ → Option ℕ
+ends_left false k = Some k
+ends_left true zero = None
+ends_left true (suc k) = Some k
 
 -- the first packets are the same, through k + 1 ends of epochs
 abbrev pub SameFor : Option ℕ → List Item → List Item → Type 0
 SameFor None a b = Unit {0}
 SameFor (Some k) [] b = Unit {0}
 SameFor (Some k) (i ∷ a) [] = ⊥
-SameFor (Some k) (i ∷ a) (j ∷ b) = (i ≡ j) × SameFor (used (is_newkeys i) k) a b
+SameFor (Some k) (i ∷ a) (j ∷ b) = (i ≡ j) × SameFor (ends_left (is_newkeys i) k) a b

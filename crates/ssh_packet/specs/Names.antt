@@ -11,17 +11,17 @@ use Rattle.ssh_packet.specs.declared.compression.Name as compression
 use Rattle.ssh_packet.specs.declared.compression.Name.TheVariants as compressions
 
 -- the text of a name
-abbrev pub text_of : Name → List ℕ
-text_of Clear = codes "clear"
-text_of NoCipher = codes "none"
-text_of Aes128Ctr = codes "aes128-ctr"
-text_of Aes192Ctr = codes "aes192-ctr"
-text_of Aes256Ctr = codes "aes256-ctr"
-text_of Aes128Gcm = codes "aes128-gcm@openssh.com"
-text_of Aes256Gcm = codes "aes256-gcm@openssh.com"
-text_of Aes128Cbc = codes "aes128-cbc"
-text_of Aes192Cbc = codes "aes192-cbc"
-text_of Aes256Cbc = codes "aes256-cbc"
+abbrev pub cipher_name : Name → List ℕ
+cipher_name Clear = codes "clear"
+cipher_name NoCipher = codes "none"
+cipher_name Aes128Ctr = codes "aes128-ctr"
+cipher_name Aes192Ctr = codes "aes192-ctr"
+cipher_name Aes256Ctr = codes "aes256-ctr"
+cipher_name Aes128Gcm = codes "aes128-gcm@openssh.com"
+cipher_name Aes256Gcm = codes "aes256-gcm@openssh.com"
+cipher_name Aes128Cbc = codes "aes128-cbc"
+cipher_name Aes192Cbc = codes "aes192-cbc"
+cipher_name Aes256Cbc = codes "aes256-cbc"
 
 -- whether its packets need a MAC beside it
 abbrev pub wants_mac : Name → Bool
@@ -37,17 +37,17 @@ wants_mac Aes192Cbc = true
 wants_mac Aes256Cbc = true
 
 -- the length of its key in bytes
-abbrev pub key_length : Name → ℕ
-key_length Clear = 0
-key_length NoCipher = 0
-key_length Aes128Ctr = 16
-key_length Aes192Ctr = 24
-key_length Aes256Ctr = 32
-key_length Aes128Gcm = 16
-key_length Aes256Gcm = 32
-key_length Aes128Cbc = 16
-key_length Aes192Cbc = 24
-key_length Aes256Cbc = 32
+abbrev pub cipher_key_length : Name → ℕ
+cipher_key_length Clear = 0
+cipher_key_length NoCipher = 0
+cipher_key_length Aes128Ctr = 16
+cipher_key_length Aes192Ctr = 24
+cipher_key_length Aes256Ctr = 32
+cipher_key_length Aes128Gcm = 16
+cipher_key_length Aes256Gcm = 32
+cipher_key_length Aes128Cbc = 16
+cipher_key_length Aes192Cbc = 24
+cipher_key_length Aes256Cbc = 32
 
 -- the length of its first counter block, chaining block or nonce in bytes
 abbrev pub nonce_length : Name → ℕ
@@ -75,5 +75,5 @@ sealing_named Aes128Cbc key nonce mac = Block (Cbc key nonce) mac
 sealing_named Aes192Cbc key nonce mac = Block (Cbc key nonce) mac
 sealing_named Aes256Cbc key nonce mac = Block (Cbc key nonce) mac
 
-abbrev pub compression_text : compression.Name → List ℕ
-compression_text compressions.None = codes "none"
+abbrev pub compression_name : compression.Name → List ℕ
+compression_name compressions.None = codes "none"

@@ -1,14 +1,14 @@
 -- The packets of one direction, over whole bytes: in one epoch, and over the epochs that exchanges end
 -- (RFC 4253 section 7.3).
 use Rattle.std.specs.Prelude.{◌≡◌, ℕ, ◌==◌, Bool, true, false, if◌then◌else◌, List, [], ◌∷◌, ◌++◌, Option, Some, None, slice_index}
-use Rattle.ssh_packet.specs.Sealing.{Item, Sealing, Clear, sealed, moved_on, next_number, IsAdmissible}
+use Rattle.ssh_packet.specs.Sealing.{Item, Sealing, Clear, sealed_packet, moved_on, next_number, IsAdmissible}
 
 -- ---- one epoch
 
 -- the bytes of these packets, one after the other
 abbrev pub packets : Sealing → ℕ → List Item → List ℕ
 packets sealing number [] = []
-packets sealing number (item ∷ items) = sealed sealing number item ++ packets (moved_on sealing item) (next_number number) items
+packets sealing number (item ∷ items) = sealed_packet sealing number item ++ packets (moved_on sealing item) (next_number number) items
 
 -- the number of the packet that comes behind packets
 abbrev pub number_after : ℕ → List Item → ℕ
@@ -44,24 +44,24 @@ kept_number true n = 0
 kept_number false n = n
 
 -- what an epoch's end leads to: nothing, where no exchange is there for it
-abbrev pub opened : List Opening → ℕ → Option Place
-opened [] n = None
-opened (o ∷ openings) n = Some (record { sealing = o.sealing; number = kept_number o.strict n; openings = openings })
+abbrev pub next_place : List Opening → ℕ → Option Place
+next_place [] n = None
+next_place (o ∷ openings) n = Some (record { sealing = o.sealing; number = kept_number o.strict n; openings = openings })
 
 -- where a direction stands behind a packet: only the type of the message matters beside what it is sealed under
 abbrev pub place_after : Place → Item → Option Place
 place_after at i =
-    if is_newkeys i then opened at.openings (next_number at.number)
+    if is_newkeys i then next_place at.openings (next_number at.number)
     else Some (record { sealing = moved_on at.sealing i; number = next_number at.number; openings = at.openings })
 
-abbrev pub bytes_at : Place → Item → List ℕ
-bytes_at at i = sealed at.sealing at.number i
+abbrev pub packet_at : Place → Item → List ℕ
+packet_at at i = sealed_packet at.sealing at.number i
 
 -- The bytes are these packets, from this place on, and then the rest.
 abbrev pub Reads : Option Place → List Item → List ℕ → List ℕ → Type 0
 Reads at [] bytes rest = bytes ≡ rest
 Reads None (i ∷ items) bytes rest = ⊥
-Reads (Some at) (i ∷ items) bytes rest = (more : List ℕ) × IsAdmissible at.sealing i × (bytes ≡ bytes_at at i ++ more) × Reads (place_after at i) items more rest
+Reads (Some at) (i ∷ items) bytes rest = (more : List ℕ) × IsAdmissible at.sealing i × (bytes ≡ packet_at at i ++ more) × Reads (place_after at i) items more rest
 
 -- the place behind packets
 abbrev pub place_behind : Option Place → List Item → Option Place
@@ -72,7 +72,7 @@ place_behind (Some at) (i ∷ items) = place_behind (place_after at i) items
 -- no further packet stands whole at the front
 abbrev pub IsEnd : Option Place → List ℕ → Type 0
 IsEnd None rest = Unit {0}
-IsEnd (Some at) rest = (i : Item) (more : List ℕ) → IsAdmissible at.sealing i → rest ≡ bytes_at at i ++ more → ⊥
+IsEnd (Some at) rest = (i : Item) (more : List ℕ) → IsAdmissible at.sealing i → rest ≡ packet_at at i ++ more → ⊥
 
 -- the packets read from the front of the bytes, all that are whole
 pub record Entries (openings : List Opening) (bytes : List ℕ) (items : List Item) (rest : List ℕ) : Type 0 where
@@ -84,24 +84,28 @@ pub record Entries (openings : List Opening) (bytes : List ℕ) (items : List It
 -- The same where a packet of type 21 doesn't always end an epoch: `ends_by` says of a packet, after those before it,
 -- whether it does.
 abbrev pub place_by : Bool → Place → Item → Option Place
-place_by true at i = opened at.openings (next_number at.number)
+place_by true at i = next_place at.openings (next_number at.number)
 place_by false at i = Some (record { sealing = moved_on at.sealing i; number = next_number at.number; openings = at.openings })
 
 abbrev pub ReadsBy : (List Item → Item → Bool) → List Item → Option Place → List Item → List ℕ → List ℕ → Type 0
 ReadsBy ends_by before at [] bytes rest = bytes ≡ rest
 ReadsBy ends_by before None (i ∷ items) bytes rest = ⊥
-ReadsBy ends_by before (Some at) (i ∷ items) bytes rest = (more : List ℕ) × IsAdmissible at.sealing i × (bytes ≡ bytes_at at i ++ more) × ReadsBy ends_by (before ++ i ∷ []) (place_by (ends_by before i) at i) items more rest
+ReadsBy ends_by before (Some at) (i ∷ items) bytes rest = (more : List ℕ) × IsAdmissible at.sealing i × (bytes ≡ packet_at at i ++ more) × ReadsBy ends_by (before ++ i ∷ []) (place_by (ends_by before i) at i) items more rest
 
-abbrev pub behind_by : (List Item → Item → Bool) → List Item → Option Place → List Item → Option Place
-behind_by ends_by before at [] = at
-behind_by ends_by before None (i ∷ items) = None
-behind_by ends_by before (Some at) (i ∷ items) = behind_by ends_by (before ++ i ∷ []) (place_by (ends_by before i) at i) items
+abbrev pub place_behind_by : (List Item → Item → Bool) → List Item → Option Place → List Item → Option Place
+place_behind_by ends_by before at [] = at
+place_behind_by ends_by before None (i ∷ items) = None
+place_behind_by ends_by before (Some at) (i ∷ items) = place_behind_by ends_by (before ++ i ∷ []) (place_by (ends_by before i) at i) items
 
 pub record EntriesBy (ends_by : List Item → Item → Bool) (openings : List Opening) (bytes : List ℕ) (items : List Item) (rest : List ℕ) : Type 0 where
   pub reads : ReadsBy ends_by [] (Some (first_place openings)) items bytes rest
-  pub no_more : IsEnd (behind_by ends_by [] (Some (first_place openings)) items) rest
+  pub no_more : IsEnd (place_behind_by ends_by [] (Some (first_place openings)) items) rest
 
 -- the test says of each packet what its type says
 abbrev pub IsPlain : (List Item → Item → Bool) → List Item → List Item → Type 0
 IsPlain ends_by before [] = Unit {0}
 IsPlain ends_by before (i ∷ items) = (ends_by before i ≡ is_newkeys i) × IsPlain ends_by (before ++ i ∷ []) items
+
+-- the test by type
+abbrev pub by_type : List Item → Item → Bool
+by_type before i = is_newkeys i

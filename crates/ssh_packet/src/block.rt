@@ -1,23 +1,23 @@
 //! Keys of a block cipher that runs on from packet to packet, with a MAC (RFC 4253 sections 6.3 and 6.4).
 
-ghost use Rattle.std.specs.Prelude.{◌≡◌, ◌≤◌};
-ghost use Rattle.ssh_packet.specs.Sealing.{Block, block_padding, longest_payload};
+ghost use Rattle.std.specs.Prelude.{◌≡◌, ◌≤◌, length};
+ghost use Rattle.ssh_packet.specs.Sealing.{Block, block_padding, longest_padding};
 
 use crate::cipher;
 use crate::error::OpenError;
+use crate::sizes::HEAD;
 use rand_core::Rng;
 use ssh_aes::{BlockStreamCipher, PacketLengthProbe};
 use ssh_mac::mac::Mac;
 
 /// So much padding that what is encrypted is a multiple of 16 bytes, and at least four bytes. Only where
 /// the packet length stays in clear is it not encrypted.
-pub(crate) fn block_padding(is_length_clear: bool, payload: usize) -> usize
-    requires { payload ≤ longest_payload }
-    ensures value { result ≡ block_padding is_length_clear payload }
-    ensures short { result ≤ 19 }
+pub(crate) fn block_padding(is_length_clear: bool, payload: &[u8]) -> usize
+    ensures value { result ≡ block_padding is_length_clear (length payload.now) }
+    ensures short { result ≤ longest_padding }
 {
-    let head = if is_length_clear { 1 } else { 5 };
-    let size = 16 - (head + payload) % 16;
+    let head = if is_length_clear { 1 } else { HEAD };
+    let size = 16 - (head + payload.len()) % 16;
     if size < 4 { size + 16 } else { size }
 }
 
@@ -41,7 +41,7 @@ impl<C: BlockStreamCipher, M: Mac> cipher::SealingKey for SealingKey<C, M> {
     ghost sealing = { λ k. Block (C.running k.cipher) (M.meaning k.mac) };
 
     fn padding_length(&self, payload: &[u8]) -> usize {
-        block_padding(self.mac.is_etm(), payload.len())
+        block_padding(self.mac.is_etm(), payload)
     }
 
     fn fill_padding<R: Rng>(&self, rng: &mut R, padding_out: &mut [u8]) {
@@ -103,10 +103,11 @@ impl<C: PacketLengthProbe, M: Mac> cipher::OpeningKey for OpeningKey<C, M> {
         if self.mac.is_etm() {
             4
         } else {
-            self.cipher.least_len()
+            self.cipher.shortest_text_len()
         }
     }
 
+    #[tactic(auto, using(ssh_mac::proofs::Lemmas::taken_is_tag, ssh_mac::proofs::Lemmas::own_tag_taken))]
     fn open_in_place(&mut self, seqn: u32, packet: &mut [u8], tag: &[u8]) -> Result<(), OpenError> {
         if self.mac.is_etm() {
             if !self.mac.verify(seqn, packet, tag) {

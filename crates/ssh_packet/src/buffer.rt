@@ -1,12 +1,11 @@
 //! The buffer that a writer fills, and what a closure writes a payload into.
 
-ghost use Rattle.std.specs.Prelude.{◌≡◌, ◌==◌, ◌≤◌, ◌<◌, ◌-◌, ◌++◌, ◌∷◌, [], length, take, drop};
+ghost use Rattle.std.specs.Prelude.{◌≡◌, ◌==◌, ◌≤◌, ◌-◌, ◌++◌, ◌∷◌, [], length, drop};
 ghost use Rattle.std.specs.Prelude.{vec_len, vec_capacity, OnOk, OnErr, IfErr};
 ghost use Rattle.ssh_wire.specs.Lines.{id_line};
-ghost use Rattle.ssh_wire.specs.Outside.{Appends, Rose};
 ghost use Rattle.ssh_wire.specs.declared.error.Error.TheVariants.{Memory};
 
-use ssh_wire::{Error, Sink, SshId};
+use ssh_wire::{Error, SshId};
 use std::alloc::Global;
 use std::marker::Model;
 
@@ -25,9 +24,9 @@ pub struct SSHBuffer {
 
 impl Model for SSHBuffer {
     ghost use Rattle.std.specs.Prelude.{◌-◌, vec_len, vec_capacity};
-    ghost use Rattle.ssh_packet.specs.Writing.{Written};
+    ghost use Rattle.ssh_packet.specs.Writing.{Buffer};
 
-    ghost Value = { Written };
+    ghost Value = { Buffer };
 
     ghost view = { λ b. record {
       output = b.buffer.items;
@@ -73,24 +72,6 @@ pub(crate) fn drop_front(bytes: &mut Vec<u8>, n: usize)
     let len = bytes.len();
     bytes.copy_within(n..len, 0);
     bytes.truncate(len - n);
-}
-
-/// Writes the bytes out, at least one a turn. Where the sink fails, the error is how many went out before.
-pub(crate) fn write_out<W: Sink>(w: &mut W, bytes: &[u8]) -> Result<(), usize>
-    ensures all { OnOk result (Appends bytes.now (W.held w.old) (W.held w.new)) }
-    ensures within { IfErr result (λ n. n < length bytes.now) }
-    ensures front { IfErr result (λ n. Appends (take n bytes.now) (W.held w.old) (W.held w.new)) }
-    ensures failed { OnErr result (Rose (W.faults w.old) (W.faults w.new)) }
-    ensures count { W.faults w.old ≤ W.faults w.new }
-{
-    let mut written = 0;
-    while written < bytes.len() {
-        match w.write(&bytes[written..]) {
-            Ok(n) => written += n,
-            Err(_) => return Err(written),
-        }
-    }
-    Ok(())
 }
 
 /// A payload in the making.

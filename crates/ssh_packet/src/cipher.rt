@@ -3,14 +3,15 @@
 
 ghost use Rattle.std.specs.Prelude.{◌≡◌, ◌↔◌, ◌+◌, ◌<◌, ◌≤◌, ◌^◌, ◌++◌, take, drop, length, IsOk, IfOk, OnOk, OnErr, IfErr};
 ghost use Rattle.std.specs.Int.{w32, from_be_bytes};
-ghost use Rattle.ssh_packet.specs.Errors.{open_error};
+ghost use Rattle.ssh_packet.specs.Errors.{error_of, open_error};
 ghost use Rattle.ssh_packet.specs.Front.{length_in, opened_past, packet_of, refused_past, refused_text};
 ghost use Rattle.ssh_packet.specs.Front.{tag_behind, tag_fault, tag_for, text_in};
-ghost use Rattle.ssh_packet.specs.Sealing.{Sealing, closed, filling, longest_payload, moved_past};
-ghost use Rattle.ssh_packet.specs.Sealing.{padding_length, probe, shortest, tag_size};
+ghost use Rattle.ssh_packet.specs.Sealing.{Sealing, sealed_text, padding_drawn, longest_padding, longest_tag, moved_past};
+ghost use Rattle.ssh_packet.specs.Sealing.{padding_length, probe_length, shortest_packet, tag_size};
 
 use crate::error::OpenError;
 use rand_core::Rng;
+use ssh_wire::Error;
 
 /// The first four bytes.
 pub(crate) fn first_four(bytes: &[u8]) -> [u8; 4]
@@ -29,19 +30,18 @@ pub trait SealingKey {
 
     /// How many bytes of padding stand behind a payload.
     fn padding_length(&self, payload: &[u8]) -> usize
-        requires { length payload.now ≤ longest_payload }
         ensures value { result ≡ padding_length (sealing self.now) (length payload.now) }
-        ensures short { result ≤ 19 };
+        ensures short { result ≤ longest_padding };
 
     /// Writes padding: zeros under the clear key, which draws nothing, and else drawn bytes.
     fn fill_padding<R: Rng>(&self, rng: &mut R, padding_out: &mut [u8])
         ensures { (padding_out.new, R.stream rng.new)
-            ≡ filling (sealing self.now) (length padding_out.old) (R.stream rng.old) };
+            ≡ padding_drawn (sealing self.now) (length padding_out.old) (R.stream rng.old) };
 
     /// The length of a tag in bytes.
     fn tag_len(&self) -> usize
         ensures value { result ≡ tag_size (sealing self.now) }
-        ensures short { result ≤ 64 };
+        ensures short { result ≤ longest_tag };
 
     /// Seals a packet in place: packet length, padding length, payload and padding. Writes its tag.
     fn seal(&mut self, seqn: u32, plaintext_in_ciphertext_out: &mut [u8], tag_out: &mut [u8])
@@ -49,7 +49,7 @@ pub trait SealingKey {
         requires short { length plaintext_in_ciphertext_out.old < 2 ^ 32 + 4 }
         requires tag { length tag_out.old ≡ tag_size (sealing self.old) }
         ensures text { plaintext_in_ciphertext_out.new ++ tag_out.new
-            ≡ closed (sealing self.old) seqn plaintext_in_ciphertext_out.old }
+            ≡ sealed_text (sealing self.old) seqn plaintext_in_ciphertext_out.old }
         ensures size { length plaintext_in_ciphertext_out.new ≡ length plaintext_in_ciphertext_out.old }
         ensures state { sealing self.new ≡ moved_past (sealing self.old) plaintext_in_ciphertext_out.old };
 }
@@ -61,22 +61,22 @@ pub trait OpeningKey {
 
     /// How many bytes show the packet length: 4, or 16 where a block cipher encrypts it.
     fn packet_length_to_read_for_block_length(&self) -> usize
-        ensures { result ≡ probe (opening self.now) };
+        ensures { result ≡ probe_length (opening self.now) };
 
     /// The packet length, four bytes high byte first, of the first bytes of a packet.
     fn decrypt_packet_length(&self, seqn: u32, encrypted_packet_length: &[u8]) -> [u8; 4]
-        requires { length encrypted_packet_length.now ≡ probe (opening self.now) }
+        requires { length encrypted_packet_length.now ≡ probe_length (opening self.now) }
         ensures { from_be_bytes w32 result ≡ length_in (opening self.now) encrypted_packet_length.now };
 
     /// The length of a tag in bytes.
     fn tag_len(&self) -> usize
         ensures value { result ≡ tag_size (opening self.now) }
-        ensures short { result ≤ 64 };
+        ensures short { result ≤ longest_tag };
 
     /// How many bytes the shortest packet has without its tag: 4, or 16 where chaining mode encrypts the
     /// packet length.
     fn shortest_packet(&self) -> usize
-        ensures value { result ≡ shortest (opening self.now) }
+        ensures value { result ≡ shortest_packet (opening self.now) }
         ensures short { result ≤ 16 };
 
     /// Opens a packet in place, its tag beside it. PacketAuth where the tag of an HMAC is another,
@@ -94,17 +94,14 @@ pub trait OpeningKey {
         ensures refused_state { OnErr result (opening self.new ≡ refused_past (opening self.old) packet.old) };
 
     /// Opens a packet that its tag stands behind, and answers what follows its length: padding length,
-    /// payload and padding. The errors are those of `open_in_place`.
-    fn open<'a>(
-        &mut self,
-        seqn: u32,
-        ciphertext_and_tag: &'a mut [u8],
-    ) -> Result<&'a [u8], OpenError>
+    /// payload and padding. The errors are those of `open_in_place`. No clause says what a refusal leaves of the
+    /// bytes, since they are lent: that of `open_in_place` does.
+    fn open<'a>(&mut self, seqn: u32, ciphertext_and_tag: &'a mut [u8]) -> Result<&'a [u8], Error>
         requires headed { 4 + tag_size (opening self.old) ≤ length ciphertext_and_tag.old }
         requires short { length ciphertext_and_tag.old < 2 ^ 32 + 4 + tag_size (opening self.old) }
         ensures right { IsOk result ↔ tag_behind (opening self.old) ciphertext_and_tag.old
             ≡ tag_for (opening self.old) seqn (packet_of (opening self.old) ciphertext_and_tag.old) }
-        ensures causes { IfErr result (λ e. e ≡ open_error (tag_fault (opening self.old))) }
+        ensures causes { IfErr result (λ e. e ≡ error_of (open_error (tag_fault (opening self.old)))) }
         ensures text { IfOk result (λ body. body.now
             ≡ drop 4 (text_in (opening self.old) (packet_of (opening self.old) ciphertext_and_tag.old))) }
         ensures state { OnOk result (opening self.new
@@ -169,12 +166,12 @@ pub const ALL_CIPHERS: [Name; 10] = [
 ];
 
 impl Name {
-    ghost use Rattle.ssh_packet.specs.Names.{text_of, wants_mac, key_length, nonce_length};
+    ghost use Rattle.ssh_packet.specs.Names.{cipher_name, wants_mac, cipher_key_length, nonce_length};
     ghost use Rattle.ssh_packet.specs.declared.cipher.Name.{Name};
 
     /// The text of the name, as it stands in a name list.
     pub fn as_str(self) -> &'static str
-        ensures { result.now ≡ text_of self }
+        ensures { result.now ≡ cipher_name self }
     {
         match self {
             Name::Clear => "clear",
@@ -192,7 +189,7 @@ impl Name {
 
     /// The name of a text, where it has one.
     pub fn from_str(s: &str) -> Option<Name>
-        ensures { (name : Name) → (result ≡ Some name) ↔ (s.now ≡ text_of name) }
+        ensures { (name : Name) → (result ≡ Some name) ↔ (s.now ≡ cipher_name name) }
     {
         match s {
             "clear" => Some(Name::Clear),
@@ -227,7 +224,7 @@ impl Name {
 
     /// The length of the key in bytes: 0, 16, 24 or 32.
     pub fn key_len(self) -> usize
-        ensures { result ≡ key_length self }
+        ensures { result ≡ cipher_key_length self }
     {
         match self {
             Name::Clear | Name::NoCipher => 0,

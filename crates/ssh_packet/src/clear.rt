@@ -4,6 +4,7 @@ ghost use Rattle.ssh_packet.specs.Sealing.{Clear};
 
 use crate::cipher::{OpeningKey, SealingKey, first_four};
 use crate::error::OpenError;
+use crate::sizes::HEAD;
 use rand_core::Rng;
 
 /// The clear key.
@@ -14,7 +15,7 @@ impl SealingKey for Key {
     ghost sealing = { λ _. Clear };
 
     fn padding_length(&self, payload: &[u8]) -> usize {
-        let size = 8 - (5 + payload.len()) % 8;
+        let size = 8 - (HEAD + payload.len()) % 8;
         if size < 4 { size + 8 } else { size }
     }
 

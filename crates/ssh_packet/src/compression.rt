@@ -29,12 +29,12 @@ pub enum Decompress {
 }
 
 impl Name {
-    ghost use Rattle.ssh_packet.specs.Names.{compression_text};
+    ghost use Rattle.ssh_packet.specs.Names.{compression_name};
     ghost use Rattle.ssh_packet.specs.declared.compression.Name.{Name};
 
     /// The text of the name, as it stands in a name list.
     pub fn as_str(self) -> &'static str
-        ensures { result.now ≡ compression_text self }
+        ensures { result.now ≡ compression_name self }
     {
         match self {
             Name::None => "none",
@@ -43,7 +43,7 @@ impl Name {
 
     /// The name of a text, where it has one.
     pub fn from_str(s: &str) -> Option<Name>
-        ensures { (name : Name) → (result ≡ Some name) ↔ (s.now ≡ compression_text name) }
+        ensures { (name : Name) → (result ≡ Some name) ↔ (s.now ≡ compression_name name) }
     {
         match s {
             "none" => Some(Name::None),

@@ -1,19 +1,26 @@
 //! Why a packet isn't opened.
 
 use ssh_wire::Error;
+use thiserror::Error as ErrorText;
 
-/// Why a reader gave no packet. It owns no memory, so that it can stand beside a packet that is lent.
-#[derive(Clone, Copy, Debug, PartialEq, Eq, Hash)]
+/// Why a reader gave no packet. It owns no memory, so that it can stand beside a packet that is lent. Its texts
+/// are those of `ssh_wire::Error`.
+#[derive(Clone, Copy, Debug, PartialEq, Eq, Hash, ErrorText)]
 pub enum OpenError {
     /// The packet length is over 262177, too short for its cipher, or leaves no payload.
+    #[error("Bad packet size: {0}")]
     PacketSize(usize),
     /// The padding is longer than its packet.
+    #[error("Index out of bounds")]
     IndexOutOfBounds,
     /// The tag of an HMAC is not the packet's.
+    #[error("Wrong packet authentication code")]
     PacketAuth,
     /// The tag of Galois counter mode is not the packet's.
+    #[error("Failed to decrypt a packet")]
     DecryptionError,
     /// An earlier packet was refused.
+    #[error("Disconnected")]
     Disconnect,
 }
 

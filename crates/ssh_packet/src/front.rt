@@ -3,16 +3,12 @@
 ghost use Rattle.std.specs.Prelude.{◌≡◌, ◌+◌, ◌<◌, ◌≤◌, ◌^◌, length, drop, slice_index, vec_len};
 ghost use Rattle.ssh_packet.specs.Finding.{Measures, Parts, OpensChecked, Opens};
 ghost use Rattle.ssh_packet.specs.Front.{is_bad_length};
-ghost use Rattle.ssh_packet.specs.Sealing.{IsBytes, longest_packet, tag_size};
+ghost use Rattle.ssh_wire.specs.Forms.{AreBytes};
+ghost use Rattle.ssh_packet.specs.Sealing.{longest_packet, tag_size};
 
 use crate::cipher::OpeningKey;
 use crate::error::OpenError;
-
-/// The longest packet length that is read, in bytes.
-const LONGEST_PACKET: usize = 262177;
-
-/// How many bytes stand before a payload: the packet length, and the padding length's byte.
-pub const HEAD: usize = 5;
+use crate::sizes::LONGEST_PACKET;
 
 /// A packet that was opened where it stands.
 #[derive(Clone, Copy)]
@@ -41,7 +37,7 @@ fn whole_length<K: OpeningKey>(
     bytes: &[u8],
 ) -> Result<Option<usize>, OpenError>
     ensures measures { Measures (K.opening key.now) number bytes.now result }
-    ensures bytes { IsBytes bytes.now }
+    ensures bytes { AreBytes bytes.now }
 {
     let probe = key.packet_length_to_read_for_block_length();
     if bytes.len() < probe {
@@ -108,7 +104,7 @@ fn open_front<K: OpeningKey>(
     bytes: &mut [u8],
 ) -> Result<Option<Part>, OpenError>
     ensures opens { Opens (K.opening key.old) number bytes.old bytes.new result (K.opening key.new) }
-    ensures bytes { IsBytes bytes.old }
+    ensures bytes { AreBytes bytes.old }
 {
     match whole_length(key, number, bytes)? {
         None => Ok(None),
@@ -126,7 +122,7 @@ pub(crate) fn open_behind<K: OpeningKey>(
     requires { start ≤ vec_len bytes.old }
     ensures opens { Opens (K.opening key.old) number (drop start bytes.old.items) (drop start bytes.new.items) result (K.opening key.new) }
     ensures size { vec_len bytes.new ≡ vec_len bytes.old }
-    ensures bytes { IsBytes (drop start bytes.old.items) }
+    ensures bytes { AreBytes (drop start bytes.old.items) }
 {
     open_front(key, number, &mut bytes[start..])
 }

@@ -1,4 +1,5 @@
-//! Keys of Galois counter mode (RFC 5647).
+//! Keys of Galois counter mode (RFC 5647). From packet to packet the nonce counts over all its 12 bytes, where
+//! RFC 5647 section 7.1 keeps the first 4 and counts the last 8.
 
 ghost use Rattle.std.specs.Prelude.{◌≡◌, ◌⊎◌, length};
 ghost use Rattle.ssh_packet.specs.Sealing.{Gcm, next_nonce};
@@ -10,7 +11,7 @@ use crate::error::OpenError;
 use rand_core::Rng;
 use ssh_aes::Gcm;
 
-/// The nonce of the next packet: one more over all its bytes, the highest first (RFC 5647 section 7.1).
+/// The nonce of the next packet: one more over all its 12 bytes, the highest first.
 fn step(nonce: &mut [u8; 12])
     ensures { nonce.new ≡ next_nonce nonce.old }
 {
@@ -44,7 +45,7 @@ impl cipher::SealingKey for SealingKey {
     ghost sealing = { λ k. Gcm k.cipher k.nonce };
 
     fn padding_length(&self, payload: &[u8]) -> usize {
-        block_padding(true, payload.len())
+        block_padding(true, payload)
     }
 
     fn fill_padding<R: Rng>(&self, rng: &mut R, padding_out: &mut [u8]) {

@@ -1,9 +1,9 @@
 //! The keys of a direction, by kind.
 
 ghost use Rattle.std.specs.Prelude.{◌≡◌, length};
-ghost use Rattle.ssh_mac.specs.Names.{key_length as mac_key_length, mac_named};
+ghost use Rattle.ssh_mac.specs.Names.{mac_key_length, mac_named};
 ghost use Rattle.ssh_packet.specs.Keys.{opening_of, sealing_of};
-ghost use Rattle.ssh_packet.specs.Names.{key_length, nonce_length, sealing_named};
+ghost use Rattle.ssh_packet.specs.Names.{cipher_key_length, nonce_length, sealing_named};
 
 use crate::cipher::{Name, OpeningKey, SealingKey};
 use crate::error::OpenError;
@@ -155,7 +155,9 @@ impl OpeningKey for OpenKey {
 impl Name {
     /// A key to seal under, of this cipher and a MAC, each with its own key: `key_len` bytes, `nonce_len` bytes
     /// of first counter block, chaining block or nonce, and as many bytes as the MAC's key has. Galois
-    /// counter mode and the clear key have no use for the MAC.
+    /// counter mode and the clear key have no use for the MAC. A cipher that needs one (`needs_mac`) is made with
+    /// the MAC `none` where it is asked for: its packets are encrypted, and none is authenticated. No call of this
+    /// crate refuses that: who negotiates does, as where there is no common MAC.
     pub fn make_sealing_key(
         self,
         key: &[u8],
@@ -163,7 +165,7 @@ impl Name {
         mac_key: &[u8],
         mac: mac::Name,
     ) -> SealKey
-        requires key { length key.now ≡ key_length self }
+        requires key { length key.now ≡ cipher_key_length self }
         requires nonce { length nonce.now ≡ nonce_length self }
         requires mac_key { length mac_key.now ≡ mac_key_length mac }
         ensures { sealing_of result ≡ sealing_named self key.now nonce.now (mac_named mac mac_key.now) }
@@ -184,7 +186,8 @@ impl Name {
         }
     }
 
-    /// A key that opens what `make_sealing_key` of the same values seals.
+    /// A key that opens what `make_sealing_key` of the same values seals. With the MAC `none`, a cipher that needs
+    /// one opens whatever it is given: no packet is authenticated. Who negotiates refuses that, and no call here.
     pub fn make_opening_key(
         self,
         key: &[u8],
@@ -192,7 +195,7 @@ impl Name {
         mac_key: &[u8],
         mac: mac::Name,
     ) -> OpenKey
-        requires key { length key.now ≡ key_length self }
+        requires key { length key.now ≡ cipher_key_length self }
         requires nonce { length nonce.now ≡ nonce_length self }
         requires mac_key { length mac_key.now ≡ mac_key_length mac }
         ensures { opening_of result ≡ sealing_named self key.now nonce.now (mac_named mac mac_key.now) }

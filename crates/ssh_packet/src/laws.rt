@@ -1,16 +1,18 @@
 //! Laws of packets and of streams of packets, for proofs above to cite.
 
 ghost use Rattle.ssh_packet.specs.Laws.{OnePacket, FrontWhole, FrontSound, OpensAgain, PairOpens, StatesAgree, FrontStays};
-ghost use Rattle.ssh_packet.specs.Laws.{OneReading, PlainReading, Carried, Padded};
+ghost use Rattle.ssh_packet.specs.Laws.{OneReading, PlainReading, ReadsByType, ReadsWhatWasWritten, PaddingFills};
 
 use crate::cipher::{OpeningKey, SealingKey};
 
 /// State, number and bytes determine a packet, whatever follows it.
+#[tactic(auto, using(crate::proofs::Lemmas::one_packet))]
 pub fn one_packet()
     ensures { OnePacket }
 {}
 
 /// Opening undoes sealing.
+#[tactic(auto, using(crate::proofs::Lemmas::front_whole))]
 pub fn front_whole()
     ensures { FrontWhole }
 {}
@@ -31,11 +33,13 @@ pub fn pair_opens<S: SealingKey, O: OpeningKey>()
 {}
 
 /// Behind a packet that was sealed, what a reader opens with is what the writer seals under.
+#[tactic(auto, using(crate::proofs::Lemmas::states_agree))]
 pub fn states_agree()
     ensures { StatesAgree }
 {}
 
 /// What a reader finds stays what it is when bytes come behind.
+#[tactic(auto, using(crate::proofs::Lemmas::front_stays_whole, crate::proofs::Lemmas::front_stays_refused))]
 pub fn front_stays()
     ensures { FrontStays }
 {}
@@ -50,13 +54,20 @@ pub fn plain_reading()
     ensures { PlainReading }
 {}
 
+/// A reading by types is one by the test of types.
+#[tactic(auto, using(crate::proofs::Lemmas::reads_by_type))]
+pub fn reads_by_type()
+    ensures { ReadsByType }
+{}
+
 /// What a reader takes off a front of what was written is what was written, through the epochs whose openings agree.
 pub fn carried()
-    ensures { Carried }
+    ensures { ReadsWhatWasWritten }
 {}
 
 /// Padding is 4 to 19 bytes. With it a packet in clear is a multiple of 8 bytes, and what is encrypted of the
 /// others a multiple of 16.
+#[tactic(auto, using(crate::proofs::Lemmas::padded))]
 pub fn padded()
-    ensures { Padded }
+    ensures { PaddingFills }
 {}

@@ -11,8 +11,10 @@ mod front;
 pub mod gcm;
 mod keys;
 mod laws;
+mod names;
 mod reader;
 mod sealing;
+mod sizes;
 mod writer;
 
 pub use crate::buffer::{PacketBytesWriter, SSHBuffer};
@@ -21,7 +23,8 @@ pub use crate::error::OpenError;
 pub use crate::keys::{CipherPair, OpenKey, SealKey};
 pub use crate::laws::{
     carried, front_sound, front_stays, front_whole, one_packet, one_reading, opens_again, padded,
-    pair_opens, plain_reading, states_agree,
+    pair_opens, plain_reading, reads_by_type, states_agree,
 };
+pub use crate::names::{cipher_names, compression_names};
 pub use crate::reader::{Incoming, PacketReader};
 pub use crate::writer::PacketWriter;

@@ -6,13 +6,16 @@ ghost use Rattle.ssh_wire.specs.declared.error.Error.TheVariants.{Memory};
 
 use crate::buffer::drop_front;
 use crate::error::OpenError;
-use crate::front::{HEAD, Part, open_behind};
+use crate::front::{Part, open_behind};
 use crate::keys::OpenKey;
+use crate::sizes::HEAD;
 use ssh_wire::Error;
 use std::alloc::Global;
 use std::marker::Model;
 
-/// Opens packets one after the other.
+/// Opens packets one after the other. A reader owns no key: it is handed one at each `next`, and where another
+/// key begins its caller resets the count by `reset_bytes`. A `PacketWriter` owns its key, and `set_cipher`
+/// resets its count.
 #[derive(Debug, Drop)]
 pub struct PacketReader {
     bytes: Vec<u8>,
@@ -28,7 +31,13 @@ impl Model for PacketReader {
 
     ghost Value = { Reader };
 
-    ghost view = { λ r. record { waiting = drop r.start r.bytes.items; number = r.number; count = r.count; failed = r.failed } };
+    ghost view = { λ r. record {
+      waiting = drop r.start r.bytes.items;
+      number = r.number;
+      count = r.count;
+      failed = r.failed;
+      spent = r.start;
+    } };
 
     ghost invariant = { λ r. r.start ≤ vec_len r.bytes };
 }
@@ -47,7 +56,7 @@ impl PacketReader {
 
     /// A reader that has read nothing, before packet 0.
     pub fn new(alloc: Global) -> PacketReader
-        ensures { result ≡ record { waiting = []; number = 0; count = 0; failed = false } }
+        ensures { result ≡ record { waiting = []; number = 0; count = 0; failed = false; spent = 0 } }
     {
         PacketReader {
             bytes: Vec::new(alloc),
@@ -58,10 +67,14 @@ impl PacketReader {
         }
     }
 
-    /// Appends a piece of what was received. Memory leaves the reader as it was.
+    /// Appends a piece of what was received. Memory leaves the reader as it was. Bytes that were handed out
+    /// are given back once they are as many as those that wait, so that at most twice what waited is kept
+    /// beside the piece.
     pub fn push(&mut self, piece: &[u8]) -> Result<(), Error>
-        ensures ok { OnOk result (self.new ≡ record self.old { waiting = self.old.waiting ++ piece.now }) }
-        ensures unchanged { OnErr result (self.new ≡ self.old) }
+        ensures ok { OnOk result (self.new
+            ≡ record self.old { waiting = self.old.waiting ++ piece.now; spent = self.new.spent }) }
+        ensures unchanged { OnErr result (self.new ≡ record self.old { spent = self.new.spent }) }
+        ensures spent { self.new.spent ≤ length self.old.waiting }
         ensures err { IfErr result (λ e. e ≡ Memory) }
     {
         if self.start >= self.bytes.len() - self.start {
@@ -86,7 +99,7 @@ impl PacketReader {
         self.count
     }
 
-    /// The count begins again.
+    /// The count begins again, as it has to where another key begins.
     pub fn reset_bytes(&mut self)
         ensures { self.new ≡ record self.old { count = 0 } }
     {
@@ -104,7 +117,8 @@ impl PacketReader {
     /// PacketSize where the packet length is over 262177, too short for its cipher, or leaves no payload;
     /// PacketAuth or DecryptionError where the tag is not the packet's; IndexOutOfBounds where the padding is
     /// longer than the packet; Disconnect after a refusal, which is the end of the reader. Padding below four
-    /// bytes is accepted. It takes no memory.
+    /// bytes is accepted. It takes no memory. A loop over it ends by the measure `waiting`, which falls with each
+    /// packet.
     pub fn next(&mut self, key: &mut OpenKey) -> Result<Option<Incoming<'_>>, OpenError>
         ensures* after_borrow { sem 𝓛 (LendsNext self.entry key.old key.new result) }
     {

@@ -1,38 +1,31 @@
 //! Sealing payloads into packets.
 
-ghost use Rattle.std.specs.Prelude.{◌≡◌, ◌⊎◌, ◌+◌, ◌^◌, ◌<◌, ◌≤◌, ◌++◌, [], ℕ, List, length, take, drop};
+ghost use Rattle.std.specs.Prelude.{◌≡◌, ◌⊎◌, ◌+◌, ◌-◌, ◌^◌, ◌<◌, ◌≤◌, ◌++◌, [], ℕ, List, length, take, drop};
 ghost use Rattle.std.specs.Prelude.{IsOk, OnOk, IfOk, OnErr, IfErr, Err, vec_len, vec_capacity};
 ghost use Rattle.std.specs.Borrow.{sem};
 ghost use Rattle.std.specs.Fn.{FnOnceReturnsAtMut};
 ghost use Rattle.ssh_wire.specs.Outside.{Rose};
 ghost use Rattle.ssh_wire.specs.declared.error.Error.TheVariants.{PacketSize, Memory, IO};
-ghost use Rattle.ssh_packet.specs.Sealing.{Clear, IsAdmissible, item_of, stream_after, tag_size, longest_payload};
-ghost use Rattle.ssh_packet.specs.Writing.{AppendsPayload, Flushes, IsSizeOrMemory, OnlyAppends, SameButRoom};
-ghost use Rattle.ssh_packet.specs.Writing.{Seals, SealsWith, Sends, head_room, room_for};
+ghost use Rattle.ssh_packet.specs.Sealing.{Clear, IsAdmissible, IsPadded, head_length, item_of, longest_padding, longest_payload, longest_tag};
+ghost use Rattle.ssh_packet.specs.Sealing.{stream_after, tag_size};
+ghost use Rattle.ssh_packet.specs.Writing.{AppendsPayload, Flushes, IsSizeOrMemory, LeavesPayload, OnlyAppends, SameButRoom};
+ghost use Rattle.ssh_packet.specs.Writing.{Seals, SealsInPlace, SealsWith, Sends, head_room, room_for};
 
-use crate::buffer::{PacketBytesWriter, SSHBuffer, drop_front, write_out};
+use crate::buffer::{PacketBytesWriter, SSHBuffer, drop_front};
 use crate::cipher::SealingKey;
 use crate::clear;
 use crate::compression::Compress;
-use crate::front::HEAD;
 use crate::keys::SealKey;
 use crate::sealing::seal_behind;
+use crate::sizes::{HEAD, LONGEST_PADDING, LONGEST_PAYLOAD, ROOM_BESIDE};
 use bytes::Bytes;
 use rand_core::Rng;
-use ssh_wire::{Error, Sink};
+use ssh_wire::{Error, Sink, write_all};
 use std::alloc::Global;
 use std::marker::Model;
 
-/// The longest payload of a packet, in bytes.
-const LONGEST_PAYLOAD: usize = 262157;
-
-/// The longest padding, in bytes.
-const LONGEST_PADDING: usize = 19;
-
-/// What a packet has at most beside payload and tag, in bytes, rounded up.
-const ROOM_BESIDE: usize = 37;
-
-/// Seals payloads one after the other, behind what its buffer holds.
+/// Seals payloads one after the other, behind what its buffer holds. A writer owns its key, and `set_cipher`
+/// resets its count with it. A `PacketReader` is handed its key at each `next`, and its caller resets its count.
 #[derive(Debug, Drop)]
 pub struct PacketWriter {
     buffer: SSHBuffer,
@@ -61,7 +54,7 @@ impl PacketWriter {
     ghost use Rattle.ssh_packet.specs.Lending.{LendsBuffer, LendsCompress};
 
     /// A writer under a key, before packet 0.
-    pub fn new(cipher: SealKey, compress: Compress, alloc: Global) -> PacketWriter
+    pub fn new(alloc: Global, cipher: SealKey, compress: Compress) -> PacketWriter
         ensures { result
             ≡ record { output = []; len = 0; count = 0; number = 0; sealing = sealing_of cipher; room = result.room } }
     {
@@ -77,7 +70,7 @@ impl PacketWriter {
         ensures { result
             ≡ record { output = []; len = 0; count = 0; number = 0; sealing = Clear; room = result.room } }
     {
-        PacketWriter::new(SealKey::Clear(clear::Key), Compress::None, alloc)
+        PacketWriter::new(alloc, SealKey::Clear(clear::Key), Compress::None)
     }
 
     /// Appends one packet of the payload. A payload of no bytes sends nothing. PacketSize where it is
@@ -88,6 +81,8 @@ impl PacketWriter {
         ensures stream { OnOk result (R.stream rng.new ≡ stream_after self.old.sealing buf.now (R.stream rng.old)) }
         ensures admissible { OnOk result (0 < length buf.now
             → IsAdmissible self.old.sealing (item_of self.old.sealing buf.now (R.stream rng.old))) }
+        ensures padded { OnOk result (0 < length buf.now
+            → IsPadded self.old.sealing (item_of self.old.sealing buf.now (R.stream rng.old))) }
         ensures unchanged { OnErr result (SameButRoom self.old self.new) }
         ensures causes { IfErr result (IsSizeOrMemory (length buf.now)) }
         ensures too_long { longest_payload < length buf.now → result ≡ Err (PacketSize (length buf.now)) }
@@ -120,8 +115,8 @@ impl PacketWriter {
     }
 
     /// Appends one packet of what the closure appends to the vector that it is handed, the output itself:
-    /// nothing is copied. The closure's own error, and else as `packet_raw`. A refusal leaves the writer as
-    /// it was.
+    /// nothing is copied. The closure's own error, and else as `packet_raw`: Memory too where there is none for
+    /// five bytes of room before the payload. A refusal leaves the writer as it was.
     pub fn write_packet<R: Rng, F: FnOnce(&mut Vec<u8>) -> Result<(), Error>>(
         &mut self,
         rng: &mut R,
@@ -129,7 +124,7 @@ impl PacketWriter {
     ) -> Result<(), Error>
         requires callable { F.IsAlwaysCallable f }
         requires appends { OnlyAppends (FnOnceReturnsAtMut F.FnOnce f) }
-        ensures { SealsWith (AppendsPayload (FnOnceReturnsAtMut F.FnOnce f) (self.old.output ++ head_room)) (λ _. tt)
+        ensures { SealsInPlace (FnOnceReturnsAtMut F.FnOnce f)
             self.old (R.stream rng.old) (R.stream rng.new) result self.new }
     {
         let start = self.buffer.buffer.len();
@@ -154,7 +149,7 @@ impl PacketWriter {
         f: F,
     ) -> Result<Bytes, Error>
         requires { F.IsAlwaysCallable f }
-        ensures { SealsWith (AppendsPayload (FnOnceReturnsAtMut F.FnOnce f) []) (λ payload. payload)
+        ensures { SealsWith (LeavesPayload (FnOnceReturnsAtMut F.FnOnce f)) (λ payload. payload)
             self.old (R.stream rng.old) (R.stream rng.new) result self.new }
     {
         let mut payload = Vec::new(*self.buffer.buffer.allocator());
@@ -197,11 +192,11 @@ impl PacketWriter {
     /// Seals the payload that stands behind `start` and five bytes of room. Memory takes all from `start`
     /// on away.
     fn seal_payload<R: Rng>(&mut self, rng: &mut R, start: usize) -> Result<(), Error>
-        requires room { start + 5 < length self.old.output }
-        requires short { length self.old.output ≤ start + 5 + longest_payload }
-        ensures seals { Seals (record self.old { output = take start self.old.output }) (drop (start + 5) self.old.output)
+        requires room { start + head_length < length self.old.output }
+        requires short { length self.old.output ≤ start + head_length + longest_payload }
+        ensures seals { Seals (record self.old { output = take start self.old.output }) (drop (start + head_length) self.old.output)
             (R.stream rng.old) (R.stream rng.new) result self.new }
-        ensures ready { 19 + tag_size self.old.sealing ≤ self.old.room → IsOk result }
+        ensures ready { longest_padding + tag_size self.old.sealing ≤ self.old.room → IsOk result }
         ensures spare { self.old.room + length self.old.output ≤ self.new.room + length self.new.output }
     {
         let out = &mut self.buffer.buffer;
@@ -251,10 +246,11 @@ impl PacketWriter {
         ensures all { OnOk result (self.new.output ≡ []) }
         ensures err { IfErr result (λ e. e ≡ IO) }
         ensures failed { OnErr result (Rose (W.faults w.old) (W.faults w.new)) }
+        ensures unfailed { OnOk result (W.faults w.new ≡ W.faults w.old) }
         ensures count { W.faults w.old ≤ W.faults w.new }
     {
         let out = &mut self.buffer.buffer;
-        match write_out(w, out.as_slice()) {
+        match write_all(w, out.as_slice()) {
             Ok(()) => {
                 out.clear();
                 Ok(())
@@ -312,12 +308,12 @@ impl PacketWriter {
 /// it was.
 fn append_behind_room(out: &mut Vec<u8>, payload: &[u8], tag_len: usize) -> Result<(), Error>
     requires short { length payload.now ≤ longest_payload }
-    requires tag { tag_len ≤ 64 }
+    requires tag { tag_len ≤ longest_tag }
     ensures ok { OnOk result (out.new.items ≡ (out.old.items ++ head_room) ++ payload.now) }
     ensures unchanged { OnErr result (out.new.items ≡ out.old.items) }
     ensures err { IfErr result (λ e. e ≡ Memory) }
-    ensures ready { vec_len out.old + 5 + length payload.now + 19 + tag_len ≤ vec_capacity out.old → IsOk result }
-    ensures room { OnOk result (vec_len out.new + 19 + tag_len ≤ vec_capacity out.new) }
+    ensures ready { vec_len out.old + head_length + length payload.now + longest_padding + tag_len ≤ vec_capacity out.old → IsOk result }
+    ensures room { OnOk result (vec_len out.new + longest_padding + tag_len ≤ vec_capacity out.new) }
     ensures capacity { vec_capacity out.old ≤ vec_capacity out.new }
 {
     out.reserve(HEAD + payload.len() + LONGEST_PADDING + tag_len)?;
@@ -335,11 +331,12 @@ fn append_with<F: FnOnce(&mut Vec<u8>) -> Result<(), Error>>(
     requires appends { OnlyAppends (FnOnceReturnsAtMut F.FnOnce f) }
     ensures ok { OnOk result ((payload : List ℕ)
         × AppendsPayload (FnOnceReturnsAtMut F.FnOnce f) (out.old.items ++ head_room) result payload
+        (vec_capacity out.new - vec_len out.new)
         × (out.new.items ≡ (out.old.items ++ head_room) ++ payload)) }
     ensures unchanged { OnErr result (out.new.items ≡ out.old.items) }
-    ensures err { IfErr result (λ e. (e ≡ Memory)
-        ⊎ ((payload : List ℕ)
-        × AppendsPayload (FnOnceReturnsAtMut F.FnOnce f) (out.old.items ++ head_room) (Err e) payload)) }
+    ensures err { IfErr result (λ e. ((e ≡ Memory) × (vec_capacity out.old < vec_len out.old + head_length))
+        ⊎ ((payload : List ℕ) × (room : ℕ)
+        × AppendsPayload (FnOnceReturnsAtMut F.FnOnce f) (out.old.items ++ head_room) (Err e) payload room)) }
 {
     let start = out.len();
     out.extend_from_slice(&[0; HEAD])?;

@@ -3,7 +3,7 @@ use Rattle.std.proofs.Common.{◌≡◌, ℕ, ◌+◌, ◌-◌, ◌<◌, ◌≤�
 use Rattle.std.proofs.Math.Seq.{take-append-add}
 use Rattle.std.proofs.lemmas.List.{take-append-le, take-append-drop}
 use Rattle.std.proofs.lemmas.Grind.{common_steps}
-use Rattle.ssh_wire.specs.Lines.{line_end, line_text, is_id_text}
+use Rattle.ssh_wire.specs.Lines.{line_end, line_text, is_id_text, longest_line}
 use Rattle.ssh_wire.specs.Reading.{Waiting, Heard}
 use Rattle.ssh_wire.specs.Stepping.{ReadsLine}
 use Rattle.ssh_wire.specs.declared.read_id.LineRead.TheVariants as LineRead
@@ -15,7 +15,7 @@ pub record Ends (w p line : List ℕ) (had end : ℕ) : Type 0 where
   pub at : line_end (w ++ p) ≡ Some end
   pub beyond : had < end
   pub within : end ≤ had + length p
-  pub short : end ≤ 255
+  pub short : end ≤ longest_line
   pub kept : take (had + length (take (end - had) p)) line ≡ w ++ take (end - had) p
 
 line_kept : (w p line : List ℕ) (had end : ℕ) → Ends w p line had end → take end line ≡ take end (w ++ p)

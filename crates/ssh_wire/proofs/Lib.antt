@@ -3,6 +3,8 @@ pub mod Ends
 pub mod Feeding
 pub mod FieldLaws
 pub mod Finding
+pub mod Hearing
+pub mod Lemmas
 pub mod LineByLine
 pub mod LineLaws
 pub mod Magnitudes
@@ -11,3 +13,5 @@ pub mod Numbers
 pub mod Sources
 pub mod Trimming
 pub mod Utf8
+pub mod Weights
+pub mod Written

@@ -3,9 +3,9 @@ use Rattle.std.proofs.Common.{◌≡◌, ℕ, zero, suc, ◌+◌, ◌-◌, ◌<�
 use Rattle.std.proofs.lemmas.Bool.Decides.{nat_tests}
 use Rattle.std.proofs.Math.Seq.{drop-append-add, take-length}
 use Rattle.std.proofs.lemmas.List.{drop-drop, length-drop}
-use Rattle.ssh_wire.specs.Lines.{IdFound, NotYet, Id, Version, behind, judged, id_of, line_end, line_text, is_id_text, Line, Unfinished, IdLine, OtherLine, TooLong, line_to, line_of, other_line_limit}
-use Rattle.ssh_wire.specs.Reading.{IdReading, Waiting, Heard, Failed, still_allowed, by_end, left_of, Decides, Feeds}
-use Rattle.ssh_wire.specs.Stepping.{ReadsTo, ReadsLine, may_pass, PassesOther, shifted, GoesOn}
+use Rattle.ssh_wire.specs.Lines.{IdFound, NotYet, Id, Version, found_behind, found_by_line, id_of, line_end, line_text, is_id_text, Line, Unfinished, IdLine, OtherLine, TooLong, line_to, line_of, longest_line, other_line_limit}
+use Rattle.ssh_wire.specs.Reading.{IdReading, Waiting, Heard, Failed, still_allowed, by_end, reading_left, Decides, Feeds}
+use Rattle.ssh_wire.specs.Stepping.{ReadsTo, ReadsLine, may_pass, PassesOther, shifted_answer, GoesOn}
 use Rattle.ssh_wire.specs.declared.error.Error.{Error}
 use Rattle.ssh_wire.specs.declared.error.Error.TheVariants as error
 use Rattle.ssh_wire.specs.declared.read_id.IdProgress.{IdProgress}
@@ -13,41 +13,22 @@ use Rattle.ssh_wire.specs.declared.read_id.IdProgress.TheVariants as progress
 use Rattle.ssh_wire.specs.declared.read_id.LineRead.{LineRead}
 use Rattle.ssh_wire.specs.declared.read_id.LineRead.TheVariants as read
 
-abbrev pub from_line : (ℕ → IdFound) → Line → IdFound
-from_line other Unfinished = NotYet
-from_line other (IdLine text end) = Id text end
-from_line other (OtherLine end) = other end
-from_line other TooLong = Version
-
 -- what an other line of n bytes leads to
 abbrev pub next : ℕ → List ℕ → ℕ → IdFound
 next zero bytes n = Version
-next (suc left) bytes n = behind n (id_of left (drop n bytes))
+next (suc left) bytes n = found_behind n (id_of left (drop n bytes))
 
-judged_line : (bytes : List ℕ) (other : ℕ → IdFound) (e : Option ℕ) → judged bytes other e ≡ from_line other (line_to bytes e)
-judged_line bytes other None = step (nat_le 255 (length bytes))
-  where
-    step : (t : Bool) → (if t then Version else NotYet) ≡ from_line other (if t then TooLong else Unfinished)
-    step true = refl
-    step false = refl
-judged_line bytes other (Some n) = step (nat_lt 255 n) (is_id_text (line_text (take n bytes)))
-  where
-    step : (t u : Bool) → (if t then Version else if u then Id (line_text (take n bytes)) n else other n) ≡ from_line other (if t then TooLong else if u then IdLine (line_text (take n bytes)) n else OtherLine n)
-    step true u = refl
-    step false true = refl
-    step false false = refl
-
-pub id_of_line : (left : ℕ) (bytes : List ℕ) (line : Line) → line_of bytes ≡ line → id_of left bytes ≡ from_line (λ n. next left bytes n) line
-id_of_line zero bytes line e = judged_line bytes (λ n. Version) (line_end bytes) ∙ ap (from_line (λ n. Version)) e
-id_of_line (suc left) bytes line e = judged_line bytes (λ n. behind n (id_of left (drop n bytes))) (line_end bytes) ∙ ap (from_line (λ n. behind n (id_of left (drop n bytes)))) e
+pub id_of_line : (left : ℕ) (bytes : List ℕ) (line : Line) → line_of bytes ≡ line → id_of left bytes ≡ found_by_line (λ n. next left bytes n) line
+id_of_line zero bytes line e = ap (found_by_line (λ n. Version)) e
+id_of_line (suc left) bytes line e = ap (found_by_line (λ n. found_behind n (id_of left (drop n bytes)))) e
 
 pub end_of_other : (bytes : List ℕ) (e : Option ℕ) (n : ℕ) → line_to bytes e ≡ OtherLine n → e ≡ Some n
-end_of_other bytes None n h = absurd (step (nat_le 255 (length bytes)) h)
+end_of_other bytes None n h = absurd (step (nat_le longest_line (length bytes)) h)
   where
     step : (t : Bool) → (if t then TooLong else Unfinished) ≡ OtherLine n → ⊥
     step true h = cc
     step false h = cc
-end_of_other bytes (Some m) n h = step (nat_lt 255 m) (is_id_text (line_text (take m bytes))) h
+end_of_other bytes (Some m) n h = step (nat_lt longest_line m) (is_id_text (line_text (take m bytes))) h
   where
     step : (t u : Bool) → (if t then TooLong else if u then IdLine (line_text (take m bytes)) m else OtherLine m) ≡ OtherLine n → Some m ≡ Some n
     step true u h = cc
@@ -55,12 +36,12 @@ end_of_other bytes (Some m) n h = step (nat_lt 255 m) (is_id_text (line_text (ta
     step false false h = cc
 
 pub end_of_id : (bytes : List ℕ) (e : Option ℕ) (text : List ℕ) (n : ℕ) → line_to bytes e ≡ IdLine text n → e ≡ Some n
-end_of_id bytes None text n h = absurd (step (nat_le 255 (length bytes)) h)
+end_of_id bytes None text n h = absurd (step (nat_le longest_line (length bytes)) h)
   where
     step : (t : Bool) → (if t then TooLong else Unfinished) ≡ IdLine text n → ⊥
     step true h = cc
     step false h = cc
-end_of_id bytes (Some m) text n h = step (nat_lt 255 m) (is_id_text (line_text (take m bytes))) h
+end_of_id bytes (Some m) text n h = step (nat_lt longest_line m) (is_id_text (line_text (take m bytes))) h
   where
     step : (t u : Bool) → (if t then TooLong else if u then IdLine (line_text (take m bytes)) m else OtherLine m) ≡ IdLine text n → Some m ≡ Some n
     step true u h = cc
@@ -69,19 +50,19 @@ end_of_id bytes (Some m) text n h = step (nat_lt 255 m) (is_id_text (line_text (
 
 pub no_end : (bytes : List ℕ) (e : Option ℕ) → line_to bytes e ≡ Unfinished → e ≡ None
 no_end bytes None h = refl
-no_end bytes (Some m) h = absurd (step (nat_lt 255 m) (is_id_text (line_text (take m bytes))) h)
+no_end bytes (Some m) h = absurd (step (nat_lt longest_line m) (is_id_text (line_text (take m bytes))) h)
   where
     step : (t u : Bool) → (if t then TooLong else if u then IdLine (line_text (take m bytes)) m else OtherLine m) ≡ Unfinished → ⊥
     step true u h = cc
     step false true h = cc
     step false false h = cc
 
-pub left_other : (left : ℕ) (bytes : List ℕ) (others n : ℕ) → line_of bytes ≡ OtherLine n → left_of (suc left) bytes others ≡ left_of left (drop n bytes) (others + 1)
-left_other left bytes others n h = ap (by_end (Waiting bytes others) (λ n. left_of left (drop n bytes) (others + 1))) (end_of_other bytes (line_end bytes) n h)
+pub left_other : (left : ℕ) (bytes : List ℕ) (others n : ℕ) → line_of bytes ≡ OtherLine n → reading_left (suc left) bytes others ≡ reading_left left (drop n bytes) (others + 1)
+left_other left bytes others n h = ap (by_end (Waiting bytes others) (λ n. reading_left left (drop n bytes) (others + 1))) (end_of_other bytes (line_end bytes) n h)
 
-pub left_unfinished : (left : ℕ) (bytes : List ℕ) (others : ℕ) → line_of bytes ≡ Unfinished → left_of left bytes others ≡ Waiting bytes others
+pub left_unfinished : (left : ℕ) (bytes : List ℕ) (others : ℕ) → line_of bytes ≡ Unfinished → reading_left left bytes others ≡ Waiting bytes others
 left_unfinished zero bytes others h = refl
-left_unfinished (suc left) bytes others h = ap (by_end (Waiting bytes others) (λ n. left_of left (drop n bytes) (others + 1))) (no_end bytes (line_end bytes) h)
+left_unfinished (suc left) bytes others h = ap (by_end (Waiting bytes others) (λ n. reading_left left (drop n bytes) (others + 1))) (no_end bytes (line_end bytes) h)
 
 -- the first line's end ends a reading: it isn't ended, an id's, or too long
 ends_unfinished : (allow : Bool) (w p : List ℕ) (o : ℕ) (new : IdReading) (line : Line) → line_of (w ++ p) ≡ line → ReadsTo line (length w) (w ++ p) o read.Unfinished new → Feeds allow (Waiting w o) p (Ok progress.NotYet) new
@@ -148,29 +129,29 @@ exit_other allow (Heard t) p more mid new h f = let q = h.0 in cc
 exit_other allow Failed p more mid new h f = let q = h.0 in cc
 
 -- an other line that is allowed
-pub decides_behind : (end more had : ℕ) (found : IdFound) (left : IdReading) (r : Result IdProgress Error) (new : IdReading) → end ≡ had + more → Decides found 0 left r new → Decides (behind end found) had left (shifted more r) new
-decides_behind end more had NotYet left r new e h = (ap (shifted more) h.0, h.1)
+pub decides_behind : (end more had : ℕ) (found : IdFound) (left : IdReading) (r : Result IdProgress Error) (new : IdReading) → end ≡ had + more → Decides found 0 left r new → Decides (found_behind end found) had left (shifted_answer more r) new
+decides_behind end more had NotYet left r new e h = (ap (shifted_answer more) h.0, h.1)
 decides_behind end more had (Id t n) left r new e h =
     let place : more + (n - 0) ≡ end + n - had = omega arith in
-    (ap (shifted more) h.0 ∙ ap (λ k. Ok (progress.Id k)) place, h.1)
-decides_behind end more had Version left r new e h = (ap (shifted more) h.0, h.1)
+    (ap (shifted_answer more) h.0 ∙ ap (λ k. Ok (progress.Id k)) place, h.1)
+decides_behind end more had Version left r new e h = (ap (shifted_answer more) h.0, h.1)
 
 one_allowed : (o : ℕ) → true ≡ may_pass true o → (o < other_line_limit) × (other_line_limit - o ≡ suc (other_line_limit - (o + 1)))
 one_allowed o h = let below : o < other_line_limit = grind (arith, nat_tests) in (below, omega arith)
 
-pub read_step : (w p : List ℕ) (o n more : ℕ) (r : Result IdProgress Error) (last : IdReading) → line_of (w ++ p) ≡ OtherLine n → n ≡ length w + more → other_line_limit - o ≡ suc (other_line_limit - (o + 1)) → Feeds true (Waiting [] (o + 1)) (drop more p) r last → Feeds true (Waiting w o) p (shifted more r) last
+pub read_step : (w p : List ℕ) (o n more : ℕ) (r : Result IdProgress Error) (last : IdReading) → line_of (w ++ p) ≡ OtherLine n → n ≡ length w + more → other_line_limit - o ≡ suc (other_line_limit - (o + 1)) → Feeds true (Waiting [] (o + 1)) (drop more p) r last → Feeds true (Waiting w o) p (shifted_answer more r) last
 read_step w p o n more r last e size one h =
     let k : ℕ = other_line_limit - (o + 1) in
     let rest : drop n (w ++ p) ≡ drop more p = ap (λ m. drop m (w ++ p)) size ∙ drop-append-add w p more in
-    let found : id_of (suc (other_line_limit - (o + 1))) (w ++ p) ≡ behind n (id_of (other_line_limit - (o + 1)) (drop more p)) = id_of_line (suc (other_line_limit - (o + 1))) (w ++ p) (OtherLine n) e ∙ ap (λ l. behind n (id_of (other_line_limit - (o + 1)) l)) rest in
-    let left : left_of (suc (other_line_limit - (o + 1))) (w ++ p) o ≡ left_of (other_line_limit - (o + 1)) (drop more p) (o + 1) = left_other (other_line_limit - (o + 1)) (w ++ p) o n e ∙ ap (λ l. left_of (other_line_limit - (o + 1)) l (o + 1)) rest in
-    let P : ℕ → Type 0 = λ m. Decides (id_of m (w ++ p)) (length w) (left_of m (w ++ p) o) (shifted more r) last in
-    let Q : IdFound → Type 0 = λ f. Decides f (length w) (left_of (suc (other_line_limit - (o + 1))) (w ++ p) o) (shifted more r) last in
-    let R : IdReading → Type 0 = λ l. Decides (behind n (id_of (other_line_limit - (o + 1)) (drop more p))) (length w) l (shifted more r) last in
+    let found : id_of (suc (other_line_limit - (o + 1))) (w ++ p) ≡ found_behind n (id_of (other_line_limit - (o + 1)) (drop more p)) = id_of_line (suc (other_line_limit - (o + 1))) (w ++ p) (OtherLine n) e ∙ ap (λ l. found_behind n (id_of (other_line_limit - (o + 1)) l)) rest in
+    let left : reading_left (suc (other_line_limit - (o + 1))) (w ++ p) o ≡ reading_left (other_line_limit - (o + 1)) (drop more p) (o + 1) = left_other (other_line_limit - (o + 1)) (w ++ p) o n e ∙ ap (λ l. reading_left (other_line_limit - (o + 1)) l (o + 1)) rest in
+    let P : ℕ → Type 0 = λ m. Decides (id_of m (w ++ p)) (length w) (reading_left m (w ++ p) o) (shifted_answer more r) last in
+    let Q : IdFound → Type 0 = λ f. Decides f (length w) (reading_left (suc (other_line_limit - (o + 1))) (w ++ p) o) (shifted_answer more r) last in
+    let R : IdReading → Type 0 = λ l. Decides (found_behind n (id_of (other_line_limit - (o + 1)) (drop more p))) (length w) l (shifted_answer more r) last in
     subst P (sym one) (subst Q (sym found) (subst R (sym left)
-    (decides_behind n more (length w) (id_of (other_line_limit - (o + 1)) (drop more p)) (left_of (other_line_limit - (o + 1)) (drop more p) (o + 1)) r last size h)))
+    (decides_behind n more (length w) (id_of (other_line_limit - (o + 1)) (drop more p)) (reading_left (other_line_limit - (o + 1)) (drop more p) (o + 1)) r last size h)))
 
-goes_other : (allow : Bool) (w p : List ℕ) (o more : ℕ) (mid new : IdReading) (r : Result IdProgress Error) (last : IdReading) (line : Line) → line_of (w ++ p) ≡ line → ReadsTo line (length w) (w ++ p) o (read.OtherLine more) mid → PassesOther allow mid true new → Feeds allow new (drop more p) r last → Feeds allow (Waiting w o) p (shifted more r) last
+goes_other : (allow : Bool) (w p : List ℕ) (o more : ℕ) (mid new : IdReading) (r : Result IdProgress Error) (last : IdReading) (line : Line) → line_of (w ++ p) ≡ line → ReadsTo line (length w) (w ++ p) o (read.OtherLine more) mid → PassesOther allow mid true new → Feeds allow new (drop more p) r last → Feeds allow (Waiting w o) p (shifted_answer more r) last
 goes_other allow w p o more mid new r last Unfinished e h f g = let q = h.0 in cc
 goes_other allow w p o more mid new r last (IdLine t n) e h f g = let q = h.0 in cc
 goes_other allow w p o more mid new r last TooLong e h f g = let q = h.0 in cc
@@ -191,12 +172,12 @@ goes_other true w p o more mid new r last (OtherLine n) e h f g =
     same_other : (m n : ℕ) → read.OtherLine m ≡ read.OtherLine n → m ≡ n
     same_other m n h = cc
 
-pub one_more : (allow : Bool) (now mid new : IdReading) (p : List ℕ) (more : ℕ) (r : Result IdProgress Error) (last : IdReading) → ReadsLine now p (read.OtherLine more) mid → PassesOther allow mid true new → Feeds allow new (drop more p) r last → Feeds allow now p (shifted more r) last
+pub one_more : (allow : Bool) (now mid new : IdReading) (p : List ℕ) (more : ℕ) (r : Result IdProgress Error) (last : IdReading) → ReadsLine now p (read.OtherLine more) mid → PassesOther allow mid true new → Feeds allow new (drop more p) r last → Feeds allow now p (shifted_answer more r) last
 one_more allow (Waiting w o) mid new p more r last h f g = goes_other allow w p o more mid new r last (line_of (w ++ p)) refl h f g
 one_more allow (Heard t) mid new p more r last h f g = let q = h.0 in cc
 one_more allow Failed mid new p more r last h f g = let q = h.0 in cc
 
-pub shifted_twice : (m n : ℕ) (r : Result IdProgress Error) → shifted m (shifted n r) ≡ shifted (m + n) r
+pub shifted_twice : (m n : ℕ) (r : Result IdProgress Error) → shifted_answer m (shifted_answer n r) ≡ shifted_answer (m + n) r
 shifted_twice m n (Ok progress.NotYet) = refl
 shifted_twice m n (Ok (progress.Id k)) = let same : m + (n + k) ≡ m + n + k = omega arith in ap (λ x. Ok (progress.Id x)) same
 shifted_twice m n (Err e) = refl
@@ -206,9 +187,9 @@ goes_further allow old now mid new piece used more before h f = λ r last g.
     let P : List ℕ → Type 0 = λ l. Feeds allow new l r last in
     let Q : Result IdProgress Error → Type 0 = λ x. Feeds allow old piece x last in
     subst Q (shifted_twice used more r)
-    (before (shifted more r) last (one_more allow now mid new (drop used piece) more r last h f (subst P (sym (drop-drop more used piece)) g)))
+    (before (shifted_answer more r) last (one_more allow now mid new (drop used piece) more r last h f (subst P (sym (drop-drop more used piece)) g)))
 
-pub shifted_none : (r : Result IdProgress Error) → shifted 0 r ≡ r
+pub shifted_none : (r : Result IdProgress Error) → shifted_answer 0 r ≡ r
 shifted_none (Ok progress.NotYet) = refl
 shifted_none (Ok (progress.Id k)) = let same : 0 + k ≡ k = omega arith in ap (λ x. Ok (progress.Id x)) same
 shifted_none (Err e) = refl

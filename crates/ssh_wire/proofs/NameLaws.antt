@@ -13,40 +13,40 @@ use Rattle.std.proofs.lemmas.List.Sums.{fails_before_first, list_all-from_AllPas
 use Rattle.std.proofs.lemmas.List.Folds.{list_all-append}
 use Rattle.std.proofs.lemmas.Str.{IsUtf8-from_ascii, is_utf8-from_IsUtf8}
 use Rattle.std.proofs.lemmas.Str.Ascii.{IsAscii-nil, IsAscii-cons}
-use Rattle.ssh_wire.specs.Forms.{AreBytes, joined, string, name_list}
-use Rattle.ssh_wire.specs.Fields.{◌>>=◌, limited_at, answered, Gives, IsMadeInMemory}
-use Rattle.ssh_wire.specs.Names.{is_comma, is_name, fault_of, or_later, first_fault, unless_faulty, checked, names_of, without_last_comma, names_at, name_limit, name_list_limit, IsName, AreNames}
+use Rattle.ssh_wire.specs.Forms.{AreBytes, joined_names, string, name_list}
+use Rattle.ssh_wire.specs.Fields.{◌>>=◌, limited_at, answer_of, Gives, IsMadeInMemory}
+use Rattle.ssh_wire.specs.Names.{is_comma, is_name, fault_of, or_later, first_fault, unless_faulty, names_or_fault, names_of, without_last_comma, names_at, name_limit, name_list_limit, IsName, AreNames}
 use Rattle.ssh_wire.specs.Naming.{behind_comma, Spelled}
 use Rattle.ssh_wire.proofs.FieldLaws.{bind_ok, same_pair, limited_takes, limited_again}
 use Rattle.ssh_wire.specs.declared.error.EncodingFault.{EncodingFault}
 use Rattle.ssh_wire.specs.declared.error.Error.{Error}
 use Rattle.ssh_wire.specs.declared.error.Error.TheVariants.{Memory}
 
-joined_snoc : (x y : List ℕ) (xs : List (List ℕ)) → joined ((x ∷ xs) ++ y ∷ []) ≡ joined (x ∷ xs) ++ 44 ∷ y
+joined_snoc : (x y : List ℕ) (xs : List (List ℕ)) → joined_names ((x ∷ xs) ++ y ∷ []) ≡ joined_names (x ∷ xs) ++ 44 ∷ y
 joined_snoc x y [] = refl
-joined_snoc x y (z ∷ xs) = ap (λ l. x ++ 44 ∷ l) (joined_snoc z y xs) ∙ sym (append_assoc x (44 ∷ joined (z ∷ xs)) (44 ∷ y))
+joined_snoc x y (z ∷ xs) = ap (λ l. x ++ 44 ∷ l) (joined_snoc z y xs) ∙ sym (append_assoc x (44 ∷ joined_names (z ∷ xs)) (44 ∷ y))
 
 -- one name more
-pub joined_more : (xs : List (List ℕ)) (i : ℕ) (d : List ℕ) → i < length xs → joined (take (i + 1) xs) ≡ joined (take i xs) ++ behind_comma (nat_lt 0 i) (get_or xs i d)
+pub joined_more : (xs : List (List ℕ)) (i : ℕ) (d : List ℕ) → i < length xs → joined_names (take (i + 1) xs) ≡ joined_names (take i xs) ++ behind_comma (nat_lt 0 i) (get_or xs i d)
 joined_more [] i d h = absurd (omega arith)
 joined_more (x ∷ xs) zero d h = refl
 joined_more (x ∷ xs) (suc j) d h =
     let behind : nat_lt 0 (suc j) ≡ true = grind (arith, nat_tests) in
-    ap joined (take_at_read (x ∷ xs) (suc j) d h).1
+    ap joined_names (take_at_read (x ∷ xs) (suc j) d h).1
     ∙ (joined_snoc x (get_or (x ∷ xs) (suc j) d) (take j xs)
-    ∙ ap (λ t. joined (x ∷ take j xs) ++ behind_comma t (get_or (x ∷ xs) (suc j) d)) (sym behind))
+    ∙ ap (λ t. joined_names (x ∷ take j xs) ++ behind_comma t (get_or (x ∷ xs) (suc j) d)) (sym behind))
 
 -- a name behind those that were joined
-pub joined_text : (xs : List (List ℕ)) (i : ℕ) (d name front old new : List ℕ) → i < length xs → name ≡ get_or xs i d → old ≡ front ++ joined (take i xs) → new ≡ old ++ behind_comma (nat_lt 0 i) name → new ≡ front ++ joined (take (i + 1) xs)
+pub joined_text : (xs : List (List ℕ)) (i : ℕ) (d name front old new : List ℕ) → i < length xs → name ≡ get_or xs i d → old ≡ front ++ joined_names (take i xs) → new ≡ old ++ behind_comma (nat_lt 0 i) name → new ≡ front ++ joined_names (take (i + 1) xs)
 joined_text xs i d name front old new h n o e =
     e ∙ (ap (λ l. l ++ behind_comma (nat_lt 0 i) name) o
-    ∙ (append_assoc front (joined (take i xs)) (behind_comma (nat_lt 0 i) name)
-    ∙ ap (λ l. front ++ l) (ap (λ m. joined (take i xs) ++ behind_comma (nat_lt 0 i) m) n ∙ sym (joined_more xs i d h))))
+    ∙ (append_assoc front (joined_names (take i xs)) (behind_comma (nat_lt 0 i) name)
+    ∙ ap (λ l. front ++ l) (ap (λ m. joined_names (take i xs) ++ behind_comma (nat_lt 0 i) m) n ∙ sym (joined_more xs i d h))))
 
-pub joined_size : (xs : List (List ℕ)) (i : ℕ) (d name : List ℕ) (size more : ℕ) → i < length xs → name ≡ get_or xs i d → size ≡ length (joined (take i xs)) → more ≡ length (behind_comma (nat_lt 0 i) name) → size + more ≡ length (joined (take (i + 1) xs))
+pub joined_size : (xs : List (List ℕ)) (i : ℕ) (d name : List ℕ) (size more : ℕ) → i < length xs → name ≡ get_or xs i d → size ≡ length (joined_names (take i xs)) → more ≡ length (behind_comma (nat_lt 0 i) name) → size + more ≡ length (joined_names (take (i + 1) xs))
 joined_size xs i d name size more h n s m =
-    let shown : joined (take i xs) ++ behind_comma (nat_lt 0 i) name ≡ joined (take (i + 1) xs) = ap (λ x. joined (take i xs) ++ behind_comma (nat_lt 0 i) x) n ∙ sym (joined_more xs i d h) in
-    let sum : length (joined (take i xs)) + length (behind_comma (nat_lt 0 i) name) ≡ length (joined (take (i + 1) xs)) = sym (length-append (joined (take i xs)) (behind_comma (nat_lt 0 i) name)) ∙ ap length shown in
+    let shown : joined_names (take i xs) ++ behind_comma (nat_lt 0 i) name ≡ joined_names (take (i + 1) xs) = ap (λ x. joined_names (take i xs) ++ behind_comma (nat_lt 0 i) x) n ∙ sym (joined_more xs i d h) in
+    let sum : length (joined_names (take i xs)) + length (behind_comma (nat_lt 0 i) name) ≡ length (joined_names (take (i + 1) xs)) = sym (length-append (joined_names (take i xs)) (behind_comma (nat_lt 0 i) name)) ∙ ap length shown in
     omega arith
 
 take_nothing : (i : ℕ) → take {A = List ℕ} i [] ≡ []
@@ -54,14 +54,14 @@ take_nothing zero = refl
 take_nothing (suc i) = refl
 
 -- fewer names are no longer
-pub joined_front : (xs : List (List ℕ)) (i : ℕ) → length (joined (take i xs)) ≤ length (joined xs)
+pub joined_front : (xs : List (List ℕ)) (i : ℕ) → length (joined_names (take i xs)) ≤ length (joined_names xs)
 joined_front xs zero = omega arith
 joined_front [] (suc i) = omega arith
 joined_front (x ∷ []) (suc i) = rw (take_nothing i) (omega arith)
-joined_front (x ∷ y ∷ xs) (suc zero) = omega (arith, length-append x (44 ∷ joined (y ∷ xs)))
+joined_front (x ∷ y ∷ xs) (suc zero) = omega (arith, length-append x (44 ∷ joined_names (y ∷ xs)))
 joined_front (x ∷ y ∷ xs) (suc (suc i)) =
     let behind = joined_front (y ∷ xs) (suc i) in
-    omega (arith, length-append x (44 ∷ joined (y ∷ take i xs)), length-append x (44 ∷ joined (y ∷ xs)))
+    omega (arith, length-append x (44 ∷ joined_names (y ∷ take i xs)), length-append x (44 ∷ joined_names (y ∷ xs)))
 
 -- the parts of a text, from its first comma
 first_none : (text : List ℕ) → length text ≤ position_or_len is_comma text → slice_split is_comma text ≡ text ∷ []
@@ -99,7 +99,7 @@ name_utf8 name h =
     let both = and_parts (nat_lt 0 (length name)) (list_all (λ b. nat_lt b 128) name) h in
     is_utf8-from_IsUtf8 name (IsUtf8-from_ascii name (ascii_from_all name both.1))
 
-pub names_of_some : (text : List ℕ) → 0 < length text → names_of text ≡ checked (slice_split is_comma (without_last_comma text))
+pub names_of_some : (text : List ℕ) → 0 < length text → names_of text ≡ names_or_fault (slice_split is_comma (without_last_comma text))
 names_of_some [] h = absurd (omega arith)
 names_of_some (b ∷ text) h = refl
 
@@ -107,11 +107,11 @@ names_of_some (b ∷ text) h = refl
 no_last_comma : (text : List ℕ) → is_comma (slice_index text (length text - 1)) ≡ false → without_last_comma text ≡ text
 no_last_comma text h = ap (λ t. if t then take (length text - 1) text else text) (and_right (nat_lt 1 (length text)) (is_comma (slice_index text (length text - 1))) h)
 
-joined_some : (name : List ℕ) (names : List (List ℕ)) → 0 < length name → 0 < length (joined (name ∷ names))
+joined_some : (name : List ℕ) (names : List (List ℕ)) → 0 < length name → 0 < length (joined_names (name ∷ names))
 joined_some name [] h = h
-joined_some name (y ∷ names) h = omega (arith, length-append name (44 ∷ joined (y ∷ names)))
+joined_some name (y ∷ names) h = omega (arith, length-append name (44 ∷ joined_names (y ∷ names)))
 
-ends_clear : (name : List ℕ) (names : List (List ℕ)) → All IsName (name ∷ names) → is_comma (slice_index (joined (name ∷ names)) (length (joined (name ∷ names)) - 1)) ≡ false
+ends_clear : (name : List ℕ) (names : List (List ℕ)) → All IsName (name ∷ names) → is_comma (slice_index (joined_names (name ∷ names)) (length (joined_names (name ∷ names)) - 1)) ≡ false
 ends_clear name [] each =
     let is : IsName name = All-head IsName name [] each in
     let some : 0 < length name = is.some in
@@ -119,18 +119,18 @@ ends_clear name [] each =
 ends_clear name (y ∷ names) each =
     let tail : All IsName (y ∷ names) = All-tail IsName name (y ∷ names) each in
     let is : IsName y = All-head IsName y names tail in
-    let some : 0 < length (joined (y ∷ names)) = joined_some y names is.some in
-    let size : length (name ++ 44 ∷ joined (y ∷ names)) - 1 ≡ length name + length (joined (y ∷ names)) = omega (arith, length-append name (44 ∷ joined (y ∷ names))) in
-    let at : get_or (name ++ 44 ∷ joined (y ∷ names)) (length name + length (joined (y ∷ names))) 0 ≡ get_or (44 ∷ joined (y ∷ names)) (length name + length (joined (y ∷ names)) - length name) 0 = get_or-append_right name (44 ∷ joined (y ∷ names)) (length name) _ 0 refl (omega arith) in
-    let place : length name + length (joined (y ∷ names)) - length name ≡ suc (length (joined (y ∷ names)) - 1) = omega arith in
-    ap (λ n. is_comma (get_or (name ++ 44 ∷ joined (y ∷ names)) n 0)) size
-    ∙ (ap is_comma at ∙ (ap (λ n. is_comma (get_or (44 ∷ joined (y ∷ names)) n 0)) place ∙ ends_clear y names tail))
+    let some : 0 < length (joined_names (y ∷ names)) = joined_some y names is.some in
+    let size : length (name ++ 44 ∷ joined_names (y ∷ names)) - 1 ≡ length name + length (joined_names (y ∷ names)) = omega (arith, length-append name (44 ∷ joined_names (y ∷ names))) in
+    let at : get_or (name ++ 44 ∷ joined_names (y ∷ names)) (length name + length (joined_names (y ∷ names))) 0 ≡ get_or (44 ∷ joined_names (y ∷ names)) (length name + length (joined_names (y ∷ names)) - length name) 0 = get_or-append_right name (44 ∷ joined_names (y ∷ names)) (length name) _ 0 refl (omega arith) in
+    let place : length name + length (joined_names (y ∷ names)) - length name ≡ suc (length (joined_names (y ∷ names)) - 1) = omega arith in
+    ap (λ n. is_comma (get_or (name ++ 44 ∷ joined_names (y ∷ names)) n 0)) size
+    ∙ (ap is_comma at ∙ (ap (λ n. is_comma (get_or (44 ∷ joined_names (y ∷ names)) n 0)) place ∙ ends_clear y names tail))
 
-split_joined : (name : List ℕ) (names : List (List ℕ)) → All IsName (name ∷ names) → slice_split is_comma (joined (name ∷ names)) ≡ name ∷ names
+split_joined : (name : List ℕ) (names : List (List ℕ)) → All IsName (name ∷ names) → slice_split is_comma (joined_names (name ∷ names)) ≡ name ∷ names
 split_joined name [] each = let is : IsName name = All-head IsName name [] each in slice_split_none is_comma name is.no_comma
 split_joined name (y ∷ names) each =
     let is : IsName name = All-head IsName name (y ∷ names) each in
-    slice_split_at is_comma name 44 (joined (y ∷ names)) is.no_comma refl ∙ ap (λ l. name ∷ l) (split_joined y names (All-tail IsName name (y ∷ names) each))
+    slice_split_at is_comma name 44 (joined_names (y ∷ names)) is.no_comma refl ∙ ap (λ l. name ∷ l) (split_joined y names (All-tail IsName name (y ∷ names) each))
 
 name_passes : (before : ℕ) (name : List ℕ) → IsName name → before < name_limit → fault_of before name ≡ None
 name_passes before name is below =
@@ -146,14 +146,14 @@ no_faults before (name ∷ names) each fits =
     ap (λ f. or_later f (first_fault (before + 1) names)) (name_passes before name (All-head IsName name names each) (omega arith))
     ∙ no_faults (before + 1) names (All-tail IsName name names each) (omega arith)
 
-pub joined_read : (names : List (List ℕ)) → AreNames names → names_of (joined names) ≡ Ok names
+pub joined_read : (names : List (List ℕ)) → AreNames names → names_of (joined_names names) ≡ Ok names
 joined_read [] are = refl
 joined_read (name ∷ names) are =
     let is : IsName name = All-head IsName name names are.each in
     let none : first_fault 0 (name ∷ names) ≡ None = no_faults 0 (name ∷ names) are.each (let most = are.count in omega arith) in
-    names_of_some (joined (name ∷ names)) (joined_some name names is.some)
-    ∙ (ap (λ t. checked (slice_split is_comma t)) (no_last_comma (joined (name ∷ names)) (ends_clear name names are.each))
-    ∙ (ap checked (split_joined name names are.each)
+    names_of_some (joined_names (name ∷ names)) (joined_some name names is.some)
+    ∙ (ap (λ t. names_or_fault (slice_split is_comma t)) (no_last_comma (joined_names (name ∷ names)) (ends_clear name names are.each))
+    ∙ (ap names_or_fault (split_joined name names are.each)
     ∙ ap (λ f. unless_faulty f (name ∷ names)) none))
 
 -- what was read is spelled so
@@ -161,17 +161,17 @@ checked_is : (all names : List (List ℕ)) (f : Option EncodingFault) → unless
 checked_is all names None h = cc
 checked_is all names (Some f) h = cc
 
-pub read_spelled : (text : List ℕ) (names : List (List ℕ)) → names_of text ≡ Ok names → joined names ≡ without_last_comma text
+pub read_spelled : (text : List ℕ) (names : List (List ℕ)) → names_of text ≡ Ok names → joined_names names ≡ without_last_comma text
 read_spelled [] [] h = refl
 read_spelled [] (n ∷ names) h = cc
 read_spelled (b ∷ text) names h =
     let same : slice_split is_comma (without_last_comma (b ∷ text)) ≡ names = checked_is _ names (first_fault 0 (slice_split is_comma (without_last_comma (b ∷ text)))) h in
-    ap joined (sym same) ∙ join_with_byte-slice_split 44 (without_last_comma (b ∷ text))
+    ap joined_names (sym same) ∙ join_with_byte-slice_split 44 (without_last_comma (b ∷ text))
 
-pub only_memory : {Y : Type 0} (read : Result Y EncodingFault) (e : Error) (y : Y) → ((e ≡ Memory) ⊎ (answered read ≡ Err e)) → read ≡ Ok y → e ≡ Memory
+pub only_memory : {Y : Type 0} (read : Result Y EncodingFault) (e : Error) (y : Y) → ((e ≡ Memory) ⊎ (answer_of read ≡ Err e)) → read ≡ Ok y → e ≡ Memory
 only_memory read e y h k = elim h [
   | inl m ↦ m
-  | inr q ↦ absurd (differ y e (sym (ap answered k) ∙ q))
+  | inr q ↦ absurd (differ y e (sym (ap answer_of k) ∙ q))
 ]
   where
     differ : {A B : Type 0} (y : A) (d : B) → Ok y ≡ Err d → ⊥
@@ -181,8 +181,8 @@ pub made_again : {X Y : Type 0} (view : X → Y) (read : Result Y EncodingFault)
 made_again view read (Ok x) y h e = let same : Ok (view x) ≡ Ok y = sym h ∙ e in cc
 made_again view read (Err d) y h e = only_memory read d y h e
 
--- the list at the front of bytes
-joined_ascii : (names : List (List ℕ)) → All IsName names → list_all (λ b. nat_lt b 128) (joined names) ≡ true
+-- names that were joined are ASCII
+joined_ascii : (names : List (List ℕ)) → All IsName names → list_all (λ b. nat_lt b 128) (joined_names names) ≡ true
 joined_ascii [] each = refl
 joined_ascii (name ∷ []) each =
     let is : IsName name = All-head IsName name [] each in
@@ -191,13 +191,17 @@ joined_ascii (name ∷ y ∷ names) each =
     let is : IsName name = All-head IsName name (y ∷ names) each in
     let first = list_all-from_AllPass (λ b. nat_lt b 128) name is.ascii in
     let behind = joined_ascii (y ∷ names) (All-tail IsName name (y ∷ names) each) in
-    list_all-append (λ b. nat_lt b 128) name (44 ∷ joined (y ∷ names)) ∙ rw (first, behind) refl
+    list_all-append (λ b. nat_lt b 128) name (44 ∷ joined_names (y ∷ names)) ∙ rw (first, behind) refl
 
-pub names_again : (names : List (List ℕ)) (rest : List ℕ) → AreNames names → length (joined names) ≤ name_list_limit → names_at (name_list names ++ rest) ≡ Ok (names, rest)
+-- names that were joined are UTF-8
+pub joined_utf8 : (names : List (List ℕ)) → AreNames names → is_utf8 (joined_names names) ≡ true
+joined_utf8 names are = is_utf8-from_IsUtf8 (joined_names names) (IsUtf8-from_ascii (joined_names names) (ascii_from_all (joined_names names) (joined_ascii names are.each)))
+
+-- the list at the front of bytes
+pub names_again : (names : List (List ℕ)) (rest : List ℕ) → AreNames names → length (joined_names names) ≤ name_list_limit → names_at (name_list names ++ rest) ≡ Ok (names, rest)
 unfolding names_at
 names_again names rest are short =
-    let utf8 : is_utf8 (joined names) ≡ true = is_utf8-from_IsUtf8 (joined names) (IsUtf8-from_ascii (joined names) (ascii_from_all (joined names) (joined_ascii names are.each))) in
-    ap (λ r. r >>= (λ text. names_of text.0 >>= (λ l. Ok (l, text.1)))) (limited_again name_list_limit (joined names) rest (omega arith) short utf8)
+    ap (λ r. r >>= (λ text. names_of text.0 >>= (λ l. Ok (l, text.1)))) (limited_again name_list_limit (joined_names names) rest (omega arith) short (joined_utf8 names are))
     ∙ ap (λ r. r >>= (λ l. Ok (l, rest))) (joined_read names are)
 
 pub names_taken : (bytes rest : List ℕ) (names : List (List ℕ)) → AreBytes bytes → names_at bytes ≡ Ok (names, rest) → Spelled names bytes rest

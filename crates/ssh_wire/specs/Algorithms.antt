@@ -24,8 +24,8 @@ abbrev pub algorithms : List Algorithm
 algorithms = Ed25519 ∷ (Ecdsa NistP256) ∷ (Ecdsa NistP384) ∷ (Ecdsa NistP521) ∷ (Rsa (Some Sha512)) ∷ (Rsa (Some Sha256)) ∷ (Rsa None) ∷ []
 
 -- the one algorithm that has the name
-abbrev pub named : (Algorithm → List ℕ) → List ℕ → Option Algorithm
-named name text = find (λ a. bytes_eq (name a) text) algorithms
+abbrev pub algorithm_named : (Algorithm → List ℕ) → List ℕ → Option Algorithm
+algorithm_named name text = find (λ a. bytes_eq (name a) text) algorithms
 
 abbrev pub hash_of : Algorithm → Option HashAlg
 hash_of Ed25519 = None
@@ -37,8 +37,8 @@ with_hash hash Ed25519 = Ed25519
 with_hash hash (Ecdsa curve) = Ecdsa curve
 with_hash hash (Rsa old) = Rsa hash
 
-named-example : named algorithm_name (codes "rsa-sha2-512") ≡ Some (Rsa (Some Sha512))
+named-example : algorithm_named algorithm_name (codes "rsa-sha2-512") ≡ Some (Rsa (Some Sha512))
 named-example = refl
 
-certificate-example : named certificate_name (codes "ssh-rsa-cert-v01@openssh.com") ≡ Some (Rsa None)
+certificate-example : algorithm_named certificate_name (codes "ssh-rsa-cert-v01@openssh.com") ≡ Some (Rsa None)
 certificate-example = refl

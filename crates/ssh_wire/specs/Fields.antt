@@ -46,19 +46,19 @@ unfoldable pub mpint_at : List ℕ → Result (List ℕ × List ℕ) EncodingFau
 mpint_at bytes = string_at bytes >>= λ s. if is_shortest s.0 then Ok (magnitude s.0, s.1) else Err MpintEncoding
 
 -- a form that was found, its value seen by `view`, and the bytes behind it
-abbrev pub Finds : {X Y R : Type 0} → (X → Y) → (R → List ℕ) → Result (Y × List ℕ) EncodingFault → Result (X × R) EncodingFault → Type 0
-Finds view bytes read (Ok x) = read ≡ Ok (view x.0, bytes x.1)
-Finds view bytes read (Err e) = read ≡ Err e
+abbrev pub FindsForm : {X Y R : Type 0} → (X → Y) → (R → List ℕ) → Result (Y × List ℕ) EncodingFault → Result (X × R) EncodingFault → Type 0
+FindsForm view bytes read (Ok x) = read ≡ Ok (view x.0, bytes x.1)
+FindsForm view bytes read (Err e) = read ≡ Err e
 
 -- a fault as it is answered
-abbrev pub answered : {Y : Type 0} → Result Y EncodingFault → Result Y Error
-answered (Ok y) = Ok y
-answered (Err f) = Err (SshEncoding f)
+abbrev pub answer_of : {Y : Type 0} → Result Y EncodingFault → Result Y Error
+answer_of (Ok y) = Ok y
+answer_of (Err f) = Err (SshEncoding f)
 
 -- what was made of a text, its value seen by `view`, unless memory is wanting
 abbrev pub Gives : {X Y : Type 0} → (X → Y) → Result Y EncodingFault → Result X Error → Type 0
 Gives view read (Ok x) = read ≡ Ok (view x)
-Gives view read (Err e) = (e ≡ Memory) ⊎ (answered read ≡ Err e)
+Gives view read (Err e) = (e ≡ Memory) ⊎ (answer_of read ≡ Err e)
 
 -- what is made where memory isn't wanting
 abbrev pub IsMadeInMemory : {X Y : Type 0} → (X → Y) → Y → Result X Error → Type 0
@@ -66,14 +66,14 @@ IsMadeInMemory view y (Ok x) = view x ≡ y
 IsMadeInMemory view y (Err e) = e ≡ Memory
 
 -- A read at the front of `old`, its value seen by `view`. A refusal takes nothing.
-abbrev pub Takes : {X Y : Type 0} → (X → Y) → Result (Y × List ℕ) EncodingFault → List ℕ → Result X Error → List ℕ → Type 0
-Takes view read old (Ok x) new = read ≡ Ok (view x, new)
-Takes view read old (Err e) new = (answered read ≡ Err e) × (new ≡ old)
+abbrev pub TakesForm : {X Y : Type 0} → (X → Y) → Result (Y × List ℕ) EncodingFault → List ℕ → Result X Error → List ℕ → Type 0
+TakesForm view read old (Ok x) new = read ≡ Ok (view x, new)
+TakesForm view read old (Err e) new = (answer_of read ≡ Err e) × (new ≡ old)
 
 -- the same of a read that takes memory
-abbrev pub TakesInMemory : {X Y : Type 0} → (X → Y) → Result (Y × List ℕ) EncodingFault → List ℕ → Result X Error → List ℕ → Type 0
-TakesInMemory view read old (Ok x) new = read ≡ Ok (view x, new)
-TakesInMemory view read old (Err e) new = ((e ≡ Memory) ⊎ (answered read ≡ Err e)) × (new ≡ old)
+abbrev pub TakesFormInMemory : {X Y : Type 0} → (X → Y) → Result (Y × List ℕ) EncodingFault → List ℕ → Result X Error → List ℕ → Type 0
+TakesFormInMemory view read old (Ok x) new = read ≡ Ok (view x, new)
+TakesFormInMemory view read old (Err e) new = ((e ≡ Memory) ⊎ (answer_of read ≡ Err e)) × (new ≡ old)
 
 -- what was read where this value stood before these bytes
 abbrev pub IsRead : {X Y : Type 0} → (X → Y) → Y → List ℕ → Result X Error → List ℕ → Type 0

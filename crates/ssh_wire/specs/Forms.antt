@@ -34,12 +34,12 @@ abbrev pub mpint : List ℕ → List ℕ
 mpint bytes = string (unsigned (magnitude bytes))
 
 -- the names joined by commas
-abbrev pub joined : List (List ℕ) → List ℕ
-joined names = join_with_byte 44 names
+abbrev pub joined_names : List (List ℕ) → List ℕ
+joined_names names = join_with_byte 44 names
 
 -- name-list: a string of names joined by commas
 abbrev pub name_list : List (List ℕ) → List ℕ
-name_list names = string (joined names)
+name_list names = string (joined_names names)
 
 u32be-example : u32be 699921578 ≡ 0x29 ∷ 0xb7 ∷ 0xf4 ∷ 0xaa ∷ []
 u32be-example = refl

@@ -1,55 +1,81 @@
 -- Reading a version line from a source of bytes.
-use Rattle.std.specs.Prelude.{◌≡◌, ℕ, ◌+◌, ◌*◌, ◌-◌, ◌==◌, if◌then◌else◌, Bool, List, [], ◌++◌, length, drop, Option, Some, Result, Ok, Err, ◌⊎◌}
-use Rattle.ssh_wire.specs.Lines.{other_line_limit, id_of, Id}
-use Rattle.ssh_wire.specs.Outside.{Rose, IsAtEnd, TakesNext}
-use Rattle.ssh_wire.specs.Reading.{IdReading, Waiting, Heard, Failed, still_allowed, Feeds}
-use Rattle.ssh_wire.specs.Stepping.{shifted}
+use Rattle.std.specs.Prelude.{◌≡◌, ℕ, ◌+◌, ◌*◌, ◌-◌, ◌≤◌, Bool, true, List, [], ◌++◌, length, drop, Option, Some, IfSome, Result, Ok, Err, OnOk, OnErr, IfErr}
+use Rattle.std.specs.Borrow.{Bor}
+use Rattle.ssh_wire.specs.Lines.{longest_line, id_of, Id}
+use Rattle.ssh_wire.specs.Outside.{Rose, IsAtEnd, TakesNext, TakesFront}
+use Rattle.ssh_wire.specs.Reading.{IdReading, Waiting, Heard, Failed, still_allowed, Feeds, waiting_length, waits, end_answer, text_heard}
+use Rattle.ssh_wire.specs.Stepping.{shifted_answer}
 use Rattle.ssh_wire.specs.declared.error.Error.{Error}
 use Rattle.ssh_wire.specs.declared.error.Error.TheVariants as error
+use Rattle.ssh_wire.specs.declared.error.IdError.{IdError}
+use Rattle.ssh_wire.specs.declared.error.IdError.TheVariants.{Version, Disconnect, IO}
 use Rattle.ssh_wire.specs.declared.read_id.IdProgress.{IdProgress}
 use Rattle.ssh_wire.specs.declared.read_id.IdProgress.TheVariants as progress
 
--- what was taken from a source, whose bytes were told
-pub record Took (bytes : List ℕ) (left : Option (List ℕ)) (taken : List ℕ) (rest : List ℕ) : Type 0 where
-  pub whole : bytes ≡ taken ++ rest
-  pub told : left ≡ Some rest
+-- The most bytes that are taken until a line decides, with those that wait: as many other lines as may still come, and one line more, each of the greatest length.
+abbrev pub reading_room : Bool → IdReading → ℕ
+reading_room allow (Waiting bytes others) = longest_line * (still_allowed allow others + 1) - length bytes
+reading_room allow (Heard text) = 0
+reading_room allow Failed = 0
 
--- An id line was found: these bytes were taken behind it. All bytes decide so, however much of them was taken.
-pub record Finds (allow : Bool) (old : IdReading) (bytes : List ℕ) (left : Option (List ℕ)) (new : IdReading) (behind : List ℕ) : Type 0 where
-  pub taken : List ℕ
-  pub rest : List ℕ
+-- these bytes were taken of a source whose bytes were told, and decide nothing
+pub record TakesUndecided (allow : Bool) (old : IdReading) (bytes : List ℕ) (left : Option (List ℕ)) (taken : List ℕ) (now : IdReading) : Type 0 where
+  pub took : TakesFront taken (Some bytes) left
+  pub undecided : Feeds allow old taken (Ok progress.NotYet) now
+  pub fits : length taken ≤ reading_room allow old
+
+-- The last piece that was taken decides, and what was taken before it decides nothing. The piece is no longer than what is left of the line in the making. All bytes decide the same, however much of them was taken.
+pub record DecidesByPiece (allow : Bool) (old : IdReading) (bytes : List ℕ) (left : Option (List ℕ)) (piece : List ℕ) (answer : Result IdProgress Error) (new : IdReading) : Type 0 where
+  pub before : List ℕ
+  pub mid : IdReading
+  pub took : TakesFront (before ++ piece) (Some bytes) left
+  pub undecided : Feeds allow old before (Ok progress.NotYet) mid
+  pub decided : Feeds allow mid piece answer new
+  pub all : Feeds allow old bytes (shifted_answer (length before) answer) new
+  pub line : waiting_length mid + length piece ≤ longest_line
+  pub fits : length (before ++ piece) ≤ reading_room allow old
+
+-- an id line was found: these bytes were taken behind it
+pub record FindsId (allow : Bool) (old : IdReading) (bytes : List ℕ) (left : Option (List ℕ)) (new : IdReading) (behind : List ℕ) : Type 0 where
+  pub piece : List ℕ
   pub used : ℕ
-  pub took : Took bytes left taken rest
-  pub all : Feeds allow old bytes (Ok (progress.Id used)) new
-  pub behind_is : behind ≡ drop used taken
+  pub decides : DecidesByPiece allow old bytes left piece (Ok (progress.Id used)) new
+  pub within : used ≤ length piece
+  pub behind_is : behind ≡ drop used piece
 
--- the source ended first: all its bytes decide nothing
-pub record Ends (allow : Bool) (old : IdReading) (bytes : List ℕ) (left : Option (List ℕ)) (new : IdReading) : Type 0 where
-  pub all : Feeds allow old bytes (Ok progress.NotYet) new
-  pub none : left ≡ Some []
+-- no id line came
+abbrev pub FindsNoId : Bool → IdReading → List ℕ → Option (List ℕ) → IdReading → Type 0
+FindsNoId allow old bytes left new = (piece : List ℕ) × DecidesByPiece allow old bytes left piece (Err error.Version) new
 
--- no id line came: all bytes decide so
-pub record Refuses (allow : Bool) (old : IdReading) (bytes : List ℕ) (left : Option (List ℕ)) (new : IdReading) : Type 0 where
-  pub taken : List ℕ
-  pub rest : List ℕ
-  pub took : Took bytes left taken rest
-  pub all : Feeds allow old bytes (Err error.Version) new
+-- the source ended first: all its bytes were taken, and decide nothing
+abbrev pub EndsFirst : Bool → IdReading → List ℕ → Option (List ℕ) → IdReading → Type 0
+EndsFirst allow old bytes left new = TakesUndecided allow old bytes left bytes new
 
 -- a fault came first: the bytes that were taken decide nothing
-pub record Stops (allow : Bool) (old : IdReading) (bytes : List ℕ) (left : Option (List ℕ)) (new : IdReading) : Type 0 where
-  pub taken : List ℕ
-  pub rest : List ℕ
-  pub took : Took bytes left taken rest
-  pub so_far : Feeds allow old taken (Ok progress.NotYet) new
+abbrev pub FailsFirst : Bool → IdReading → List ℕ → Option (List ℕ) → IdReading → Type 0
+FailsFirst allow old bytes left new = (taken : List ℕ) × TakesUndecided allow old bytes left taken new
 
--- Version, Disconnect or IO, each by its cause
-abbrev pub Fails : Bool → IdReading → List ℕ → Option (List ℕ) → ℕ → ℕ → Error → IdReading → Type 0
-Fails allow old bytes left before now e new =
-    ((e ≡ error.Version) × Refuses allow old bytes left new)
-    ⊎ ((e ≡ error.Disconnect) × Ends allow old bytes left new)
-    ⊎ ((e ≡ error.IO) × Rose before now × Stops allow old bytes left new)
+-- no id was read: each refusal by its cause
+abbrev pub GivesNoId : Bool → IdReading → List ℕ → Option (List ℕ) → IdError → IdReading → Type 0
+GivesNoId allow old bytes left Version new = FindsNoId allow old bytes left new
+GivesNoId allow old bytes left Disconnect new = EndsFirst allow old bytes left new
+GivesNoId allow old bytes left IO new = FailsFirst allow old bytes left new
 
--- one call of a reader that holds what it read behind an id line
+-- IO is answered where a fault was counted, and nothing else is
+abbrev pub CountsFault : {A : Type 0} → Result A IdError → ℕ → ℕ → Type 0
+CountsFault (Ok x) before now = now ≡ before
+CountsFault (Err Version) before now = now ≡ before
+CountsFault (Err Disconnect) before now = now ≡ before
+CountsFault (Err IO) before now = Rose before now
+
+-- where a reading stands after an answer
+abbrev pub StandsAfter : {A : Type 0} → Result A IdError → IdReading → Type 0
+StandsAfter (Ok x) now = end_answer now ≡ Ok tt
+StandsAfter (Err Version) now = now ≡ Failed
+StandsAfter (Err Disconnect) now = waits now ≡ true
+StandsAfter (Err IO) now = waits now ≡ true
+
+-- a source, how far its version line has come, and what was read behind the line
 pub record IdRead (R : Type 0) : Type 0 where
   pub source : R
   pub id : IdReading
@@ -61,11 +87,31 @@ WhileWaiting (Waiting bytes others) P = P
 WhileWaiting (Heard text) P = Unit {0}
 WhileWaiting Failed P = Unit {0}
 
+-- before an id
+abbrev pub UnlessHeard : IdReading → Type 0 → Type 0
+UnlessHeard (Waiting bytes others) P = P
+UnlessHeard (Heard text) P = Unit {0}
+UnlessHeard Failed P = P
+
 -- after an id or Version the same is answered, and nothing changes
-abbrev pub Repeats : {R : Type 0} → IdReading → IdRead R → Result (Unit {0}) Error → IdRead R → Type 0
-Repeats (Waiting bytes others) old result new = Unit {0}
-Repeats (Heard text) old result new = (result ≡ Ok tt) × (new ≡ old)
-Repeats Failed old result new = (result ≡ Err error.Version) × (new ≡ old)
+abbrev pub Repeats : {R : Type 0} → IdReading → IdRead R → Result (Unit {0}) IdError → IdRead R → Type 0
+Repeats (Waiting bytes others) old answer new = Unit {0}
+Repeats (Heard text) old answer new = (answer ≡ Ok tt) × (new ≡ old)
+Repeats Failed old answer new = (answer ≡ Err Version) × (new ≡ old)
+
+-- what a call answers that reads until a line decides, and what it leaves
+pub record Hears {R : Type 0} (left : R → Option (List ℕ)) (faults : R → ℕ) (allow : Bool) (old : IdRead R) (answer : Result (Unit {0}) IdError) (new : IdRead R) : Type 0 where
+  pub found : WhileWaiting old.id (IfSome (left old.source) (λ bytes. OnOk answer (FindsId allow old.id bytes (left new.source) new.id new.behind)))
+  pub refused : WhileWaiting old.id (IfSome (left old.source) (λ bytes. IfErr answer (λ e. GivesNoId allow old.id bytes (left new.source) e new.id)))
+  pub repeats : Repeats old.id old answer new
+  pub kept : OnErr answer (new.behind ≡ old.behind)
+  pub stands : StandsAfter answer new.id
+  pub fault : CountsFault answer (faults old.source) (faults new.source)
+
+-- the same, where the id's text is lent
+abbrev pub HearsText : {R : Type 0} → (R → Option (List ℕ)) → (R → ℕ) → Bool → IdRead R → Result (Bor (List ℕ)) IdError → IdRead R → Type 0
+HearsText left faults allow old (Ok text) new = Hears left faults allow old (Ok tt) new × (text.now ≡ text_heard new.id)
+HearsText left faults allow old (Err e) new = Hears left faults allow old (Err e) new
 
 -- the id's text in all bytes
 abbrev pub HasId : Bool → IdReading → List ℕ → List ℕ → Type 0
@@ -74,36 +120,13 @@ HasId allow (Heard before) bytes text = text ≡ before
 HasId allow Failed bytes text = ⊥
 
 -- No id: all bytes decide so, or decide nothing. A fault may come before that.
-abbrev pub RefusesId : Bool → IdReading → List ℕ → Error → Type 0
-RefusesId allow old bytes e =
-    ((e ≡ error.Version) × ((new : IdReading) × Feeds allow old bytes (Err error.Version) new))
-    ⊎ ((e ≡ error.Disconnect) × ((new : IdReading) × Feeds allow old bytes (Ok progress.NotYet) new))
-    ⊎ (e ≡ error.IO)
+abbrev pub RefusesId : Bool → IdReading → List ℕ → IdError → Type 0
+RefusesId allow old bytes Version = (new : IdReading) × Feeds allow old bytes (Err error.Version) new
+RefusesId allow old bytes Disconnect = (new : IdReading) × Feeds allow old bytes (Ok progress.NotYet) new
+RefusesId allow old bytes IO = Unit {0}
 
--- bytes taken into the front of a buffer, or the end, or a fault
-abbrev pub NoneTaken : List ℕ → Option (List ℕ) → Option (List ℕ) → ℕ → ℕ → Error → Type 0
-NoneTaken buffer left now before after e =
-    ((e ≡ error.Disconnect) × IsAtEnd left × TakesNext 0 buffer left now)
-    ⊎ ((e ≡ error.IO) × Rose before after × (now ≡ left))
-
--- what is answered of the bytes read so far, of which a piece waits in a buffer, is answered of all
-pub record SoFar (allow : Bool) (old : IdReading) (bytes : List ℕ) (left : Option (List ℕ)) (piece : List ℕ) (now : IdReading) : Type 0 where
-  pub fed : List ℕ
-  pub rest : List ℕ
-  pub whole : bytes ≡ fed ++ (piece ++ rest)
-  pub told : left ≡ Some rest
-  pub on : (r : Result IdProgress Error) (q : List ℕ) (last : IdReading) → Feeds allow now q r last → Feeds allow old (fed ++ q) (shifted (length fed) r) last
-
--- the bytes of lines that were read, each other line as long as it may be
-abbrev pub weight : IdReading → ℕ
-weight (Waiting bytes others) = 255 * others + length bytes
-weight (Heard text) = 0
-weight Failed = 0
-
--- the bytes that a reader may still take before it decides: one line more than the other lines
-abbrev pub room : IdReading → ℕ
-room now = 255 * (other_line_limit + 1) - weight now
-
--- how many turns may follow
-abbrev pub turns_left : IdReading → ℕ → ℕ
-turns_left now waiting = 2 * room now + (if waiting == 0 then 1 else 0)
+-- no bytes came into the front of a buffer: the end, or a fault
+abbrev pub TakesNone : List ℕ → Option (List ℕ) → Option (List ℕ) → IdError → Type 0
+TakesNone buffer left now Version = ⊥
+TakesNone buffer left now Disconnect = IsAtEnd left × TakesNext 0 buffer left now
+TakesNone buffer left now IO = now ≡ left

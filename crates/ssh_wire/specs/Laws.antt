@@ -1,10 +1,11 @@
 -- What is true of every version line, number and name list.
-use Rattle.std.specs.Prelude.{◌≡◌, ℕ, ◌<◌, List, ◌++◌, length, take, Bool, Result, Ok}
-use Rattle.ssh_wire.specs.Forms.{AreBytes, number, magnitude, unsigned, mpint, joined}
+use Rattle.std.specs.Prelude.{◌≡◌, ℕ, ◌<◌, List, ◌++◌, length, take, Bool, true, Result, Ok}
+use Rattle.std.specs.Str.{is_utf8}
+use Rattle.ssh_wire.specs.Forms.{AreBytes, number, magnitude, unsigned, mpint, joined_names}
 use Rattle.ssh_wire.specs.Names.{names_of, AreNames, without_last_comma}
 use Rattle.ssh_wire.specs.Lines.{id_of, NotYet, Id}
 use Rattle.ssh_wire.specs.Reading.{IdReading, Feeds}
-use Rattle.ssh_wire.specs.Stepping.{shifted}
+use Rattle.ssh_wire.specs.Stepping.{shifted_answer}
 use Rattle.ssh_wire.specs.declared.error.Error.{Error}
 use Rattle.ssh_wire.specs.declared.read_id.IdProgress.{IdProgress}
 use Rattle.ssh_wire.specs.declared.read_id.IdProgress.TheVariants as progress
@@ -19,7 +20,7 @@ LessThanALine = (line text : List ℕ) (n : ℕ) → id_of 0 line ≡ Id text (l
 
 -- two pieces, of which the first decides nothing, are read as one
 abbrev pub FedTwice : Type 0
-FedTwice = (allow : Bool) (old mid new : IdReading) (p q : List ℕ) (r : Result IdProgress Error) → Feeds allow old p (Ok progress.NotYet) mid → Feeds allow mid q r new → Feeds allow old (p ++ q) (shifted (length p) r) new
+FedTwice = (allow : Bool) (old mid new : IdReading) (p q : List ℕ) (r : Result IdProgress Error) → Feeds allow old p (Ok progress.NotYet) mid → Feeds allow mid q r new → Feeds allow old (p ++ q) (shifted_answer (length p) r) new
 
 -- a piece that decides is read the same with bytes behind it
 abbrev pub FedMore : Type 0
@@ -39,8 +40,12 @@ EqualMpints = (s t : List ℕ) → mpint s ≡ mpint t → number s ≡ number t
 
 -- names that were joined are read again
 abbrev pub JoinedRead : Type 0
-JoinedRead = (names : List (List ℕ)) → AreNames names → names_of (joined names) ≡ Ok names
+JoinedRead = (names : List (List ℕ)) → AreNames names → names_of (joined_names names) ≡ Ok names
 
 -- names that were read are the text, but for one comma at its end
 abbrev pub ReadSpelled : Type 0
-ReadSpelled = (text : List ℕ) (names : List (List ℕ)) → names_of text ≡ Ok names → joined names ≡ without_last_comma text
+ReadSpelled = (text : List ℕ) (names : List (List ℕ)) → names_of text ≡ Ok names → joined_names names ≡ without_last_comma text
+
+-- names that were joined are UTF-8
+abbrev pub JoinedUtf8 : Type 0
+JoinedUtf8 = (names : List (List ℕ)) → AreNames names → is_utf8 (joined_names names) ≡ true

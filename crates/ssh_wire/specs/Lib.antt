@@ -7,6 +7,8 @@ pub mod Reading
 pub mod Stage
 pub mod Stepping
 pub mod FromSource
+pub mod IdErrors
+pub mod ErrorTexts
 pub mod Outside
 pub mod Sides
 pub mod Laws

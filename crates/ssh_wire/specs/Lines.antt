@@ -19,19 +19,19 @@ abbrev pub is_line_end : ℕ → Bool
 is_line_end b = (b == 13) || (b == 10)
 
 -- a byte before the rest of a text whose end is trimmed
-abbrev pub before_trimmed : ℕ → List ℕ → List ℕ
-before_trimmed b [] = if is_line_end b then [] else b ∷ []
-before_trimmed b (c ∷ rest) = b ∷ c ∷ rest
+abbrev pub before_trimmed_rest : ℕ → List ℕ → List ℕ
+before_trimmed_rest b [] = if is_line_end b then [] else b ∷ []
+before_trimmed_rest b (c ∷ rest) = b ∷ c ∷ rest
 
 -- a text without all CR and LF at its end
-abbrev pub trimmed : List ℕ → List ℕ
-trimmed [] = []
-trimmed (b ∷ rest) = before_trimmed b (trimmed rest)
+abbrev pub without_line_ends : List ℕ → List ℕ
+without_line_ends [] = []
+without_line_ends (b ∷ rest) = before_trimmed_rest b (without_line_ends rest)
 
 -- the text that the exchange hash takes (RFC 4253 section 8)
 abbrev pub id_text : SshId → List ℕ
 id_text (Standard text) = text
-id_text (Raw text) = trimmed text
+id_text (Raw text) = without_line_ends text
 
 -- behind the first LF of bytes that stand from place `at` on
 abbrev pub lf_end : ℕ → List ℕ → Option ℕ
@@ -55,29 +55,9 @@ line_text line = without_cr (take (length line - 1) line)
 abbrev pub is_id_text : List ℕ → Bool
 is_id_text text = (starts_with nat_eq text (codes "SSH-2.0-") || starts_with nat_eq text (codes "SSH-1.99-")) && is_utf8 text
 
--- what bytes begin with: an id line's text and its length with what stands before it; less than that; or neither
-pub data IdFound : Type 0 where
-  NotYet : IdFound
-  Id : (text : List ℕ) (end : ℕ) → IdFound
-  Version : IdFound
-
-abbrev pub behind : ℕ → IdFound → IdFound
-behind n NotYet = NotYet
-behind n (Id text end) = Id text (n + end)
-behind n Version = Version
-
--- the first line judged, by its end; what an other line of n bytes leads to is `other n`
-abbrev pub judged : List ℕ → (ℕ → IdFound) → Option ℕ → IdFound
-judged bytes other None = if nat_le 255 (length bytes) then Version else NotYet
-judged bytes other (Some n) =
-    if nat_lt 255 n then Version
-    else if is_id_text (line_text (take n bytes)) then Id (line_text (take n bytes)) n
-    else other n
-
--- what the bytes begin with, where so many other lines may stand before the id line
-abbrev pub id_of : ℕ → List ℕ → IdFound
-id_of zero bytes = judged bytes (λ n. Version) (line_end bytes)
-id_of (suc others) bytes = judged bytes (λ n. behind n (id_of others (drop n bytes))) (line_end bytes)
+-- the greatest length of a line with its ending, in bytes
+abbrev pub longest_line : ℕ
+longest_line = 255
 
 -- how many other lines may stand before the id line where they are allowed
 abbrev pub other_line_limit : ℕ
@@ -90,15 +70,41 @@ pub data Line : Type 0 where
   OtherLine : (end : ℕ) → Line
   TooLong : Line
 
+-- the first line, by where it ends
 abbrev pub line_to : List ℕ → Option ℕ → Line
-line_to bytes None = if nat_le 255 (length bytes) then TooLong else Unfinished
+line_to bytes None = if nat_le longest_line (length bytes) then TooLong else Unfinished
 line_to bytes (Some n) =
-    if nat_lt 255 n then TooLong
+    if nat_lt longest_line n then TooLong
     else if is_id_text (line_text (take n bytes)) then IdLine (line_text (take n bytes)) n
     else OtherLine n
 
+-- the first line of bytes
 abbrev pub line_of : List ℕ → Line
 line_of bytes = line_to bytes (line_end bytes)
+
+-- what bytes begin with: an id line's text and its length with what stands before it; less than that; or neither
+pub data IdFound : Type 0 where
+  NotYet : IdFound
+  Id : (text : List ℕ) (end : ℕ) → IdFound
+  Version : IdFound
+
+-- what was found behind a line of n bytes
+abbrev pub found_behind : ℕ → IdFound → IdFound
+found_behind n NotYet = NotYet
+found_behind n (Id text end) = Id text (n + end)
+found_behind n Version = Version
+
+-- what the first line decides; what an other line of n bytes leads to is `other n`
+abbrev pub found_by_line : (ℕ → IdFound) → Line → IdFound
+found_by_line other Unfinished = NotYet
+found_by_line other (IdLine text end) = Id text end
+found_by_line other (OtherLine end) = other end
+found_by_line other TooLong = Version
+
+-- what the bytes begin with, where so many other lines may stand before the id line
+abbrev pub id_of : ℕ → List ℕ → IdFound
+id_of zero bytes = found_by_line (λ n. Version) (line_of bytes)
+id_of (suc others) bytes = found_by_line (λ n. found_behind n (id_of others (drop n bytes))) (line_of bytes)
 
 -- less than a line of the least length
 short-example : id_of 0 (codes "SSH-2.0-") ≡ NotYet

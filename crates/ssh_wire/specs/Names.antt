@@ -45,13 +45,13 @@ unless_faulty None names = Ok names
 unless_faulty (Some f) names = Err f
 
 -- names, or their first fault
-abbrev pub checked : List (List ℕ) → Result (List (List ℕ)) EncodingFault
-checked names = unless_faulty (first_fault 0 names) names
+abbrev pub names_or_fault : List (List ℕ) → Result (List (List ℕ)) EncodingFault
+names_or_fault names = unless_faulty (first_fault 0 names) names
 
 -- the names of a text that is cut at its commas; the empty text is no names
 abbrev pub names_of : List ℕ → Result (List (List ℕ)) EncodingFault
 names_of [] = Ok []
-names_of (b ∷ rest) = checked (slice_split is_comma (without_last_comma (b ∷ rest)))
+names_of (b ∷ rest) = names_or_fault (slice_split is_comma (without_last_comma (b ∷ rest)))
 
 -- the name list at the front of bytes
 unfoldable pub names_at : List ℕ → Result (List (List ℕ) × List ℕ) EncodingFault

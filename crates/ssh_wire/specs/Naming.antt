@@ -2,7 +2,7 @@
 use Rattle.std.specs.Prelude.{◌≡◌, ℕ, Bool, true, false, List, [], ◌∷◌, ◌++◌, ◌+◌, length, Option, Some, None, Result, Ok, Err, ◌⊎◌}
 use Rattle.std.specs.List.{slice_split}
 use denote.Ref.{Bor}
-use Rattle.ssh_wire.specs.Forms.{joined, string}
+use Rattle.ssh_wire.specs.Forms.{joined_names, string}
 use Rattle.ssh_wire.specs.Names.{is_comma, names_of, without_last_comma}
 use Rattle.ssh_wire.specs.declared.error.EncodingFault.{EncodingFault}
 use Rattle.ssh_wire.specs.declared.error.Error.{Error}
@@ -30,4 +30,4 @@ Admits name fault (Err e) = (e ≡ Memory) ⊎ ((f : EncodingFault) × (fault �
 
 -- these names stood at the front as a string, with or without one more comma
 abbrev pub Spelled : List (List ℕ) → List ℕ → List ℕ → Type 0
-Spelled names bytes rest = (text : List ℕ) × (bytes ≡ string text ++ rest) × (names_of text ≡ Ok names) × (joined names ≡ without_last_comma text)
+Spelled names bytes rest = (text : List ℕ) × (bytes ≡ string text ++ rest) × (names_of text ≡ Ok names) × (joined_names names ≡ without_last_comma text)

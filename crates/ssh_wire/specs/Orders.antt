@@ -27,8 +27,8 @@ has message place order = reaches place order && (message == slice_index order p
 abbrev pub violates : List (List ℕ) → ℕ → ℕ → Bool
 violates orders message place = list_any (reaches place) orders && not (list_any (has message place) orders)
 
-abbrev pub judged_by : List (List ℕ) → ℕ → ℕ → Result (Unit {0}) Error
-judged_by orders message place = if violates orders message place then Err (StrictKeyExchangeViolation message place) else Ok tt
+abbrev pub order_answer : List (List ℕ) → ℕ → ℕ → Result (Unit {0}) Error
+order_answer orders message place = if violates orders message place then Err (StrictKeyExchangeViolation message place) else Ok tt
 
 group-example : violates client_orders 34 1 ≡ false
 group-example = refl

@@ -5,6 +5,7 @@ use Rattle.ssh_wire.specs.declared.disconnect.Disconnect.TheVariants.{HostNotAll
 use Rattle.ssh_wire.specs.declared.error.Error.{Error}
 use Rattle.ssh_wire.specs.declared.error.Error.TheVariants.{Inconsistent}
 
+-- the code of a reason
 abbrev pub reason_code : Disconnect → ℕ
 reason_code HostNotAllowedToConnect = 1
 reason_code ProtocolError = 2

@@ -1,6 +1,6 @@
 -- What the fields of a line reader stand for.
 use Rattle.std.specs.Prelude.{◌≡◌, ℕ, ◌<◌, ◌≤◌, List, take, None}
-use Rattle.ssh_wire.specs.Lines.{line_end, other_line_limit}
+use Rattle.ssh_wire.specs.Lines.{line_end, longest_line, other_line_limit}
 use Rattle.ssh_wire.specs.Reading.{IdReading}
 use Rattle.ssh_wire.specs.Reading as reading
 use Rattle.ssh_wire.specs.declared.read_id.ReadSshIdBuffer.TheInside.{Inside}
@@ -17,4 +17,4 @@ reading_of r = reading_at r.stage (take r.len r.line) r.others
 
 -- bytes that wait are less than a line
 abbrev pub IsKept : Inside → Type 0
-IsKept r = (r.len ≤ 255) × (r.others ≤ other_line_limit) × (r.stage ≡ Reading → (r.len < 255) × (line_end (take r.len r.line) ≡ None))
+IsKept r = (r.len ≤ longest_line) × (r.others ≤ other_line_limit) × (r.stage ≡ Reading → (r.len < longest_line) × (line_end (take r.len r.line) ≡ None))

@@ -28,28 +28,28 @@ read_in (IdLine used) = used
 read_in (OtherLine used) = used
 read_in TooLong = 0
 
-abbrev pub passed : Bool → List ℕ → ℕ → IdReading
-passed true bytes others = Waiting bytes (others + 1)
-passed false bytes others = Failed
+abbrev pub reading_past : Bool → List ℕ → ℕ → IdReading
+reading_past true bytes others = Waiting bytes (others + 1)
+reading_past false bytes others = Failed
 
 abbrev pub may_pass : Bool → ℕ → Bool
 may_pass allow others = allow && nat_lt others other_line_limit
 
 -- an other line is let pass, or the reading has failed
 abbrev pub PassesOther : Bool → IdReading → Bool → IdReading → Type 0
-PassesOther allow (Waiting bytes others) result new = (result ≡ may_pass allow others) × (new ≡ passed result bytes others)
+PassesOther allow (Waiting bytes others) result new = (result ≡ may_pass allow others) × (new ≡ reading_past result bytes others)
 PassesOther allow (Heard text) result new = (result ≡ false) × (new ≡ Failed)
 PassesOther allow Failed result new = (result ≡ false) × (new ≡ Failed)
 
 -- an answer about a piece whose front was used before
-abbrev pub shifted : ℕ → Result IdProgress Error → Result IdProgress Error
-shifted used (Ok NotYet) = Ok NotYet
-shifted used (Ok (Id more)) = Ok (Id (used + more))
-shifted used (Err e) = Err e
+abbrev pub shifted_answer : ℕ → Result IdProgress Error → Result IdProgress Error
+shifted_answer used (Ok NotYet) = Ok NotYet
+shifted_answer used (Ok (Id more)) = Ok (Id (used + more))
+shifted_answer used (Err e) = Err e
 
 -- what is answered from here on is answered of the whole piece
 abbrev pub GoesOn : Bool → IdReading → List ℕ → ℕ → IdReading → Type 0
-GoesOn allow old piece used now = (result : Result IdProgress Error) (new : IdReading) → Feeds allow now (drop used piece) result new → Feeds allow old piece (shifted used result) new
+GoesOn allow old piece used now = (result : Result IdProgress Error) (new : IdReading) → Feeds allow now (drop used piece) result new → Feeds allow old piece (shifted_answer used result) new
 
 -- how many other lines may still come
 abbrev pub others_left : IdReading → ℕ

@@ -38,7 +38,7 @@ const ALGORITHMS: [Algorithm; 7] = [
 ];
 
 impl Algorithm {
-    ghost use Rattle.ssh_wire.specs.Algorithms.{algorithm_name, certificate_name, algorithms, named, hash_of, with_hash};
+    ghost use Rattle.ssh_wire.specs.Algorithms.{algorithm_name, certificate_name, algorithms, algorithm_named, hash_of, with_hash};
 
     /// The name.
     pub fn as_str(self) -> &'static str
@@ -57,7 +57,7 @@ impl Algorithm {
 
     /// The algorithm of the name.
     pub fn from_str(s: &str) -> Option<Algorithm>
-        ensures named { result ≡ named algorithm_name s.now }
+        ensures named { result ≡ algorithm_named algorithm_name s.now }
         ensures found { IfSome result (λ a. algorithm_name a ≡ s.now) }
         ensures every { (a : Algorithm) → s.now ≡ algorithm_name a → result ≡ Some a }
     {
@@ -86,7 +86,7 @@ impl Algorithm {
 
     /// The algorithm whose certificates have the name.
     pub fn new_certificate_ext(algo: &str) -> Option<Algorithm>
-        ensures named { result ≡ named certificate_name algo.now }
+        ensures named { result ≡ algorithm_named certificate_name algo.now }
         ensures found { IfSome result (λ a. certificate_name a ≡ algo.now) }
         ensures every { (a : Algorithm) → algo.now ≡ certificate_name a → result ≡ Some a }
     {

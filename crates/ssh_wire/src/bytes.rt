@@ -169,7 +169,3 @@ impl PartialEq for Text {
 impl Eq for Text {
     ghost laws = { Prim.search (comparing, rules) };
 }
-
-/// Names of algorithms in order of preference (RFC 4251 section 5, name-list).
-#[derive(Debug, Drop)]
-pub struct NameList(pub Vec<Text>);

@@ -22,6 +22,18 @@ pub enum Disconnect {
     IllegalUserName = 15,
 }
 
+impl Disconnect {
+    ghost use Rattle.std.specs.Prelude.{◌≡◌};
+    ghost use Rattle.ssh_wire.specs.Reasons.{reason_code};
+
+    /// The reason code.
+    pub fn code(self) -> u32
+        ensures { result ≡ reason_code self }
+    {
+        self as u32
+    }
+}
+
 impl TryFrom<u32> for Disconnect {
     type Error = Error;
 

@@ -1,6 +1,6 @@
 //! Writing the forms of RFC 4251 section 5.
 
-ghost use Rattle.std.specs.Prelude.{◌≡◌, ◌∷◌, [], ◌++◌, ◌<◌, ◌≤◌, ◌-◌, ◌^◌, length, OnOk, OnErr, IfErr};
+ghost use Rattle.std.specs.Prelude.{◌≡◌, ◌∷◌, [], ◌++◌, ◌<◌, ◌≤◌, ◌-◌, ◌^◌, ◌+◌, length, vec_len, vec_capacity, OnOk, OnErr, IfErr, IsOk};
 ghost use Rattle.ssh_wire.specs.Forms.{u32be, string, mpint, unsigned};
 ghost use Rattle.ssh_wire.specs.declared.error.Error.TheVariants.{Memory};
 
@@ -12,6 +12,8 @@ pub fn put_u8(out: &mut Vec<u8>, v: u8) -> Result<(), Error>
     ensures ok { OnOk result (out.new.items ≡ out.old.items ++ v ∷ []) }
     ensures unchanged { OnErr result (out.new.items ≡ out.old.items) }
     ensures err { IfErr result (λ e. e ≡ Memory) }
+    ensures ready { vec_len out.old + 1 ≤ vec_capacity out.old → IsOk result }
+    ensures capacity { vec_capacity out.old ≤ vec_capacity out.new }
 {
     out.push(v)?;
     Ok(())
@@ -22,6 +24,8 @@ pub fn put_u32(out: &mut Vec<u8>, v: u32) -> Result<(), Error>
     ensures ok { OnOk result (out.new.items ≡ out.old.items ++ u32be v) }
     ensures unchanged { OnErr result (out.new.items ≡ out.old.items) }
     ensures err { IfErr result (λ e. e ≡ Memory) }
+    ensures ready { vec_len out.old + 4 ≤ vec_capacity out.old → IsOk result }
+    ensures capacity { vec_capacity out.old ≤ vec_capacity out.new }
 {
     out.extend_from_slice(&v.to_be_bytes())?;
     Ok(())
@@ -33,6 +37,8 @@ pub fn put_string(out: &mut Vec<u8>, s: &[u8]) -> Result<(), Error>
     ensures ok { OnOk result (out.new.items ≡ out.old.items ++ string s.now) }
     ensures unchanged { OnErr result (out.new.items ≡ out.old.items) }
     ensures err { IfErr result (λ e. e ≡ Memory) }
+    ensures ready { vec_len out.old + 4 + length s.now ≤ vec_capacity out.old → IsOk result }
+    ensures capacity { vec_capacity out.old ≤ vec_capacity out.new }
 {
     out.reserve(4 + s.len())?;
     out.extend_from_slice(&(s.len() as u32).to_be_bytes())?;
@@ -47,6 +53,8 @@ pub fn encode_mpint(s: &[u8], out: &mut Vec<u8>) -> Result<(), Error>
     ensures ok { OnOk result (out.new.items ≡ out.old.items ++ mpint s.now) }
     ensures unchanged { OnErr result (out.new.items ≡ out.old.items) }
     ensures err { IfErr result (λ e. e ≡ Memory) }
+    ensures ready { vec_len out.old + length (mpint s.now) ≤ vec_capacity out.old → IsOk result }
+    ensures capacity { vec_capacity out.old ≤ vec_capacity out.new }
 {
     let digits = without_leading_zeros(s);
     let sign = sign_of(digits);

@@ -3,8 +3,9 @@
 ghost use Rattle.std.specs.Prelude.{◌≡◌};
 ghost use Rattle.ssh_wire.specs.declared.error.Error.TheVariants.{Memory, SshEncoding};
 
-use crate::bytes::NameList;
+use crate::name_list::NameList;
 use std::alloc::{AllocError, AllocFailed};
+use std::fmt;
 use thiserror::Error;
 
 /// How a field of a message breaks its form (RFC 4251 section 5).
@@ -48,72 +49,131 @@ pub enum AlgorithmKind {
 }
 
 /// Why a call was refused.
-#[derive(Debug, Drop, Error)]
+#[derive(Debug, PartialEq, Eq, Drop, Error)]
 pub enum Error {
     /// A message doesn't fit the state of the key exchange.
-    #[error("Key exchange init failed")]
     KexInit,
     /// The chosen key exchange isn't offered.
-    #[error("Unknown algorithm")]
     UnknownAlgo,
     /// The two lists have no name in common.
-    #[error("No common algorithm")]
     NoCommonAlgo {
         kind: AlgorithmKind,
         ours: NameList,
         theirs: NameList,
     },
     /// The peer's version line isn't one of RFC 4253 section 4.2.
-    #[error("invalid SSH version string")]
     Version,
     /// A part of the key exchange refused.
-    #[error("Key exchange failed")]
     Kex,
     /// The message authentication code of a packet differs.
-    #[error("Wrong packet authentication code")]
     PacketAuth,
     /// A message is out of place.
-    #[error("Inconsistent state of the protocol")]
     Inconsistent,
     /// A padding is longer than its packet.
-    #[error("Index out of bounds")]
     IndexOutOfBounds,
     /// The host key isn't trusted.
-    #[error("Unknown server key")]
     UnknownKey,
     /// The signature of the exchange hash isn't accepted.
-    #[error("Wrong server signature")]
     WrongServerSig,
     /// A packet length that is read, or a payload to be sent, of so many bytes.
-    #[error("Bad packet size: {0}")]
     PacketSize(usize),
     /// The connection has ended or has failed.
-    #[error("Disconnected")]
     Disconnect,
     /// The tag of a packet under an AEAD cipher differs.
-    #[error("Failed to decrypt a packet")]
     DecryptionError,
     /// A source or a sink failed.
-    #[error("IO")]
     IO,
     /// A message breaks the order of the strict key exchange.
-    #[error("Violation detected during strict key exchange, message {message_type} at seq no {sequence_number}")]
     StrictKeyExchangeViolation {
         message_type: u8,
         sequence_number: usize,
     },
     /// The host key couldn't sign.
-    #[error("Signature")]
     Signature,
     /// A field of a message breaks its form.
-    #[error("SshEncoding")]
     SshEncoding(EncodingFault),
     /// The configuration may not be used.
-    #[error("Invalid config")]
     InvalidConfig(ConfigFault),
     /// Memory ran out.
-    #[error("Want of memory")]
     Memory,
+}
+
+/// Why no version line was read. It owns no memory, so that it can stand beside a text that is lent.
+#[derive(Clone, Copy, Debug, PartialEq, Eq, Hash, Error)]
+pub enum IdError {
+    /// No line of the peer's is a version line of RFC 4253 section 4.2 in its place.
+    Version,
+    /// The source ended first.
+    Disconnect,
+    /// The source failed, and has counted it.
+    IO,
+}
+
+impl fmt::Display for Error {
+    ghost use Rattle.std.specs.Prelude.{Some};
+    ghost use Rattle.ssh_wire.specs.ErrorTexts.{error_message};
+
+    ghost output = { λ e. Some (error_message e) };
+
+    fn fmt<W: fmt::Write>(&self, f: &mut fmt::Formatter<W>) -> fmt::Result {
+        match self {
+            Error::KexInit => f.write_str("Key exchange init failed"),
+            Error::UnknownAlgo => f.write_str("Unknown algorithm"),
+            Error::NoCommonAlgo { .. } => f.write_str("No common algorithm"),
+            Error::Version => f.write_str("invalid SSH version string"),
+            Error::Kex => f.write_str("Key exchange failed"),
+            Error::PacketAuth => f.write_str("Wrong packet authentication code"),
+            Error::Inconsistent => f.write_str("Inconsistent state of the protocol"),
+            Error::IndexOutOfBounds => f.write_str("Index out of bounds"),
+            Error::UnknownKey => f.write_str("Unknown server key"),
+            Error::WrongServerSig => f.write_str("Wrong server signature"),
+            Error::PacketSize(n) => write!(f, "Bad packet size: {n}"),
+            Error::Disconnect => f.write_str("Disconnected"),
+            Error::DecryptionError => f.write_str("Failed to decrypt a packet"),
+            Error::IO => f.write_str("IO"),
+            Error::StrictKeyExchangeViolation {
+                message_type,
+                sequence_number,
+            } => write!(
+                f,
+                "Violation detected during strict key exchange, message {message_type} at seq no {sequence_number}"
+            ),
+            Error::Signature => f.write_str("Signature"),
+            Error::SshEncoding(_) => f.write_str("SshEncoding"),
+            Error::InvalidConfig(_) => f.write_str("Invalid config"),
+            Error::Memory => f.write_str("Want of memory"),
+        }
+    }
+}
+
+impl fmt::Display for IdError {
+    ghost use Rattle.std.specs.Prelude.{Some};
+    ghost use Rattle.ssh_wire.specs.ErrorTexts.{error_message};
+    ghost use Rattle.ssh_wire.specs.IdErrors.{error_of_id};
+
+    ghost output = { λ e. Some (error_message (error_of_id e)) };
+
+    fn fmt<W: fmt::Write>(&self, f: &mut fmt::Formatter<W>) -> fmt::Result {
+        match self {
+            IdError::Version => f.write_str("invalid SSH version string"),
+            IdError::Disconnect => f.write_str("Disconnected"),
+            IdError::IO => f.write_str("IO"),
+        }
+    }
+}
+
+impl From<IdError> for Error {
+    ghost use Rattle.ssh_wire.specs.IdErrors.{error_of_id};
+
+    ghost from_gives = { λ error e. e ≡ error_of_id error };
+
+    fn from(error: IdError) -> Error {
+        match error {
+            IdError::Version => Error::Version,
+            IdError::Disconnect => Error::Disconnect,
+            IdError::IO => Error::IO,
+        }
+    }
 }
 
 impl From<EncodingFault> for Error {

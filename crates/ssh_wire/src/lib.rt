@@ -13,6 +13,7 @@ mod from_source;
 mod laws;
 mod limited;
 mod limits;
+mod line;
 mod message_numbers;
 pub mod msg;
 mod name_list;
@@ -29,22 +30,24 @@ mod ssh_read;
 mod strict_order;
 
 pub use crate::algorithm::{Algorithm, EcdsaCurve, HashAlg};
-pub use crate::bytes::{Blob, NameList, Payload, PayloadList, Text};
+pub use crate::bytes::{Blob, Payload, PayloadList, Text};
 pub use crate::channel_id::ChannelId;
 pub use crate::disconnect::Disconnect;
 pub use crate::encoding::{encode_mpint, put_string, put_u8, put_u32};
-pub use crate::error::{AlgorithmKind, ConfigFault, EncodingFault, Error};
+pub use crate::error::{AlgorithmKind, ConfigFault, EncodingFault, Error, IdError};
 pub use crate::laws::{
-    equal_mpints, fed_more, fed_twice, id_stays, joined_read, less_than_a_line, mpint_number,
-    one_mpint, read_spelled,
+    equal_mpints, fed_more, fed_twice, id_stays, joined_read, joined_utf8, less_than_a_line,
+    mpint_number, one_mpint, read_spelled,
 };
 pub use crate::limited::LimitedString;
 pub use crate::limits::Limits;
+pub use crate::line::without_last_cr;
 pub use crate::message_numbers::{authentication_numbers, connection_numbers, transport_numbers};
+pub use crate::name_list::NameList;
 pub use crate::open_failure::ChannelOpenFailure;
 pub use crate::open_handle::ChannelOpenHandleInner;
-pub use crate::outside::{Failed, Sink, Source};
-pub use crate::read_id::{IdProgress, ReadSshIdBuffer, without_last_cr};
+pub use crate::outside::{Failed, Sink, Source, write_all};
+pub use crate::read_id::{IdProgress, ReadSshIdBuffer};
 pub use crate::reader::Reader;
 pub use crate::send_error::SendError;
 pub use crate::side::Side;

@@ -4,7 +4,7 @@ ghost use Rattle.std.specs.Prelude.{◌≡◌, ◌<◌, ◌≤◌, ◌^◌, ◌+
 ghost use Rattle.std.specs.Str.{is_utf8};
 ghost use Rattle.std.specs.String.{string_bytes};
 ghost use Rattle.ssh_wire.specs.Forms.{string};
-ghost use Rattle.ssh_wire.specs.Fields.{limited_at, TakesInMemory, IsReadInMemory};
+ghost use Rattle.ssh_wire.specs.Fields.{limited_at, TakesFormInMemory, IsReadInMemory};
 
 use crate::error::Error;
 use crate::fields::limited_of;
@@ -30,7 +30,7 @@ impl<const N: usize> LimitedString<N> {
     /// Reads a `string` that is UTF-8. SshEncoding(Length) where it is cut short or longer than N, then
     /// SshEncoding(CharacterEncoding) where it isn't UTF-8; Memory. A refusal takes nothing.
     pub fn decode(alloc: Global, r: &mut Reader<'_>) -> Result<Self, Error>
-        ensures exact { TakesInMemory (λ s. s) (limited_at N r.old) r.old result r.new }
+        ensures exact { TakesFormInMemory (λ s. s) (limited_at N r.old) r.old result r.new }
         ensures spelled { IfOk result (λ s. (r.old ≡ string s ++ r.new) × (length s ≤ N) × (is_utf8 s ≡ true)) }
         ensures again { (s rest : List ℕ) → length s < 2 ^ 32 → length s ≤ N → is_utf8 s ≡ true → r.old ≡ string s ++ rest → IsReadInMemory (λ x. x) s rest result r.new }
     {

@@ -1,15 +1,15 @@
 //! Lists of names as text (RFC 4251 section 5, name-list).
 
-ghost use Rattle.std.specs.Prelude.{◌≡◌, ◌<◌, ◌≤◌, ◌^◌, ◌++◌, ◌∷◌, [], nat_lt, List, ℕ, length, take, OnOk, OnErr, IfOk, IfErr, IfSome, MatchResult, ◌⊎◌, Result, Ok, None, position};
+ghost use Rattle.std.specs.Prelude.{◌≡◌, ◌<◌, ◌≤◌, ◌^◌, ◌++◌, ◌∷◌, [], nat_lt, List, ℕ, ◌+◌, length, vec_len, vec_capacity, take, OnOk, OnErr, IfOk, IfErr, IfSome, IsOk, MatchResult, ◌⊎◌, Result, Ok, None, position};
 ghost use Rattle.std.specs.List.{slice_split, list_all};
 ghost use Rattle.std.specs.String.{string_bytes};
-ghost use Rattle.ssh_wire.specs.Forms.{joined, name_list};
-ghost use Rattle.ssh_wire.specs.Fields.{Gives, IsMadeInMemory, TakesInMemory, IsReadInMemory};
-ghost use Rattle.ssh_wire.specs.Names.{is_comma, without_last_comma, is_name, fault_of, checked, names_of, names_at, IsName, AreNames, name_list_limit};
+ghost use Rattle.ssh_wire.specs.Forms.{joined_names, name_list};
+ghost use Rattle.ssh_wire.specs.Fields.{Gives, IsMadeInMemory, TakesFormInMemory, IsReadInMemory};
+ghost use Rattle.ssh_wire.specs.Names.{is_comma, without_last_comma, is_name, fault_of, names_or_fault, names_of, names_at, IsName, AreNames, name_list_limit};
 ghost use Rattle.ssh_wire.specs.Naming.{parts_behind, behind_comma, Admits, Spelled};
 ghost use Rattle.ssh_wire.specs.declared.error.Error.TheVariants.{Memory};
 
-use crate::bytes::{NameList, Text};
+use crate::bytes::Text;
 use crate::encoding::put_u32;
 use crate::error::{EncodingFault, Error};
 use crate::fields::{limited_of, utf8_of};
@@ -22,6 +22,10 @@ const NAME_LIMIT: usize = 1025;
 /// How many bytes a list may have as text.
 const NAME_LIST_LIMIT: usize = 16384;
 
+/// Names of algorithms in order of preference (RFC 4251 section 5, name-list).
+#[derive(Debug, PartialEq, Eq, Drop)]
+pub struct NameList(pub Vec<Text>);
+
 impl NameList {
     /// The names of a text that is cut at its commas. The empty text is no names, and one comma at the end
     /// is dropped where something stands before it. The first faulty name decides:
@@ -29,14 +33,14 @@ impl NameList {
     /// stand before it. Memory.
     pub fn from_encoded_string(alloc: Global, value: &str) -> Result<NameList, Error>
         ensures exact { Gives (λ l. l.0.items) (names_of value.now) result }
-        ensures again { (names : List (List ℕ)) → AreNames names → value.now ≡ joined names → IsMadeInMemory (λ l. l.0.items) names result }
+        ensures again { (names : List (List ℕ)) → AreNames names → value.now ≡ joined_names names → IsMadeInMemory (λ l. l.0.items) names result }
     {
         names_of_text(alloc, value)
     }
 
     /// The names joined by commas. Memory.
     pub fn as_encoded_string(&self) -> Result<String, Error>
-        ensures ok { IfOk result (λ text. string_bytes text ≡ joined self.now.0.items) }
+        ensures ok { IfOk result (λ text. string_bytes text ≡ joined_names self.now.0.items) }
         ensures err { IfErr result (λ e. e ≡ Memory) }
     {
         let mut text = String::new(*self.0.allocator());
@@ -48,10 +52,12 @@ impl NameList {
 
     /// Appends the list as a `string`. Memory leaves `out` as it was.
     pub fn encode(&self, out: &mut Vec<u8>) -> Result<(), Error>
-        requires { length (joined self.now.0.items) < 2 ^ 32 }
+        requires { length (joined_names self.now.0.items) < 2 ^ 32 }
         ensures ok { OnOk result (out.new.items ≡ out.old.items ++ name_list self.now.0.items) }
         ensures unchanged { OnErr result (out.new.items ≡ out.old.items) }
         ensures err { IfErr result (λ e. e ≡ Memory) }
+        ensures ready { vec_len out.old + length (name_list self.now.0.items) ≤ vec_capacity out.old → IsOk result }
+        ensures capacity { vec_capacity out.old ≤ vec_capacity out.new }
     {
         let start = out.len();
         put_u32(out, joined_len(self.0.as_slice()) as u32)?;
@@ -67,9 +73,9 @@ impl NameList {
     /// Reads a `string` of at most 16384 bytes of UTF-8, as `LimitedString`, and its names, as
     /// `from_encoded_string`. Memory. A refusal takes nothing.
     pub fn decode(alloc: Global, r: &mut Reader<'_>) -> Result<NameList, Error>
-        ensures exact { TakesInMemory (λ l. l.0.items) (names_at r.old) r.old result r.new }
+        ensures exact { TakesFormInMemory (λ l. l.0.items) (names_at r.old) r.old result r.new }
         ensures spelled { IfOk result (λ l. Spelled l.0.items r.old r.new) }
-        ensures again { (names : List (List ℕ)) (rest : List ℕ) → AreNames names → length (joined names) ≤ name_list_limit → r.old ≡ name_list names ++ rest → IsReadInMemory (λ l. l.0.items) names rest result r.new }
+        ensures again { (names : List (List ℕ)) (rest : List ℕ) → AreNames names → length (joined_names names) ≤ name_list_limit → r.old ≡ name_list names ++ rest → IsReadInMemory (λ l. l.0.items) names rest result r.new }
     {
         let (names, rest) = names_front(alloc, r.rest())?;
         *r = Reader::new(rest);
@@ -111,7 +117,7 @@ fn without_comma(text: &[u8]) -> &[u8]
 
 /// The names of a text, cut at each comma.
 fn names_in(alloc: Global, whole: &[u8]) -> Result<NameList, Error>
-    ensures { Gives (λ l. l.0.items) (checked (slice_split is_comma whole.now)) result }
+    ensures { Gives (λ l. l.0.items) (names_or_fault (slice_split is_comma whole.now)) result }
 {
     let mut names = Vec::new(alloc);
     let mut rest = Some(whole);
@@ -174,8 +180,8 @@ fn is_ascii_text(text: &[u8]) -> bool
 
 /// How many bytes the names have with the commas between them.
 fn joined_len(names: &[Text]) -> usize
-    requires { length (joined names.now) < 2 ^ 32 }
-    ensures { result ≡ length (joined names.now) }
+    requires { length (joined_names names.now) < 2 ^ 32 }
+    ensures { result ≡ length (joined_names names.now) }
 {
     let mut size = 0;
     for (i, name) in names.iter().enumerate() {
@@ -210,9 +216,11 @@ fn push_name(text: &mut String, is_behind: bool, name: &str) -> Result<(), Error
 
 /// Appends the names with commas between them. After an error what stood there is still the front.
 fn put_names(out: &mut Vec<u8>, names: &[Text]) -> Result<(), Error>
-    ensures ok { OnOk result (out.new.items ≡ out.old.items ++ joined names.now) }
+    ensures ok { OnOk result (out.new.items ≡ out.old.items ++ joined_names names.now) }
     ensures front { OnErr result (take (length out.old.items) out.new.items ≡ out.old.items) }
     ensures err { IfErr result (λ e. e ≡ Memory) }
+    ensures ready { vec_len out.old + length (joined_names names.now) ≤ vec_capacity out.old → IsOk result }
+    ensures capacity { vec_capacity out.old ≤ vec_capacity out.new }
 {
     for (i, name) in names.iter().enumerate() {
         put_name(out, i > 0, name.as_str())?;
@@ -225,8 +233,10 @@ fn put_name(out: &mut Vec<u8>, is_behind: bool, name: &str) -> Result<(), Error>
     ensures ok { OnOk result (out.new.items ≡ out.old.items ++ behind_comma is_behind name.now) }
     ensures unchanged { OnErr result (out.new.items ≡ out.old.items) }
     ensures err { IfErr result (λ e. e ≡ Memory) }
+    ensures ready { vec_len out.old + length (behind_comma is_behind name.now) ≤ vec_capacity out.old → IsOk result }
+    ensures capacity { vec_capacity out.old ≤ vec_capacity out.new }
 {
-    out.reserve(name.len() + 1)?;
+    out.reserve(name_len(is_behind, name))?;
     if is_behind {
         out.push(b',')?;
     }

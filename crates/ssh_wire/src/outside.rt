@@ -3,7 +3,7 @@
 //! A fault is counted by the source or the sink itself, so that a caller's contract can say that it
 //! answers a fault only where there was one.
 
-ghost use Rattle.std.specs.Prelude.{◌≡◌, ◌<◌, ◌≤◌, ℕ, List, Option, take, length, Ok, IfOk, OnErr};
+ghost use Rattle.std.specs.Prelude.{◌≡◌, ◌<◌, ◌≤◌, ℕ, List, Option, take, length, Ok, IfOk, IfErr, OnOk, OnErr};
 ghost use Rattle.ssh_wire.specs.Outside.{Rose, TakesNext, IsAtEnd, Appends, IsPartOf};
 
 /// A fault of a source or a sink, which has counted it.
@@ -28,6 +28,7 @@ pub trait Source {
         ensures end { result ≡ Ok 0 → 0 < length out.old → IsAtEnd (left self.old) }
         ensures nothing { OnErr result (left self.new ≡ left self.old) }
         ensures cause { OnErr result (Rose (faults self.old) (faults self.new)) }
+        ensures unfailed { OnOk result (faults self.new ≡ faults self.old) }
         ensures count { faults self.old ≤ faults self.new };
 }
 
@@ -46,5 +47,25 @@ pub trait Sink {
         ensures appended { IfOk result (λ n. Appends (take n bytes.now) (held self.old) (held self.new)) }
         ensures nothing { OnErr result (held self.new ≡ held self.old) }
         ensures cause { OnErr result (Rose (faults self.old) (faults self.new)) }
+        ensures unfailed { OnOk result (faults self.new ≡ faults self.old) }
         ensures count { faults self.old ≤ faults self.new };
+}
+
+/// Writes all bytes out, at least one a turn. Where the sink fails, the error is how many went out before.
+pub fn write_all<K: Sink>(sink: &mut K, bytes: &[u8]) -> Result<(), usize>
+    ensures all { OnOk result (Appends bytes.now (K.held sink.old) (K.held sink.new)) }
+    ensures within { IfErr result (λ n. n < length bytes.now) }
+    ensures front { IfErr result (λ n. Appends (take n bytes.now) (K.held sink.old) (K.held sink.new)) }
+    ensures failed { OnErr result (Rose (K.faults sink.old) (K.faults sink.new)) }
+    ensures unfailed { OnOk result (K.faults sink.new ≡ K.faults sink.old) }
+    ensures count { K.faults sink.old ≤ K.faults sink.new }
+{
+    let mut written = 0;
+    while written < bytes.len() {
+        match sink.write(&bytes[written..]) {
+            Ok(n) => written += n,
+            Err(_) => return Err(written),
+        }
+    }
+    Ok(())
 }

@@ -1,17 +1,14 @@
 //! Reading the peer's version line in pieces (RFC 4253 section 4.2).
 
-ghost use Rattle.std.specs.Prelude.{◌≡◌, ◌≤◌, ◌<◌, false, ◌+◌, ◌++◌, IfOk, IfSome, None, length, [], is_some, take};
-ghost use Rattle.ssh_wire.specs.Lines.{lf_end, line_end, without_cr, line_text, is_id_text};
+ghost use Rattle.std.specs.Prelude.{◌≡◌, ◌≤◌, ◌<◌, ◌+◌, ◌++◌, IfOk, IfSome, None, length, [], take};
+ghost use Rattle.ssh_wire.specs.Lines.{line_end};
 
-use crate::error::Error;
-use crate::fields::is_utf8_text;
+use crate::error::{Error, IdError};
+use crate::line::{LONGEST_LINE, first_lf_end, first_line_end, id_text_len};
 use std::marker::Model;
 
-/// The longest version line with its ending, in bytes (RFC 4253 section 4.2).
-const LONGEST_LINE: usize = 255;
-
 /// How many other lines may stand before the version line.
-const OTHER_LINE_LIMIT: usize = 20;
+pub(crate) const OTHER_LINE_LIMIT: usize = 20;
 
 /// How far the version line has come.
 #[derive(Clone, Copy, Debug, PartialEq, Eq)]
@@ -60,7 +57,7 @@ impl Model for ReadSshIdBuffer {
 }
 
 impl ReadSshIdBuffer {
-    ghost use Rattle.ssh_wire.specs.Reading.{Waiting, Feeds, used_in, text_heard, held, waits, finished, IsShort};
+    ghost use Rattle.ssh_wire.specs.Reading.{Waiting, Feeds, used_in, text_heard, waiting_length, outcome_of, end_answer, IsShort};
     ghost use Rattle.ssh_wire.specs.Stepping.{ReadsLine, PassesOther, read_in};
 
     /// A buffer that has read nothing.
@@ -113,7 +110,7 @@ impl ReadSshIdBuffer {
 
     /// How many bytes of a line that hasn't ended are held; none after an id or Version.
     pub fn waiting(&self) -> usize
-        ensures { result ≡ held self.now }
+        ensures { result ≡ waiting_length self.now }
     {
         match self.stage {
             Stage::Reading => self.len,
@@ -121,20 +118,21 @@ impl ReadSshIdBuffer {
         }
     }
 
-    /// Whether neither an id nor Version was reached.
-    pub(crate) fn is_waiting(&self) -> bool
-        ensures { result ≡ waits self.now }
+    /// What stays answered after an id or Version.
+    pub(crate) fn outcome(&self) -> Option<Result<(), IdError>>
+        ensures { result ≡ outcome_of self.now }
     {
         match self.stage {
-            Stage::Reading => true,
-            _ => false,
+            Stage::Reading => None,
+            Stage::Heard => Some(Ok(())),
+            Stage::Failed => Some(Err(IdError::Version)),
         }
     }
 
     /// What is answered where nothing more comes: nothing after an id, Version after Version, else
     /// Disconnect.
     pub fn finish(&self) -> Result<(), Error>
-        ensures { result ≡ finished self.now }
+        ensures { result ≡ end_answer self.now }
     {
         match self.stage {
             Stage::Reading => Err(Error::Disconnect),
@@ -213,67 +211,6 @@ fn line_end_in(waiting: &[u8], piece: &[u8]) -> Option<usize>
     } else {
         first_lf_end(waiting.len(), piece)
     }
-}
-
-/// Behind the first LF of bytes that stand from place `at` on.
-fn first_lf_end(at: usize, bytes: &[u8]) -> Option<usize>
-    requires { at ≤ LONGEST_LINE }
-    ensures end { result ≡ lf_end at bytes.now }
-    ensures beyond { IfSome result (λ end. at < end) }
-    ensures within { IfSome result (λ end. end ≤ at + length bytes.now) }
-{
-    for (i, b) in bytes.iter().enumerate() {
-        if *b == b'\n' {
-            return Some(at + i + 1);
-        }
-    }
-    None
-}
-
-/// Behind the first LF that isn't the first byte.
-fn first_line_end(bytes: &[u8]) -> Option<usize>
-    ensures end { result ≡ line_end bytes.now }
-    ensures beyond { IfSome result (λ end. 0 < end) }
-    ensures within { IfSome result (λ end. end ≤ length bytes.now) }
-{
-    let (_, rest) = bytes.split_first()?;
-    first_lf_end(1, rest)
-}
-
-/// The text of a line without the CR that may stand before its LF. One CR at the end is left out, and
-/// none elsewhere.
-pub fn without_last_cr(text: &[u8]) -> &[u8]
-    ensures { result.now ≡ without_cr text.now }
-{
-    let len = text.len();
-    if len > 0 && text[len - 1] == b'\r' {
-        &text[..len - 1]
-    } else {
-        text
-    }
-}
-
-/// How long the line's text is, where that is an id's.
-fn id_text_len(line: &[u8]) -> Option<usize>
-    ensures id { is_some result ≡ is_id_text (line_text line.now) }
-    ensures text { IfSome result (λ n. take n line.now ≡ line_text line.now) }
-    ensures within { IfSome result (λ n. n ≤ length line.now) }
-{
-    if line.is_empty() {
-        return None;
-    }
-    let text = without_last_cr(&line[..line.len() - 1]);
-    if names_protocol(text) {
-        Some(text.len())
-    } else {
-        None
-    }
-}
-
-fn names_protocol(text: &[u8]) -> bool
-    ensures { result ≡ is_id_text text.now }
-{
-    (text.starts_with(b"SSH-2.0-") || text.starts_with(b"SSH-1.99-")) && is_utf8_text(text)
 }
 
 /// Writes the piece over the bytes from `at` on.

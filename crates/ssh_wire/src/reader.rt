@@ -3,7 +3,7 @@
 ghost use Rattle.std.specs.Prelude.{◌≡◌, ◌∷◌, [], ◌++◌, ◌<◌, ◌^◌, ◌-◌, true, List, ℕ, length, IfOk, IfErr, Ok};
 ghost use Rattle.std.specs.Str.{is_utf8};
 ghost use Rattle.ssh_wire.specs.Forms.{AreBytes, u32be, string, mpint, magnitude};
-ghost use Rattle.ssh_wire.specs.Fields.{byte_at, u32_at, string_at, text_at, mpint_at, Takes, IsRead};
+ghost use Rattle.ssh_wire.specs.Fields.{byte_at, u32_at, string_at, text_at, mpint_at, TakesForm, IsRead};
 ghost use Rattle.ssh_wire.specs.declared.error.Error.TheVariants.{SshEncoding};
 ghost use Rattle.ssh_wire.specs.declared.error.EncodingFault.TheVariants.{TrailingData};
 
@@ -51,7 +51,7 @@ impl<'a> Reader<'a> {
 
     /// A byte. SshEncoding(Length) where none is left.
     pub fn read_u8(&mut self) -> Result<u8, Error>
-        ensures exact { Takes (λ n. n) (byte_at self.old) self.old result self.new }
+        ensures exact { TakesForm (λ n. n) (byte_at self.old) self.old result self.new }
         ensures spelled { IfOk result (λ n. self.old ≡ n ∷ self.new) }
         ensures again { (n : ℕ) (rest : List ℕ) → self.old ≡ n ∷ rest → IsRead (λ x. x) n rest result self.new }
     {
@@ -63,7 +63,7 @@ impl<'a> Reader<'a> {
     /// A `uint32`, the most significant byte first. SshEncoding(Length) where fewer than four bytes are
     /// left.
     pub fn read_u32(&mut self) -> Result<u32, Error>
-        ensures exact { Takes (λ n. n) (u32_at self.old) self.old result self.new }
+        ensures exact { TakesForm (λ n. n) (u32_at self.old) self.old result self.new }
         ensures spelled { IfOk result (λ n. self.old ≡ u32be n ++ self.new) }
         ensures again { (n : ℕ) (rest : List ℕ) → n < 2 ^ 32 → self.old ≡ u32be n ++ rest → IsRead (λ x. x) n rest result self.new }
     {
@@ -75,7 +75,7 @@ impl<'a> Reader<'a> {
     /// A `string`: a length of four bytes and that many bytes. SshEncoding(Length) where the length or the
     /// bytes are cut short.
     pub fn read_string(&mut self) -> Result<&'a [u8], Error>
-        ensures exact { Takes (λ s. s.now) (string_at self.old) self.old result self.new }
+        ensures exact { TakesForm (λ s. s.now) (string_at self.old) self.old result self.new }
         ensures spelled { IfOk result (λ s. self.old ≡ string s.now ++ self.new) }
         ensures again { (s rest : List ℕ) → length s < 2 ^ 32 → self.old ≡ string s ++ rest → IsRead (λ x. x.now) s rest result self.new }
     {
@@ -86,7 +86,7 @@ impl<'a> Reader<'a> {
 
     /// A `string` that is UTF-8. SshEncoding(Length) as of `read_string`, then SshEncoding(CharacterEncoding).
     pub fn read_text(&mut self) -> Result<&'a [u8], Error>
-        ensures exact { Takes (λ s. s.now) (text_at self.old) self.old result self.new }
+        ensures exact { TakesForm (λ s. s.now) (text_at self.old) self.old result self.new }
         ensures spelled { IfOk result (λ s. (self.old ≡ string s.now ++ self.new) × (is_utf8 s.now ≡ true)) }
         ensures again { (s rest : List ℕ) → length s < 2 ^ 32 → is_utf8 s ≡ true → self.old ≡ string s ++ rest → IsRead (λ x. x.now) s rest result self.new }
     {
@@ -99,7 +99,7 @@ impl<'a> Reader<'a> {
     /// SshEncoding(Length) as of `read_string`, then SshEncoding(MpintEncoding) where the number is negative
     /// or has an unneeded leading byte.
     pub fn read_mpint(&mut self) -> Result<&'a [u8], Error>
-        ensures exact { Takes (λ m. m.now) (mpint_at self.old) self.old result self.new }
+        ensures exact { TakesForm (λ m. m.now) (mpint_at self.old) self.old result self.new }
         ensures spelled { IfOk result (λ m. (self.old ≡ mpint m.now ++ self.new) × (magnitude m.now ≡ m.now)) }
         ensures again { (s rest : List ℕ) → length s < 2 ^ 32 - 1 → self.old ≡ mpint s ++ rest → IsRead (λ x. x.now) (magnitude s) rest result self.new }
     {

@@ -1,7 +1,7 @@
 //! Version lines as they are sent (RFC 4253 section 4.2).
 
-ghost use Rattle.std.specs.Prelude.{◌≡◌, ◌++◌, OnOk, OnErr, IfErr};
-ghost use Rattle.ssh_wire.specs.Lines.{is_line_end, trimmed};
+ghost use Rattle.std.specs.Prelude.{◌≡◌, ◌++◌, ◌+◌, ◌≤◌, length, vec_len, vec_capacity, OnOk, OnErr, IfErr, IsOk};
+ghost use Rattle.ssh_wire.specs.Lines.{is_line_end, without_line_ends};
 ghost use Rattle.ssh_wire.specs.declared.error.Error.TheVariants.{Memory};
 
 use crate::bytes::Text;
@@ -36,6 +36,8 @@ impl SshId {
         ensures ok { OnOk result (out.new.items ≡ out.old.items ++ id_line self.now) }
         ensures unchanged { OnErr result (out.new.items ≡ out.old.items) }
         ensures err { IfErr result (λ e. e ≡ Memory) }
+        ensures ready { vec_len out.old + length (id_line self.now) ≤ vec_capacity out.old → IsOk result }
+        ensures capacity { vec_capacity out.old ≤ vec_capacity out.new }
     {
         match self {
             SshId::Standard(text) => {
@@ -52,7 +54,7 @@ impl SshId {
 
 /// The bytes without all CR and LF at their end.
 fn without_line_ends(text: &[u8]) -> &[u8]
-    ensures { result.now ≡ trimmed text.now }
+    ensures { result.now ≡ without_line_ends text.now }
 {
     let mut rest = text;
     while let Some((last, front)) = rest.split_last() {

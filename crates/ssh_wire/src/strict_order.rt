@@ -1,7 +1,7 @@
 //! The messages of a key exchange, and their order in the first one under the strict key exchange.
 
 ghost use Rattle.std.specs.Prelude.{◌≡◌};
-ghost use Rattle.ssh_wire.specs.Orders.{is_kex, client_orders, server_orders, violates, judged_by};
+ghost use Rattle.ssh_wire.specs.Orders.{is_kex, client_orders, server_orders, violates, order_answer};
 
 use crate::error::Error;
 use crate::msg::{
@@ -28,7 +28,7 @@ pub fn is_kex_msg(msg: u8) -> bool
 /// A client's message in its place, counted from 0. StrictKeyExchangeViolation with both where some order
 /// reaches the place and none has the message there.
 pub fn validate_client_msg_strict_kex(msg_type: u8, seqno: usize) -> Result<(), Error>
-    ensures { result ≡ judged_by client_orders msg_type seqno }
+    ensures { result ≡ order_answer client_orders msg_type seqno }
 {
     if breaks_client_order(msg_type, seqno) {
         return Err(violation(msg_type, seqno));
@@ -39,7 +39,7 @@ pub fn validate_client_msg_strict_kex(msg_type: u8, seqno: usize) -> Result<(), 
 /// A server's message in its place, counted from 0. StrictKeyExchangeViolation with both where some order
 /// reaches the place and none has the message there.
 pub fn validate_server_msg_strict_kex(msg_type: u8, seqno: usize) -> Result<(), Error>
-    ensures { result ≡ judged_by server_orders msg_type seqno }
+    ensures { result ≡ order_answer server_orders msg_type seqno }
 {
     if breaks_server_order(msg_type, seqno) {
         return Err(violation(msg_type, seqno));

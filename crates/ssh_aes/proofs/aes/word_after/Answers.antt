@@ -9,12 +9,12 @@ pub returns-then-i-words-eq0 : goal.returns-then-i-words-eq0
 returns-then-i-words-eq0 c =
     let e = next_word-first c.args.words c.args.keys.now c.args.i c.if-i-words-eq0.true in
     let k = constants_is (c.args.i / c.args.words - 1) (constant_index c.args.words c.args.i c.requires.words c.requires.high) in
-    rw (c.sum_with_word.ensures, e, c.substituted.ensures, c.substituted-then-i-words-eq0.ensures, c.substituted-then-i-words-eq0-2.ensures, c.substituted-then-i-words-eq0-3.ensures) (simp (add-zero, k) refl)
+    rw (c.sum_with_word.ensures, e, c.substitute_for.ensures, c.substitute_for-then-i-words-eq0.ensures, c.substitute_for-then-i-words-eq0-2.ensures, c.substitute_for-then-i-words-eq0-3.ensures) (simp (add-zero, k) refl)
 
 pub returns-then-i-eq4 : goal.returns-then-i-eq4
 returns-then-i-eq4 c =
     let e = next_word-middle c.args.words c.args.keys.now c.args.i c.if-i-words-eq0.false c.if-words-eq8.true c.if-i-eq4.true in
-    rw (c.sum_with_word-then-i-eq4.ensures, e, c.substituted-then-i-eq4.ensures, c.substituted-then-i-eq4-2.ensures, c.substituted-then-i-eq4-3.ensures, c.substituted-then-i-eq4-4.ensures) (simp add-zero refl)
+    rw (c.sum_with_word-then-i-eq4.ensures, e, c.substitute_for-then-i-eq4.ensures, c.substitute_for-then-i-eq4-2.ensures, c.substitute_for-then-i-eq4-3.ensures, c.substitute_for-then-i-eq4-4.ensures) (simp add-zero refl)
 
 pub returns : goal.returns
 returns c =

@@ -13,11 +13,11 @@ pub loop-turn-preserved : goal.loop-turn-preserved
 loop-turn-preserved c =
     let k = 128 - (c.loop-turn._turn + 1) in
     let e : 128 - c.loop-turn._turn ≡ suc (128 - (c.loop-turn._turn + 1)) = omega arith in
-    let small : times_x 128 block_modulus c.loop-turn.term < 2 ^ 128 = rw (← c.raised-term.ensures) c.raised-term.type_inv in
+    let small : times_x 128 block_modulus c.loop-turn.term < 2 ^ 128 = rw (← c.product_with_x-term.ensures) c.product_with_x-term.type_inv in
     let t = product-turn 128 block_modulus k c.loop-turn.total c.loop-turn.left c.loop-turn.term c.loop-turn.invariant.small small in
     record {
-      sum = rw (c.with_term-total.ensures, c.raised-term.ensures) (t ∙ ap (λ j. bit_xor c.loop-turn.total (reduced 128 block_modulus j c.loop-turn.left c.loop-turn.term)) (sym e) ∙ c.loop-turn.invariant.sum);
-      small = c.raised-term.type_inv;
+      sum = rw (c.with_term-total.ensures, c.product_with_x-term.ensures) (t ∙ ap (λ j. bit_xor c.loop-turn.total (reduced 128 block_modulus j c.loop-turn.left c.loop-turn.term)) (sym e) ∙ c.loop-turn.invariant.sum);
+      small = c.product_with_x-term.type_inv;
     }
 
 pub returns : goal.returns

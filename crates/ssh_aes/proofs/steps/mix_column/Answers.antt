@@ -10,4 +10,4 @@ returns c =
     let b = one_is c.args.b (omega arith) in
     let x = one_is c.args.c (omega arith) in
     let d = one_is c.args.d (omega arith) in
-    rw (c.doubled.ensures, c.tripled.ensures, c.doubled-2.ensures, c.tripled-2.ensures, c.doubled-3.ensures, c.tripled-3.ensures, c.doubled-4.ensures, c.tripled-4.ensures, a, b, x, d) refl
+    rw (c.double_of.ensures, c.triple_of.ensures, c.double_of-2.ensures, c.triple_of-2.ensures, c.double_of-3.ensures, c.triple_of-3.ensures, c.double_of-4.ensures, c.triple_of-4.ensures, a, b, x, d) refl

@@ -1,6 +1,6 @@
 use Rattle.std.proofs.Common.{◌≤◌, ◌+◌, arith, rules, length, take}
 use Rattle.std.proofs.lemmas.Grind.{common_steps}
-use Rattle.ssh_link.specs.Stream.{TakesFront}
+use Rattle.ssh_wire.specs.Outside.{TakesFront}
 use Rattle.ssh_link.proofs.Taking.{bounded_more}
 use Rattle.ssh_link.proofs.stream.read_source.Goals as goal
 use Rattle.ssh_link.proofs.stream.read_source.Goals.{else-loop-text-test, then-loop-text-test+in_ok-read_piece+then-branch-eq0}

@@ -1,11 +1,11 @@
 -- One more byte is combined.
 use Rattle.std.proofs.Common.{refl, arith}
-use Rattle.ssh_mac.specs.Hmac.{combined}
+use Rattle.ssh_mac.specs.Hmac.{bytes_xor}
 use Rattle.ssh_mac.proofs.BlockKey.{combined_more}
 use Rattle.ssh_mac.proofs.hmac.combine.Goals as goal
 
 pub loop-b-init : goal.loop-b-init
-unfolding combined
+unfolding bytes_xor
 loop-b-init c = refl
 
 pub loop-b-preserved : goal.loop-b-preserved

@@ -1,41 +1,56 @@
-use Rattle.std.proofs.Common.{take, arith}
+use Rattle.std.proofs.Common.{◌≡◌, ◌+◌, ◌≤◌, true, take, length, refl, ◌∙◌, arith}
+use Rattle.std.proofs.lemmas.List.{length-take-le}
+use Rattle.ssh_wire.specs.Lines.{longest_line}
+use Rattle.ssh_wire.specs.Reading.{waiting_length}
 use Rattle.ssh_wire.specs.declared.read_id.IdProgress.TheVariants as progress
-use Rattle.ssh_wire.proofs.Sources.{shown, sliced, so_far_start, so_far_next, finds, refuses, none_left, used_within, heard_is, fewer_turns}
+use Rattle.ssh_wire.proofs.Sources.{shown, so_far-start, so_far-next, finds, refuses, used_within, waits_after}
+use Rattle.ssh_wire.proofs.Weights.{held-short, less_room}
 use Rattle.ssh_wire.proofs.from_source.read_until_id.Goals as goal
 
 pub turns-init : goal.turns-init
-turns-init g c = (c.requires.short, omega arith, omega arith, so_far_start c.args.allow c.args.id.now (g.R.Source.left c.args.source.now))
+turns-init g c = record {
+  waiting = c.requires.waits;
+  short = c.requires.short;
+  faults = refl;
+  so_far = so_far-start c.args.allow c.args.id.now (g.R.Source.left c.args.source.now) c.requires.waits c.requires.short;
+}
 
 pub returns-in-Ok-Id-clause-found : goal.returns-in-Ok-Id-clause-found
 returns-in-Ok-Id-clause-found g c =
-    finds c.args.allow c.args.id.now c.turns.id c.feed.new.self (take c.turns.end c.turns.buffer) _ c.in-Ok-Id.used (g.R.Source.left c.args.source.now) (g.R.Source.left c.turns.source)
-    c.turns.invariant.3 (shown c.args.allow c.turns.id (take c.turns.end c.turns.buffer) c.in-Ok-Id.field-0 (progress.Id c.in-Ok-Id.used) c.feed.new.self c.in-Ok-Id.field-0-is c.in-Ok-Id.ensures.fed)
-    (sliced c.turns.buffer c.in-Ok-Id.used c.turns.end (used_within c.turns.buffer c.turns.end c.in-Ok-Id.field-0 c.in-Ok-Id.used c.turns.invariant.1 c.in-Ok-Id.field-0-is c.in-Ok-Id.ensures.within))
-
-pub returns-in-Err-clause-fails : goal.returns-in-Err-clause-fails
-returns-in-Err-clause-fails g c =
-    refuses c.args.allow c.args.id.now c.turns.id c.feed.new.self (take c.turns.end c.turns.buffer) c.in-Err.error (g.R.Source.left c.args.source.now) (g.R.Source.left c.turns.source) _ _
-    c.turns.invariant.3 c.in-Err.ensures.fed
+    let buffer = c.take_some.new.buffer in
+    let n = c.in_ok-taken.taken in
+    let line : waiting_length c.turns.id + n ≤ longest_line = omega (arith, c.in_ok-taken.ensures.most, c.waiting.ensures, held-short c.turns.id c.turns.invariant.short) in
+    finds c.args.allow c.args.id.now c.turns.id c.feed.new.self buffer n c.in-Ok-Id.used (g.R.Source.left c.args.source.now) (g.R.Source.left c.turns.source) (g.R.Source.left c.take_some.new.source)
+    c.in_ok-taken.ensures.within line (used_within buffer n c.in-Ok-Id.field-0 c.in-Ok-Id.used c.in_ok-taken.ensures.within c.in-Ok-Id.field-0-is c.in-Ok-Id.ensures.within)
+    c.turns.invariant.so_far c.in_ok-taken.ensures.next
+    (shown c.args.allow c.turns.id (take n buffer) c.in-Ok-Id.field-0 (progress.Id c.in-Ok-Id.used) c.feed.new.self c.in-Ok-Id.field-0-is c.in-Ok-Id.ensures.fed)
 
 pub turns-smaller : goal.turns-smaller
 turns-smaller g c =
-    fewer_turns c.args.allow c.turns.id c.feed.new.self c.turns.buffer c.turns.end c.in-Ok.taken c.turns.invariant.1 c.in-Ok-NotYet.ensures.short (shown c.args.allow c.turns.id (take c.turns.end c.turns.buffer) c.in-Ok-NotYet.field-0 progress.NotYet c.feed.new.self c.in-Ok-NotYet.field-0-is c.in-Ok-NotYet.ensures.fed) c.in-Ok.ensures.some
+    let buffer = c.take_some.new.buffer in
+    let n = c.in_ok-taken.taken in
+    let size : length (take n buffer) ≡ n = length-take-le n buffer c.in_ok-taken.ensures.within in
+    less_room c.args.allow c.turns.id c.feed.new.self (take n buffer) c.in-Ok-NotYet.ensures.short
+    (shown c.args.allow c.turns.id (take n buffer) c.in-Ok-NotYet.field-0 progress.NotYet c.feed.new.self c.in-Ok-NotYet.field-0-is c.in-Ok-NotYet.ensures.fed)
+    (omega (arith, size, c.in_ok-taken.ensures.some))
 
 pub turns-preserved : goal.turns-preserved
-turns-preserved g c = (
-  c.in-Ok-NotYet.ensures.short,
-  c.in-Ok.ensures.within,
-  omega (arith, c.in-Ok.ensures.count, c.turns.invariant.2),
-  so_far_next c.args.allow c.args.id.now c.turns.id c.feed.new.self (take c.turns.end c.turns.buffer) c.take_some.new.buffer c.in-Ok.taken (g.R.Source.left c.args.source.now) (g.R.Source.left c.turns.source) (g.R.Source.left c.take_some.new.source)
-      c.turns.invariant.3 (shown c.args.allow c.turns.id (take c.turns.end c.turns.buffer) c.in-Ok-NotYet.field-0 progress.NotYet c.feed.new.self c.in-Ok-NotYet.field-0-is c.in-Ok-NotYet.ensures.fed) c.in-Ok.ensures.next,
-)
+turns-preserved g c =
+    let buffer = c.take_some.new.buffer in
+    let n = c.in_ok-taken.taken in
+    let fed = shown c.args.allow c.turns.id (take n buffer) c.in-Ok-NotYet.field-0 progress.NotYet c.feed.new.self c.in-Ok-NotYet.field-0-is c.in-Ok-NotYet.ensures.fed in
+    record {
+      waiting = waits_after c.args.allow c.turns.id c.feed.new.self (take n buffer) fed;
+      short = c.in-Ok-NotYet.ensures.short;
+      faults = c.in_ok-taken.ensures.fault ∙ c.turns.invariant.faults;
+      so_far = so_far-next c.args.allow c.args.id.now c.turns.id c.feed.new.self buffer n (g.R.Source.left c.args.source.now) (g.R.Source.left c.turns.source) (g.R.Source.left c.take_some.new.source)
+          c.in-Ok-NotYet.ensures.short c.turns.invariant.so_far c.in_ok-taken.ensures.next fed;
+    }
 
-pub returns-in-Err-take_some-clause-fails : goal.returns-in-Err-take_some-clause-fails
-returns-in-Err-take_some-clause-fails g c =
-    none_left c.args.allow c.args.id.now c.turns.id c.feed.new.self (take c.turns.end c.turns.buffer) c.take_some.new.buffer c.in-Err-take_some.error (g.R.Source.left c.args.source.now) (g.R.Source.left c.turns.source) (g.R.Source.left c.take_some.new.source) _ _ _
-    c.turns.invariant.2 c.turns.invariant.3 (shown c.args.allow c.turns.id (take c.turns.end c.turns.buffer) c.in-Ok-NotYet.field-0 progress.NotYet c.feed.new.self c.in-Ok-NotYet.field-0-is c.in-Ok-NotYet.ensures.fed) c.in-Err-take_some.ensures.none
-
-pub returns-in-Ok-Id-clause-heard : goal.returns-in-Ok-Id-clause-heard
-returns-in-Ok-Id-clause-heard g c =
-    heard_is c.args.allow c.turns.id (take c.turns.end c.turns.buffer) c.in-Ok-Id.used c.feed.new.self
-    (shown c.args.allow c.turns.id (take c.turns.end c.turns.buffer) c.in-Ok-Id.field-0 (progress.Id c.in-Ok-Id.used) c.feed.new.self c.in-Ok-Id.field-0-is c.in-Ok-Id.ensures.fed)
+pub returns-in-Err-clause-refused : goal.returns-in-Err-clause-refused
+returns-in-Err-clause-refused g c =
+    let buffer = c.take_some.new.buffer in
+    let n = c.in_ok-taken.taken in
+    let line : waiting_length c.turns.id + n ≤ longest_line = omega (arith, c.in_ok-taken.ensures.most, c.waiting.ensures, held-short c.turns.id c.turns.invariant.short) in
+    refuses c.args.allow c.args.id.now c.turns.id c.feed.new.self buffer n _ (g.R.Source.left c.args.source.now) (g.R.Source.left c.turns.source) (g.R.Source.left c.take_some.new.source)
+    c.in_ok-taken.ensures.within line c.turns.invariant.so_far c.in_ok-taken.ensures.next c.in-Err.ensures.fed

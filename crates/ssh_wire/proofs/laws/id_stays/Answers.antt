@@ -1,4 +1,4 @@
-use Rattle.ssh_wire.proofs.LineLaws.{id_stays}
+use Rattle.ssh_wire.proofs.Lemmas.{id_stays}
 use Rattle.ssh_wire.proofs.laws.id_stays.Goals as goal
 
 pub returns : goal.returns

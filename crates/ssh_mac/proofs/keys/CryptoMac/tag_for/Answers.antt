@@ -2,7 +2,7 @@
 use Rattle.std.proofs.Common.{length, ap, ◌∙◌}
 use Rattle.ssh_mac.specs.Digests.{digest_length}
 use Rattle.ssh_mac.specs.Tags.{Keyed}
-use Rattle.ssh_mac.specs.TagLaws.{length-hmac}
+use Rattle.ssh_mac.proofs.TagLaws.{length-hmac}
 use Rattle.ssh_mac.proofs.keys.CryptoMac.tag_for.Goals as goal
 
 pub returns-clause-size : goal.returns-clause-size

@@ -1,8 +1,0 @@
-use Rattle.std.proofs.Common.{◌≡◌, ◌+◌, ◌-◌, ◌*◌, ◌/◌, length, drop}
-use Rattle.ssh_aes.specs.Gcm.{hashed, blocks}
-use Rattle.ssh_aes.proofs.hash.absorbed.Given as goal
-
-abbrev pub invariant-loop-k : goal.invariant-loop-k
-invariant-loop-k l =
-    let n = (length l.bytes + 15) / 16 in
-    hashed l.subkey l.hash (blocks (n - l.k) (drop (16 * l.k) l.bytes)) ≡ hashed l.subkey l.state (blocks n l.bytes)

@@ -1,6 +1,0 @@
-use Rattle.std.proofs.Common.{◌+◌, slice_index}
-use Rattle.ssh_aes.proofs.Written.{IsWritten}
-use Rattle.ssh_aes.proofs.hash.padded_at.Given as goal
-
-abbrev pub invariant-loop-i : goal.invariant-loop-i
-invariant-loop-i l = IsWritten (λ k. slice_index l.bytes (l.at + k)) l.cut l.initial.cut l.i

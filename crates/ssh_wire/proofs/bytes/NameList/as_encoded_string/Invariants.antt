@@ -1,7 +1,0 @@
-use Rattle.std.proofs.Common.{◌≡◌, take}
-use Rattle.std.specs.String.{string_bytes}
-use Rattle.ssh_wire.specs.Forms.{joined}
-use Rattle.ssh_wire.proofs.bytes.NameList.as_encoded_string.Given as goal
-
-abbrev pub invariant-loop-i : goal.invariant-loop-i
-invariant-loop-i l = string_bytes l.text ≡ joined (take l.i l.self.0.items)
