@@ -21,6 +21,8 @@ for name in "$@"; do
   fi
   (cd "crates/$name" && rt lib) >"$copy/log" 2>&1
   rt must-fail "$name" >"$copy/log" 2>&1 || status=1
-  grep -E 'NOT REFUSED|BAD EDIT|NOT TRIED|passed|PROVED' "$copy/log" || tail -n 5 "$copy/log"
+  grep -E 'NOT REFUSED|BAD EDIT|NOT TRIED' "$copy/log"
+  edits=$(find "crates/$name/must-fail" -name '*.edit' | wc -l)
+  echo "$name: $(grep -c ': refused, as it must be' "$copy/log") of $edits planted edits refused"
 done
 exit "$status"

@@ -27,7 +27,7 @@ pub(crate) fn answer(kind: &str, row: &mut Row<'_>, found: &mut String) -> Resul
 }
 
 /// The next word as bytes of this length.
-fn array<const N: usize>(row: &mut Row<'_>) -> Result<[u8; N], Fault> {
+pub(crate) fn array<const N: usize>(row: &mut Row<'_>) -> Result<[u8; N], Fault> {
     let bytes = row.bytes()?;
     let mut array = [0; N];
     if bytes.len() != array.len() {

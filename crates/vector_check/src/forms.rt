@@ -1,5 +1,6 @@
 //! Rows of the forms of RFC 4251 section 5.
 
+use crate::ciphers::say_other;
 use crate::row::{Fault, Row, say, say_bytes, say_number, say_shown};
 use ssh_wire::{
     ChannelId, Error, LimitedString, NameList, Reader, SshId, Text, encode_mpint, put_string,
@@ -123,23 +124,24 @@ fn joined(row: &mut Row<'_>, found: &mut String) -> Result<(), Fault> {
     )
 }
 
-/// How many names, their text, and whether it is written as it was read.
+/// How many names and their text, and `encoded` with what is written of them where that isn't their text.
 fn say_list(found: &mut String, answer: Result<NameList, Error>) -> Result<(), Fault> {
-    match answer {
-        Ok(list) => {
-            say_number(found, list.0.len() as u64)?;
-            let text = list.as_encoded_string()?;
-            say(
-                found,
-                if text.as_str().is_empty() {
-                    "-"
-                } else {
-                    text.as_str()
-                },
-            )
-        }
-        Err(error) => say_shown(found, &error),
+    let list = match answer {
+        Ok(list) => list,
+        Err(error) => return say_shown(found, &error),
+    };
+    say_number(found, list.0.len() as u64)?;
+    let text = list.as_encoded_string()?;
+    let bytes = text.as_str().as_bytes();
+    say(found, if bytes.is_empty() { "-" } else { text.as_str() })?;
+    if bytes.len() >= 1 << 24 {
+        return Err(Fault::Malformed);
     }
+    let mut wanted = Vec::new(*found.allocator());
+    put_string(&mut wanted, bytes)?;
+    let mut encoded = Vec::new(*found.allocator());
+    list.encode(&mut encoded)?;
+    say_other(found, "encoded", encoded.as_slice(), wanted.as_slice())
 }
 
 /// `letters HOW COUNT`: how many names are read of a text of so many names `a`, or of a name-list of one name

@@ -2,8 +2,8 @@
 
 ghost use Rattle.std.specs.Prelude.{◌≡◌, ℕ, List, IsTrue, drop, length, slice_index};
 ghost use Rattle.rand_core.specs.Steps.{stream_of, steps_u32};
-ghost use Rattle.ssh_mac.specs.Names.{key_length as mac_key_length};
-ghost use Rattle.ssh_packet.specs.Names.{key_length, nonce_length};
+ghost use Rattle.ssh_mac.specs.Names.{mac_key_length};
+ghost use Rattle.ssh_packet.specs.Names.{cipher_key_length, nonce_length};
 
 use crate::row::{Fault, Row};
 use rand_core::utils::NextWord;
@@ -64,7 +64,7 @@ fn has_lengths(
     nonce: &[u8],
     mac_key: &[u8],
 ) -> bool
-    ensures { IsTrue result → (length key.now ≡ key_length cipher)
+    ensures { IsTrue result → (length key.now ≡ cipher_key_length cipher)
         × (length nonce.now ≡ nonce_length cipher)
         × (length mac_key.now ≡ mac_key_length mac) }
 {

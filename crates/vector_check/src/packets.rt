@@ -2,17 +2,19 @@
 
 ghost use Rattle.std.specs.Prelude.{Some};
 
-use crate::ciphers::say_other;
+use crate::ciphers::{array, say_other};
 use crate::keys::{Material, Words, words_of};
 use crate::row::{Fault, Row, say, say_bytes, say_number, say_shown};
 use ssh_mac::mac;
 use ssh_packet::compression::{self, Compress};
 use ssh_packet::{
-    OpenKey, OpeningKey, PacketReader, PacketWriter, SSHBuffer, SealKey, SealingKey, cipher, clear,
+    OpenKey, OpeningKey, PacketBytesWriter, PacketReader, PacketWriter, SSHBuffer, SealingKey,
+    cipher, clear,
 };
 use ssh_vectors::MemorySink;
 use ssh_wire::{Error, Failed, Sink, SshId, Text};
 use std::alloc::Global;
+use uses::carry_three;
 
 /// A clear packet of the payload 02.
 const OTHER_PACKET: &[u8] = b"\0\0\0\x0c\x0a\x02\0\0\0\0\0\0\0\0\0\0";
@@ -51,6 +53,7 @@ pub(crate) fn answer(kind: &str, row: &mut Row<'_>, found: &mut String) -> Resul
         "room" => room(row, found)?,
         "flush" => flush(row, found)?,
         "sent_id" => sent_id(row, found)?,
+        "carry" => carry(row, found)?,
         _ => return Ok(false),
     }
     Ok(true)
@@ -126,9 +129,25 @@ fn write_by(
         0 => return writer.packet_raw(rng, payload),
         1 => return writer.write_packet(rng, |out| Ok(out.extend_from_slice(payload)?)),
         2 => writer.packet(rng, |out| Ok(out.extend_from_slice(payload)?))?,
-        _ => writer.packet_bytes(rng, |out| out.extend_from_slice(payload))?,
+        _ => writer.packet_bytes(rng, |out| fill(out, payload))?,
     };
     if answered.as_slice() == payload {
+        Ok(())
+    } else {
+        Err(Error::Inconsistent)
+    }
+}
+
+/// Writes the first byte of a payload and then the others. Inconsistent where the counts are others.
+fn fill(out: &mut PacketBytesWriter, payload: &[u8]) -> Result<(), Error> {
+    if !out.is_empty() {
+        return Err(Error::Inconsistent);
+    }
+    if let Some((first, others)) = payload.split_first() {
+        out.push(*first)?;
+        out.extend_from_slice(others)?;
+    }
+    if out.len() == payload.len() {
         Ok(())
     } else {
         Err(Error::Inconsistent)
@@ -148,7 +167,7 @@ fn seal(row: &mut Row<'_>, found: &mut String) -> Result<(), Fault> {
     for call in 0..4 {
         let keys = material.pair()?;
         let mut rng = Words::of(words.as_slice());
-        let mut writer = PacketWriter::new(keys.local_to_remote, Compress::None, row.alloc());
+        let mut writer = PacketWriter::new(row.alloc(), keys.local_to_remote, Compress::None);
         writer.buffer().seqn = number;
         write_by(call, &mut writer, &mut rng, payload.as_slice())?;
         if call == 0 {
@@ -334,7 +353,7 @@ fn longest(row: &mut Row<'_>, found: &mut String) -> Result<(), Fault> {
     let mut payload = Vec::new(row.alloc());
     payload.resize(row.count()?, 97)?;
     let mut opening = keys.remote_to_local;
-    let mut writer = PacketWriter::new(keys.local_to_remote, Compress::None, row.alloc());
+    let mut writer = PacketWriter::new(row.alloc(), keys.local_to_remote, Compress::None);
     if let Err(error) = write_by(call, &mut writer, &mut Words::of(&[]), payload.as_slice()) {
         say_shown(found, &error)?;
         return say_number(found, writer.output().len() as u64);
@@ -451,4 +470,28 @@ fn sent_id(row: &mut Row<'_>, found: &mut String) -> Result<(), Fault> {
     say_bytes(found, buffer.buffer.as_slice())?;
     say_number(found, u64::from(buffer.seqn))?;
     say_number(found, buffer.bytes as u64)
+}
+
+/// `carry KEY NONCE A B C`: three payloads sealed under `aes256-gcm@openssh.com`, and opened.
+fn carry(row: &mut Row<'_>, found: &mut String) -> Result<(), Fault> {
+    let key = array::<32>(row)?;
+    let nonce = array::<12>(row)?;
+    let (a, b, c) = (row.bytes()?, row.bytes()?, row.bytes()?);
+    if a.is_empty() || b.is_empty() || c.is_empty() {
+        return Err(Fault::Malformed);
+    }
+    let words = words_of(row.alloc(), key.as_slice())?;
+    let mut rng = Words::of(words.as_slice());
+    let carried = carry_three(
+        row.alloc(),
+        &mut rng,
+        &key,
+        &nonce,
+        a.as_slice(),
+        b.as_slice(),
+        c.as_slice(),
+    )?;
+    say_bytes(found, carried.0.as_slice())?;
+    say_bytes(found, carried.1.as_slice())?;
+    say_bytes(found, carried.2.as_slice())
 }

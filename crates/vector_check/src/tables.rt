@@ -1,12 +1,13 @@
 //! Rows of small tables: message orders, reasons, signals, failures, algorithms, limits and texts of errors.
 
+use crate::ciphers::say_other;
 use crate::forms::byte;
 use crate::row::{Fault, Row, say, say_bytes, say_number, say_shown};
 use ssh_packet::OpenError;
 use ssh_wire::{
     Algorithm, AlgorithmKind, Blob, ChannelOpenFailure, ChannelOpenHandleInner, ConfigFault,
-    Disconnect, EncodingFault, Error, HashAlg, Limits, NameList, Payload, PayloadList, SendError,
-    Sig, is_kex_msg, validate_client_msg_strict_kex, validate_server_msg_strict_kex,
+    Disconnect, EncodingFault, Error, HashAlg, IdError, Limits, NameList, Payload, PayloadList,
+    SendError, Sig, is_kex_msg, validate_client_msg_strict_kex, validate_server_msg_strict_kex,
 };
 use std::alloc::Global;
 
@@ -28,6 +29,7 @@ pub(crate) fn answer(kind: &str, row: &mut Row<'_>, found: &mut String) -> Resul
         "blob" => blob(row, found)?,
         "error" => error(row, found)?,
         "open_error" => open_error(row, found)?,
+        "id_error" => id_error(row, found)?,
         _ => return Ok(false),
     }
     Ok(true)
@@ -65,10 +67,13 @@ fn limits(row: &mut Row<'_>, found: &mut String) -> Result<(), Fault> {
     say_number(found, limits.rekey_time_limit)
 }
 
-/// `reason CODE`: the reason of a disconnection.
+/// `reason CODE`: the reason of a disconnection, and its code.
 fn reason(row: &mut Row<'_>, found: &mut String) -> Result<(), Fault> {
     match Disconnect::try_from(row.number32()?) {
-        Ok(reason) => say_shown(found, &reason),
+        Ok(reason) => {
+            say_shown(found, &reason)?;
+            say_number(found, u64::from(reason.code()))
+        }
         Err(error) => say_shown(found, &error),
     }
 }
@@ -212,7 +217,8 @@ fn fault(alloc: Global, name: &str) -> Option<Error> {
     Some(error)
 }
 
-/// `open_error NAME`: the text of the error that a reader's refusal is.
+/// `open_error NAME`: the error that a reader's refusal is, its text, and `itself` with the refusal's own text where
+/// that is another.
 fn open_error(row: &mut Row<'_>, found: &mut String) -> Result<(), Fault> {
     let error = match row.word()? {
         "PacketSize(7)" => OpenError::PacketSize(7),
@@ -222,7 +228,25 @@ fn open_error(row: &mut Row<'_>, found: &mut String) -> Result<(), Fault> {
         "Disconnect" => OpenError::Disconnect,
         _ => return Err(Fault::Malformed),
     };
-    let error = Error::from(error);
+    let own = format!(in row.alloc(); "{error}")?;
+    say_error(found, row.alloc(), Error::from(error), own.as_str())
+}
+
+/// `id_error NAME`: the same of the refusal of a version line.
+fn id_error(row: &mut Row<'_>, found: &mut String) -> Result<(), Fault> {
+    let error = match row.word()? {
+        "Version" => IdError::Version,
+        "Disconnect" => IdError::Disconnect,
+        "IO" => IdError::IO,
+        _ => return Err(Fault::Malformed),
+    };
+    let own = format!(in row.alloc(); "{error}")?;
+    say_error(found, row.alloc(), Error::from(error), own.as_str())
+}
+
+fn say_error(found: &mut String, alloc: Global, error: Error, own: &str) -> Result<(), Fault> {
+    let text = format!(in alloc; "{error}")?;
     say_shown(found, &error)?;
-    say_text(found, row.alloc(), &error)
+    say(found, text.as_str())?;
+    say_other(found, "itself", own.as_bytes(), text.as_str().as_bytes())
 }
