@@ -78,7 +78,18 @@ LEMMAS = {
     "hashed": "hash_of_blocks", "combined": "mixed_byte",
 }
 
+# lemmas that have other names in the module that crates above cite
+PASSED_ON = {
+    "length-digest_of": "digests_have_length", "length-tag_of": "tags_have_length",
+    "tag_length-short": "tags_are_short", "own-taken": "own_tag_taken", "taken-own": "taken_is_tag",
+    "padded": "padding_fills",
+}
+
+# declared types that stand in another module
+DECLARED = {"Rattle.ssh_wire.specs.declared.bytes.NameList": "Rattle.ssh_wire.specs.declared.name_list.NameList"}
+
 WORD = r"[\w'\-]"
+INNER = re.compile(r"\buse\s+Rattle\.(ssh_wire|ssh_aes|ssh_mac|ssh_packet)\.(?:proofs\.(?!Lemmas)\w+|specs\.TagLaws)\.\{([^}]*)\}")
 IMPORT = re.compile(r"\buse\s+Rattle\.(\w+)\.((?:specs|proofs)(?:\.\w+)+)(?:\.\{([^}]*)\}|\s+as\s+(\w+))?")
 CLAUSE = re.compile(r"\b(?:requires|ensures)\*?(?:\s+[a-z_]+)?\s*\{|\bghost\s+(?!use\b)\w+\s*[=:]\s*\{")
 
@@ -145,6 +156,22 @@ def lemmas_changed(path, text):
     return text
 
 
+def lemmas_moved(path, text):
+    """The text with what it cites of another crate's proofs cited from the module for crates above."""
+    names = set()
+
+    def change(match):
+        if match.group(1) in path.parts:
+            return match.group(0)
+        names.update(re.split(r",\s*", match.group(2).strip()))
+        return f"use Rattle.{match.group(1)}.proofs.Lemmas.{{{match.group(2)}}}"
+
+    text = INNER.sub(change, text)
+    for name in names & PASSED_ON.keys():
+        text = re.sub(rf"(?<!{WORD}){re.escape(name)}(?!{WORD})", PASSED_ON[name], text)
+    return text
+
+
 def imports_changed(text):
     """The text with the lists of its imports changed."""
     def change(match):
@@ -184,6 +211,8 @@ def clauses_changed(text, names, modules):
 
 
 def brought_up(path, text):
+    for old, new in DECLARED.items():
+        text = text.replace(old, new)
     names, modules = scope_of(path, text)
     if path.suffix == ".rt":
         text = clauses_changed(text, names, modules)
@@ -193,7 +222,7 @@ def brought_up(path, text):
                 if crate in path.parts:
                     text = re.sub(rf"{place}{re.escape(old)}\b", place + new, text)
         return imports_changed(text)
-    head = imports_changed(lemmas_changed(path, text))
+    head = imports_changed(lemmas_moved(path, lemmas_changed(path, text)))
     lines = head.split("\n")
     changed = []
     for line in lines:

@@ -7,7 +7,7 @@ use Rattle.ssh_wire.specs.Lines as lines
 use Rattle.ssh_wire.specs.Lines.{IdFound, id_line, id_text, id_of}
 use Rattle.ssh_wire.specs.Reading.{IdReading, Waiting, Heard, Failed}
 use Rattle.ssh_wire.specs.declared.ssh_id.SshId.{SshId}
-use Rattle.ssh_wire.proofs.LineLaws.{id_stays, less_than_a_line}
+use Rattle.ssh_wire.proofs.Lemmas.{id_stays, less_than_a_line}
 use Rattle.ssh_packet.specs.Front.{Unfinished, Refused}
 use Rattle.ssh_packet.specs.Reading.{Reader}
 use Rattle.ssh_link.specs.ClearRun.{IsWholeLine, clear_wire}

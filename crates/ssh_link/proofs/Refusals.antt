@@ -1,7 +1,7 @@
 -- A reader's refusal under the clear key.
 use Rattle.std.proofs.Common.{◌≡◌, inl, inr, Option, Result, Err, subst}
 use Rattle.ssh_packet.specs.Front.{PacketSize, IndexOutOfBounds, PacketAuth, DecryptionError}
-use Rattle.ssh_packet.specs.Lending.{LeavesNext, RefusesNext}
+use Rattle.ssh_packet.specs.Reading.{LeavesNext, RefusesNext}
 use Rattle.ssh_packet.specs.Reading.{Reader}
 use Rattle.ssh_packet.specs.Sealing.{Sealing, Clear}
 use Rattle.ssh_packet.specs.declared.error.OpenError.{OpenError}

@@ -5,8 +5,8 @@ use Rattle.std.proofs.lemmas.List.{length-replicate, take-append-drop, length-ta
 use Rattle.ssh_packet.specs.Sealing.{Item, Clear, sealed_packet, next_number, padding_length, IsAdmissible}
 use Rattle.ssh_packet.specs.Stream.{packets, number_after}
 use Rattle.ssh_packet.specs.Front.{Front, Whole, Unfinished, Refused, front_of}
-use Rattle.ssh_packet.proofs.Shapes.{length_framed, cut_alike}
-use Rattle.ssh_packet.proofs.Fronts.{front_whole, front_stays_whole, front_stays_refused}
+use Rattle.ssh_packet.proofs.Lemmas.{length_framed, cut_alike}
+use Rattle.ssh_packet.proofs.Lemmas.{front_whole, front_stays_whole, front_stays_refused}
 use Rattle.ssh_link.specs.ClearRun.{clear_item, packet_size}
 use Rattle.ssh_link.specs.Delivering.{FindsPackets, payloads_of}
 

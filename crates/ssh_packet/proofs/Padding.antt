@@ -23,10 +23,10 @@ by_block : (etm : Bool) (n : ℕ) → IsPadding (block_padding etm n) (if etm th
 by_block true n = by_16 (1 + n)
 by_block false n = by_16 (5 + n)
 
-pub padded : (sealing : Sealing) (n : ℕ) → IsPadding (padding_length sealing n) (filled_length sealing n (padding_length sealing n)) (unit_of sealing)
-padded Clear n = by_8 (5 + n)
-padded (Block running mac) n = by_block (is_encrypt_then_mac mac) n
-padded (Gcm key nonce) n = by_16 (1 + n)
+pub padding_fills : (sealing : Sealing) (n : ℕ) → IsPadding (padding_length sealing n) (filled_length sealing n (padding_length sealing n)) (unit_of sealing)
+padding_fills Clear n = by_8 (5 + n)
+padding_fills (Block running mac) n = by_block (is_encrypt_then_mac mac) n
+padding_fills (Gcm key nonce) n = by_16 (1 + n)
 
 padded_by : (sealing : Sealing) (payload : List ℕ) (stream : Stream) → length (item_of sealing payload stream).padding ≡ padding_length sealing (length payload) → IsPadded sealing (item_of sealing payload stream)
 padded_by Clear payload stream h = refl

@@ -148,17 +148,17 @@ gcm_shape key nonce =
     headed_shape (gcm_text key nonce) (gcm_tag key nonce) (λ h t. w.same_length h t) (λ h s t. w.injective h s t)
     (λ h s k t. w.tag h s ∙ sym (w.tag k t))
 
-text_of : (sealing : Sealing) (a : Item) → IsAdmissible sealing a → IsText (shortest_packet sealing) (framed_text a)
-text_of sealing a h = record { bytes = framed_bytes sealing a h; long = let l = h.shown in omega (arith, length_framed a, l) }
+is_text : (sealing : Sealing) (a : Item) → IsAdmissible sealing a → IsText (shortest_packet sealing) (framed_text a)
+is_text sealing a h = record { bytes = framed_bytes sealing a h; long = let l = h.shown in omega (arith, length_framed a, l) }
 
 pub one_packet : (sealing : Sealing) (number : ℕ) (a b : Item) (x y : List ℕ) → IsAdmissible sealing a → IsAdmissible sealing b → sealed_packet sealing number a ++ x ≡ sealed_packet sealing number b ++ y → (a ≡ b) × (x ≡ y)
-one_packet Clear number a b x y ha hb e = one_by_shape 4 (λ t. t) clear_shape a b x y (text_of Clear a ha) (text_of Clear b hb) ha.short hb.short e
+one_packet Clear number a b x y ha hb e = one_by_shape 4 (λ t. t) clear_shape a b x y (is_text Clear a ha) (is_text Clear b hb) ha.short hb.short e
 one_packet (Block r mac) number a b x y ha hb e =
     one_by_shape (shortest_encrypted (is_encrypt_then_mac mac) r) (text_with_tag (is_encrypt_then_mac mac) (masked_text r) (tag_of mac number)) (enclosed_shape (is_encrypt_then_mac mac) r mac number) a b x y
-    (text_of (Block r mac) a ha) (text_of (Block r mac) b hb) ha.short hb.short e
+    (is_text (Block r mac) a ha) (is_text (Block r mac) b hb) ha.short hb.short e
 one_packet (Gcm key nonce) number a b x y ha hb e =
     one_by_shape 4 (λ t. take 4 t ++ (gcm_text key nonce (take 4 t) (drop 4 t) ++ gcm_tag key nonce (take 4 t) (drop 4 t))) (gcm_shape key nonce) a b x y
-    (text_of (Gcm key nonce) a ha) (text_of (Gcm key nonce) b hb) ha.short hb.short e
+    (is_text (Gcm key nonce) a ha) (is_text (Gcm key nonce) b hb) ha.short hb.short e
 
 -- ---- how long a packet is
 

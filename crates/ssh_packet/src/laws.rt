@@ -61,13 +61,13 @@ pub fn reads_by_type()
 {}
 
 /// What a reader takes off a front of what was written is what was written, through the epochs whose openings agree.
-pub fn carried()
+pub fn reads_what_was_written()
     ensures { ReadsWhatWasWritten }
 {}
 
 /// Padding is 4 to 19 bytes. With it a packet in clear is a multiple of 8 bytes, and what is encrypted of the
 /// others a multiple of 16.
-#[tactic(auto, using(crate::proofs::Lemmas::padded))]
-pub fn padded()
+#[tactic(auto, using(crate::proofs::Lemmas::padding_fills))]
+pub fn padding_fills()
     ensures { PaddingFills }
 {}

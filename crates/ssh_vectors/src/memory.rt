@@ -1,6 +1,6 @@
 //! A source and a sink in memory. No read and no write takes memory.
 
-ghost use Rattle.std.specs.Prelude.{◌≡◌, [], ◌+◌, ◌≤◌, take, length, min, OnOk, IfOk, IfErr, Some, replicate};
+ghost use Rattle.std.specs.Prelude.{◌≡◌, [], take, length, IfOk, IfErr, Some};
 ghost use Rattle.ssh_wire.specs.declared.error.Error.TheVariants.{Memory};
 ghost use Rattle.ssh_vectors.specs.Memory.{is_listed};
 

@@ -1,10 +1,8 @@
 -- What was heard, as the id's text in all bytes.
-use Rattle.std.proofs.Common.{◌≡◌, ℕ, Bool, List, ◌++◌, length, Option, Some, None, IfSome, Result, Ok, Err, sym, ap, ◌∙◌}
+use Rattle.std.proofs.Common.{◌≡◌, ℕ, Bool, List, ◌++◌, length, Option, Some, None, IfSome, Ok, sym, ap, ◌∙◌}
 use Rattle.ssh_wire.specs.Lines.{IdFound, NotYet, Id, Version, id_of}
 use Rattle.ssh_wire.specs.Reading.{IdReading, Waiting, Heard, Failed, still_allowed, reading_left, Decides, text_heard}
 use Rattle.ssh_wire.specs.FromSource.{IdRead, WhileWaiting, Repeats, FindsId, HasId}
-use Rattle.ssh_wire.specs.declared.error.Error.{Error}
-use Rattle.ssh_wire.specs.declared.error.IdError.{IdError}
 use Rattle.ssh_wire.specs.declared.read_id.IdProgress.TheVariants as progress
 
 found_text : (found : IdFound) (had used : ℕ) (left new : IdReading) → Decides found had left (Ok (progress.Id used)) new → (end : ℕ) × (found ≡ Id (text_heard new) end)

@@ -188,8 +188,3 @@ goes_further allow old now mid new piece used more before h f = λ r last g.
     let Q : Result IdProgress Error → Type 0 = λ x. Feeds allow old piece x last in
     subst Q (shifted_twice used more r)
     (before (shifted_answer more r) last (one_more allow now mid new (drop used piece) more r last h f (subst P (sym (drop-drop more used piece)) g)))
-
-pub shifted_none : (r : Result IdProgress Error) → shifted_answer 0 r ≡ r
-shifted_none (Ok progress.NotYet) = refl
-shifted_none (Ok (progress.Id k)) = let same : 0 + k ≡ k = omega arith in ap (λ x. Ok (progress.Id x)) same
-shifted_none (Err e) = refl

@@ -1,7 +1,7 @@
 -- Reading a version line from a source: what was answered of a piece is answered of all bytes.
-use Rattle.std.proofs.Common.{◌≡◌, ℕ, zero, suc, ◌+◌, ◌-◌, ◌<◌, ◌≤◌, Bool, true, false, List, [], ◌++◌, length, take, drop, Option, Some, None, IfSome, Result, Ok, Err, refl, sym, ap, ◌∙◌, subst, append_assoc, append-nil, length-append, arith}
+use Rattle.std.proofs.Common.{◌≡◌, ℕ, zero, suc, ◌+◌, ◌-◌, ◌<◌, ◌≤◌, Bool, true, List, [], ◌++◌, length, take, drop, Option, Some, None, IfSome, Result, Ok, Err, refl, sym, ap, ◌∙◌, subst, append_assoc, append-nil, length-append, arith}
 use Rattle.std.proofs.lemmas.List.{take-append-drop, length-take-le, drop-take}
-use Rattle.ssh_wire.specs.Lines.{IdFound, NotYet, Id, Version, id_of, line_end, Unfinished, found_by_line, line_to, longest_line}
+use Rattle.ssh_wire.specs.Lines.{IdFound, NotYet, Id, Version, id_of, line_end, Unfinished, longest_line}
 use Rattle.ssh_wire.specs.Outside.{IsAtEnd, TakesNext, TakesFront}
 use Rattle.ssh_wire.specs.Reading.{IdReading, Waiting, Heard, Failed, still_allowed, by_end, reading_left, Decides, Feeds, IsShort, waiting_length, waits, used_in, end_answer}
 use Rattle.ssh_wire.specs.Stepping.{shifted_answer}

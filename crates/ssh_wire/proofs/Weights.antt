@@ -1,5 +1,5 @@
 -- How much of a version line and the lines before it may still come: each turn leaves less.
-use Rattle.std.proofs.Common.{◌≡◌, ℕ, zero, suc, ◌+◌, ◌-◌, ◌*◌, ◌<◌, ◌≤◌, Bool, true, false, List, [], ◌++◌, length, take, drop, Option, Some, None, Ok, if◌then◌else◌, nat_lt, nat_le, refl, sym, ap, ◌∙◌, length-append, length-drop, arith}
+use Rattle.std.proofs.Common.{◌≡◌, ℕ, zero, suc, ◌+◌, ◌-◌, ◌*◌, ◌<◌, ◌≤◌, Bool, true, false, List, ◌++◌, length, take, drop, Option, Some, None, Ok, if◌then◌else◌, nat_lt, nat_le, refl, sym, ap, ◌∙◌, length-append, length-drop, arith}
 use Rattle.std.proofs.lemmas.Bool.Decides.{nat_tests}
 use Rattle.ssh_wire.specs.Lines.{NotYet, id_of, line_end, line_text, is_id_text, Line, Unfinished, IdLine, OtherLine, TooLong, line_to, line_of, longest_line, other_line_limit}
 use Rattle.ssh_wire.specs.Reading.{IdReading, Waiting, Heard, Failed, still_allowed, by_end, reading_left, Feeds, IsShort, waiting_length}

@@ -1,5 +1,5 @@
 -- Reading a version line from a source of bytes.
-use Rattle.std.specs.Prelude.{◌≡◌, ℕ, ◌+◌, ◌*◌, ◌-◌, ◌≤◌, Bool, true, List, [], ◌++◌, length, drop, Option, Some, IfSome, Result, Ok, Err, OnOk, OnErr, IfErr}
+use Rattle.std.specs.Prelude.{◌≡◌, ℕ, ◌+◌, ◌*◌, ◌-◌, ◌≤◌, Bool, true, List, ◌++◌, length, drop, Option, Some, IfSome, Result, Ok, Err, OnOk, OnErr, IfErr}
 use Rattle.std.specs.Borrow.{Bor}
 use Rattle.ssh_wire.specs.Lines.{longest_line, id_of, Id}
 use Rattle.ssh_wire.specs.Outside.{Rose, IsAtEnd, TakesNext, TakesFront}

@@ -1,7 +1,6 @@
 //! Host key algorithms (RFC 8709, RFC 5656, RFC 8332, RFC 4253 section 6.6).
 
-ghost use Rattle.std.specs.Prelude.{◌≡◌, List, ℕ, IfSome, Some};
-ghost use Rattle.std.specs.Option.{option_copied};
+ghost use Rattle.std.specs.Prelude.{◌≡◌, IfSome, Some};
 
 /// A host key algorithm.
 #[derive(Clone, Copy, Debug, PartialEq, Eq, Hash)]
@@ -38,7 +37,7 @@ const ALGORITHMS: [Algorithm; 7] = [
 ];
 
 impl Algorithm {
-    ghost use Rattle.ssh_wire.specs.Algorithms.{algorithm_name, certificate_name, algorithms, algorithm_named, hash_of, with_hash};
+    ghost use Rattle.ssh_wire.specs.Algorithms.{algorithm_name, certificate_name, algorithm_named, hash_of, with_hash};
 
     /// The name.
     pub fn as_str(self) -> &'static str

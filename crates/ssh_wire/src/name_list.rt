@@ -1,11 +1,11 @@
 //! Lists of names as text (RFC 4251 section 5, name-list).
 
-ghost use Rattle.std.specs.Prelude.{◌≡◌, ◌<◌, ◌≤◌, ◌^◌, ◌++◌, ◌∷◌, [], nat_lt, List, ℕ, ◌+◌, length, vec_len, vec_capacity, take, OnOk, OnErr, IfOk, IfErr, IfSome, IsOk, MatchResult, ◌⊎◌, Result, Ok, None, position};
+ghost use Rattle.std.specs.Prelude.{◌≡◌, ◌<◌, ◌≤◌, ◌^◌, ◌++◌, ◌∷◌, nat_lt, List, ℕ, ◌+◌, length, vec_len, vec_capacity, take, OnOk, OnErr, IfOk, IfErr, IfSome, IsOk, position};
 ghost use Rattle.std.specs.List.{slice_split, list_all};
 ghost use Rattle.std.specs.String.{string_bytes};
 ghost use Rattle.ssh_wire.specs.Forms.{joined_names, name_list};
 ghost use Rattle.ssh_wire.specs.Fields.{Gives, IsMadeInMemory, TakesFormInMemory, IsReadInMemory};
-ghost use Rattle.ssh_wire.specs.Names.{is_comma, without_last_comma, is_name, fault_of, names_or_fault, names_of, names_at, IsName, AreNames, name_list_limit};
+ghost use Rattle.ssh_wire.specs.Names.{is_comma, without_last_comma, is_name, fault_of, names_or_fault, names_of, names_at, AreNames, name_list_limit};
 ghost use Rattle.ssh_wire.specs.Naming.{parts_behind, behind_comma, Admits, Spelled};
 ghost use Rattle.ssh_wire.specs.declared.error.Error.TheVariants.{Memory};
 

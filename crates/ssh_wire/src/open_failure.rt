@@ -1,7 +1,6 @@
 //! Why a channel isn't opened (RFC 4254 section 5.1).
 
 ghost use Rattle.std.specs.Prelude.{◌≡◌, IfOk, IfErr};
-ghost use Rattle.std.specs.String.{string_bytes};
 ghost use Rattle.ssh_wire.specs.FailureTexts.{unknown_text};
 ghost use Rattle.ssh_wire.specs.declared.error.Error.TheVariants.{Memory};
 

@@ -1,6 +1,6 @@
 //! Reading the forms of RFC 4251 section 5 one after the other.
 
-ghost use Rattle.std.specs.Prelude.{◌≡◌, ◌∷◌, [], ◌++◌, ◌<◌, ◌^◌, ◌-◌, true, List, ℕ, length, IfOk, IfErr, Ok};
+ghost use Rattle.std.specs.Prelude.{◌≡◌, ◌∷◌, [], ◌++◌, ◌<◌, ◌^◌, ◌-◌, true, List, ℕ, length, IfOk, IfErr};
 ghost use Rattle.std.specs.Str.{is_utf8};
 ghost use Rattle.ssh_wire.specs.Forms.{AreBytes, u32be, string, mpint, magnitude};
 ghost use Rattle.ssh_wire.specs.Fields.{byte_at, u32_at, string_at, text_at, mpint_at, TakesForm, IsRead};

@@ -1,6 +1,6 @@
 //! The peer's version line, read from a source.
 
-ghost use Rattle.std.specs.Prelude.{◌≡◌, ◌≤◌, List, [], slice_range, true, false, IfOk, IfErr, OnOk, OnErr, IfSome};
+ghost use Rattle.std.specs.Prelude.{◌≡◌, ◌≤◌, [], slice_range, true, false, IfOk, IfErr, OnOk, OnErr, IfSome};
 ghost use Rattle.ssh_wire.specs.Lines.{longest_line};
 ghost use Rattle.ssh_wire.specs.Reading.{Waiting, IsShort};
 ghost use Rattle.ssh_wire.specs.FromSource.{IdRead, UnlessHeard};
@@ -75,9 +75,10 @@ impl<R: Source> SshRead<R> {
         }
     }
 
-    /// Reads until a line decides, where other lines may stand before the id line or not, and takes no byte
-    /// behind the piece that decides. Version where no id line came, Disconnect where the source ended
-    /// first, IO on a fault. After an id or Version the answer is the same, and nothing is read.
+    /// Reads until a line decides, where other lines may stand before the id line or not. Version where no
+    /// id line came, Disconnect where the source ended first, IO on a fault. After an id or Version the
+    /// answer is the same, and nothing is read. Of a source that tells its bytes, none behind the piece
+    /// that decides is taken, and with what waited at most 21 lines of 255 bytes.
     pub fn hear(&mut self, allow: bool) -> Result<(), IdError>
         ensures found { WhileWaiting self.old.id (IfSome (R.left self.old.source) (λ bytes. OnOk result (FindsId allow self.old.id bytes (R.left self.new.source) self.new.id self.new.behind))) }
         ensures refused { WhileWaiting self.old.id (IfSome (R.left self.old.source) (λ bytes. IfErr result (λ e. GivesNoId allow self.old.id bytes (R.left self.new.source) e self.new.id))) }
@@ -102,7 +103,8 @@ impl<R: Source> SshRead<R> {
 
     /// What was read behind the id line; none before it.
     pub fn rest(&self) -> &[u8]
-        ensures { result.now ≡ self.now.behind }
+        ensures value { result.now ≡ self.now.behind }
+        ensures none { UnlessHeard self.now.id (result.now ≡ []) }
     {
         &self.piece[self.start..self.end]
     }

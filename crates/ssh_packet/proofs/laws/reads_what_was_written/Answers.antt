@@ -1,7 +1,7 @@
 use Rattle.std.proofs.Common.{[], Some, refl}
 use Rattle.ssh_packet.specs.Stream.{first_place}
 use Rattle.ssh_packet.proofs.Streams.{read_same_by}
-use Rattle.ssh_packet.proofs.laws.carried.Goals as goal
+use Rattle.ssh_packet.proofs.laws.reads_what_was_written.Goals as goal
 
 pub returns : goal.returns
 returns c ends_by k read written a b fed rest wire more plain agree reads writes joined =
