@@ -2,7 +2,7 @@
 use Rattle.std.proofs.Common.{◌≡◌, ℕ, ◌+◌, ◌<◌, ◌≤◌, List, [], ◌∷◌, ◌++◌, length, drop, sym, ◌∙◌, ap, subst, refl, arith, Result, Option, Ok, Err, Some, None}
 use Rattle.std.proofs.lemmas.List.{append-nil, drop_all}
 use Rattle.rand_core.specs.Stream.{Stream}
-use Rattle.ssh_packet.specs.Front.{Front, Whole, Unfinished, Refused, front_of}
+use Rattle.ssh_packet.specs.Front.{Whole, front_of}
 use Rattle.ssh_packet.specs.Laws.{OnePacket, FrontWhole}
 use Rattle.ssh_packet.specs.Reading.{Reader, HandsOut, LeavesNext}
 use Rattle.ssh_packet.specs.Sealing.{Item, Sealing, IsAdmissible, sealed_packet, item_of, moved_on, next_number}

@@ -1,4 +1,4 @@
-use Rattle.std.proofs.Common.{rules, ◌≡◌, ℕ, List, length, ◌≤◌, ◌++◌, Ok, ap, ◌∙◌, sym, subst, arith}
+use Rattle.std.proofs.Common.{length, ◌≤◌, Ok, ap, ◌∙◌, arith}
 use Rattle.ssh_packet.specs.Keys.{opening_of}
 use Rattle.uses.proofs.Carrying.{on_its_way, carried_over, hands_out, nothing_else}
 use Rattle.uses.proofs.sealing.carry.Goals as goal
