@@ -46,6 +46,7 @@ pub(crate) fn answer(kind: &str, row: &mut Row<'_>, found: &mut String) -> Resul
         "keys_like" => keys_like(row, found)?,
         "seal" => seal(row, found)?,
         "open" => open(row, found)?,
+        "forged" => forged(row, found)?,
         "shows_length" => shows_length(row, found)?,
         "longest" => longest(row, found)?,
         "count" => count(row, found)?,
@@ -245,6 +246,22 @@ fn open(row: &mut Row<'_>, found: &mut String) -> Result<(), Fault> {
         say(found, cut.as_str())?;
     }
     Ok(())
+}
+
+/// `forged CIPHER MAC KEY NONCE MACKEY NUMBER BYTES`: what a key answers to a packet of a wrong tag, and the bytes as
+/// they stand then.
+fn forged(row: &mut Row<'_>, found: &mut String) -> Result<(), Fault> {
+    let mut key = Material::of(row)?.pair()?.remote_to_local;
+    let number = row.number32()?;
+    let mut bytes = row.bytes()?;
+    if bytes.len() > 1 << 24 || bytes.len() < 4 + key.tag_len() {
+        return Err(Fault::Refused);
+    }
+    match key.open(number, bytes.as_mut_slice()) {
+        Ok(_) => say(found, "opened")?,
+        Err(error) => say_shown(found, &error)?,
+    }
+    say_bytes(found, bytes.as_slice())
 }
 
 /// What a reader finds in bytes that come in pieces of a size.
