@@ -31,7 +31,8 @@ OpensAgain = (sealing : Sealing) (number : ℕ) (text packet tag : List ℕ) →
     → (tag ≡ tag_for sealing number packet) × (text_in sealing packet ≡ text)
     × (opened_past sealing packet ≡ moved_past sealing text)
 
--- so does a pair of keys at one state, whatever their types: what one seals the other opens, and both are at one state again
+-- so does a pair of keys at one state, whatever their types: what one seals the other opens, and both are at one state
+-- again
 abbrev pub PairOpens : {S O : Type 0} → (S → Sealing) → (O → Sealing) → Type 0
 PairOpens {S} {O} sealing opening = (s : S) (o : O) (number : ℕ) (text packet tag : List ℕ) → sealing s ≡ opening o
     → AreBytes text → 4 ≤ length text → length packet ≡ length text
