@@ -13,7 +13,9 @@ ghost use Rattle.ssh_negotiate.specs.declared.negotiation.HostName.TheVariants.{
 
 use crate::kex;
 use crate::negotiation::HostName;
-use crate::preferred::{HostCertificate, HostKey, Preferred, ServerKeys, copied, fitting, is_fitting};
+use crate::preferred::{
+    HostCertificate, HostKey, Preferred, ServerKeys, copied, fitting, is_fitting,
+};
 use ssh_wire::{Algorithm, Error, Side};
 use std::alloc::{AllocError, Global};
 
@@ -42,8 +44,7 @@ pub fn server_certificate_names(
 fn is_key_there(keys: &[HostKey], certificate: &HostCertificate) -> bool
     ensures { result ≡ has_key keys.now certificate.now }
 {
-    keys.iter()
-        .any(|key| key.blob.as_slice() == certificate.key_blob.as_slice())
+    keys.iter().any(|key| key.blob.as_slice() == certificate.key_blob.as_slice())
 }
 
 /// Appends the preferred algorithms that a certificate fits.
@@ -114,10 +115,7 @@ fn is_foreign(side: Side, name: kex::Name) -> bool
 
 /// The names without the extension names. Memory.
 #[tactic(auto, unfolding(crate::specs::Chosen::without_extensions))]
-pub(crate) fn comparable_kex(
-    alloc: Global,
-    kex: &[kex::Name],
-) -> Result<Vec<kex::Name>, AllocError>
+pub(crate) fn comparable_kex(alloc: Global, kex: &[kex::Name]) -> Result<Vec<kex::Name>, AllocError>
     ensures { IfOk result (λ v. v.items ≡ without_extensions kex.now) }
 {
     kex.iter()
