@@ -2,7 +2,7 @@
 """Usage: bench/definitions.py
 
 Checks that each name of docs/DEFINITIONS.md is defined in a file that its row names, below the crate of its heading,
-and that each definition file of that crate is named in some row. Prints what isn't so, and ends with status 1 then.
+and that each definition file of each crate is named in some row. Prints what isn't so, and ends with status 1 then.
 """
 import pathlib
 import re
@@ -38,6 +38,8 @@ def main():
             continue
         there = set().union(*(defined(path) for path in paths))
         faults += [f"{crate}: {name} isn't defined in {', '.join(files)}" for name in re.findall(r"`([^`]+)`", cells[0]) if name not in there]
+    for lib in sorted(TOP.glob("crates/*/specs/Lib.antt")):
+        named.setdefault(lib.parent.parent.name, set())
     for crate, files in named.items():
         for path in sorted((TOP / "crates" / crate / "specs").glob("*.antt")):
             if path.stem not in files | {"Lib"}:

@@ -36,7 +36,8 @@ pub record Submits (old : ClearEnd) (payload : List ℕ) (new : ClearEnd) : Type
 
 -- why a payload isn't sent
 abbrev pub CannotSubmit : List ℕ → Error → Type 0
-CannotSubmit payload error = ((is_bad_size (length payload) ≡ true) × (error ≡ PacketSize (length payload))) ⊎ (error ≡ Memory)
+CannotSubmit payload error = ((is_bad_size (length payload) ≡ true) × (error ≡ PacketSize (length payload)))
+    ⊎ (error ≡ Memory)
 
 -- the next n bytes of the other's wire, or all that wait
 abbrev pub next_piece : List ℕ → ℕ → ℕ → List ℕ
@@ -54,8 +55,10 @@ CannotDeliver old wire n error = CannotTake old.receiver (next_piece wire old.ta
 abbrev pub StepsOn : ClearLink → ClearStep → ClearLink → Type 0
 StepsOn old (Submit Client payload) new = Submits old.client payload new.client × (new.server ≡ old.server)
 StepsOn old (Submit Server payload) new = Submits old.server payload new.server × (new.client ≡ old.client)
-StepsOn old (Deliver Client n) new = Delivers old.client old.server.writer.output n new.client × (new.server ≡ old.server)
-StepsOn old (Deliver Server n) new = Delivers old.server old.client.writer.output n new.server × (new.client ≡ old.client)
+StepsOn old (Deliver Client n) new = Delivers old.client old.server.writer.output n new.client
+    × (new.server ≡ old.server)
+StepsOn old (Deliver Server n) new = Delivers old.server old.client.writer.output n new.server
+    × (new.client ≡ old.client)
 
 -- why a step of the link is refused
 abbrev pub CannotStep : ClearLink → ClearStep → Error → Type 0

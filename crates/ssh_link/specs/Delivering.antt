@@ -4,10 +4,12 @@ use Rattle.ssh_packet.specs.Sealing.{Item, Clear, next_number}
 use Rattle.ssh_packet.specs.Front.{Front, Whole, Unfinished, Fault, Refused, front_of}
 use Rattle.ssh_packet.specs.Reading.{Reader}
 
--- the reader finds these packets at the front of the bytes, one after the other, and then it finds `end` before the rest
+-- the reader finds these packets at the front of the bytes, one after the other, and then it finds `end` before the
+-- rest
 abbrev pub FindsPackets : ℕ → List ℕ → List Item → List ℕ → Front → Type 0
 FindsPackets number bytes [] rest end = (bytes ≡ rest) × (front_of Clear number bytes ≡ end)
-FindsPackets number bytes (item ∷ items) rest end = (more : List ℕ) × (front_of Clear number bytes ≡ Whole item more) × FindsPackets (next_number number) more items rest end
+FindsPackets number bytes (item ∷ items) rest end = (more : List ℕ) × (front_of Clear number bytes ≡ Whole item more)
+    × FindsPackets (next_number number) more items rest end
 
 abbrev pub payloads_of : List Item → List (List ℕ)
 payloads_of items = map (λ item. item.payload) items

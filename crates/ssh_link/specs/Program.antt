@@ -51,7 +51,8 @@ AnswersScript (Ok steps) answer = AnswersSteps steps answer
 
 -- what is answered to the text that was left, all of it where that is told
 abbrev pub AnswersLeft : Option (List ℕ) → Answer → Type 0
-AnswersLeft left answer = (text : List ℕ) × IfSome left (λ bytes. bytes ≡ text) × AnswersScript (clear_script text) answer
+AnswersLeft left answer = (text : List ℕ) × IfSome left (λ bytes. bytes ≡ text)
+    × AnswersScript (clear_script text) answer
 
 -- what is answered to words that aren't the command, or else to what was left
 abbrev pub IsAnswer : List (List ℕ) → Option (List ℕ) → Answer → Type 0
@@ -94,7 +95,8 @@ shown_fault (Ran report) = None
 
 -- the end tells this answer, and no other
 abbrev pub Shows : Answer → MainEnd → Type 0
-Shows answer end = (end.clear ≡ shown_clear answer) × (end.refused ≡ shown_refused answer) × (end.fault ≡ shown_fault answer)
+Shows answer end = (end.clear ≡ shown_clear answer) × (end.refused ≡ shown_refused answer)
+    × (end.fault ≡ shown_fault answer)
 
 -- the end tells no answer
 abbrev pub ShowsNone : MainEnd → Type 0

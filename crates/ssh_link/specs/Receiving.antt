@@ -21,15 +21,18 @@ pub record ReadsOn (old : Receiver) (bytes : List ℕ) (new : Receiver) : Type 0
 
 -- bytes can't be read: the reader has failed, or it refuses what stands behind some packets
 abbrev pub CannotRead : Receiver → List ℕ → Type 0
-CannotRead old bytes = (old.reader.failed ≡ true) ⊎ ((items : List Item) × (rest : List ℕ) × (fault : Fault) × FindsPackets old.reader.number (old.reader.waiting ++ bytes) items rest (Refused fault))
+CannotRead old bytes = (old.reader.failed ≡ true)
+    ⊎ ((items : List Item) × (rest : List ℕ) × (fault : Fault) × FindsPackets old.reader.number (old.reader.waiting ++ bytes) items rest (Refused fault))
 
 abbrev pub SameReading : Receiver → Receiver → Type 0
 SameReading old new = (new.reader ≡ old.reader) × (new.delivered.items ≡ old.delivered.items)
 
 -- a piece of the line, and what stands behind it, by what the bytes so far begin with
 abbrev pub TakesLine : IdFound → List ℕ → ℕ → List ℕ → Receiver → Receiver → Type 0
-TakesLine lines.NotYet waiting others piece old new = (new.id ≡ Waiting (waiting ++ piece) others) × SameReading old new
-TakesLine (lines.Id text end) waiting others piece old new = (new.id ≡ Heard text) × ReadsOn old (drop (end - length waiting) piece) new
+TakesLine lines.NotYet waiting others piece old new = (new.id ≡ Waiting (waiting ++ piece) others)
+    × SameReading old new
+TakesLine (lines.Id text end) waiting others piece old new = (new.id ≡ Heard text)
+    × ReadsOn old (drop (end - length waiting) piece) new
 TakesLine lines.Version waiting others piece old new = ⊥
 
 -- a piece was taken

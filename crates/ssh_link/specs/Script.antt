@@ -91,7 +91,8 @@ clear_form word words =
     else Err NotBuilt
 
 -- what a line says under a command's forms: nothing, a step, or how it breaks the grammar
-abbrev pub line_says : {X : Type 0} → (List ℕ → List (List ℕ) → Result (Option X) ScriptKind) → List (List ℕ) → Result (Option X) ScriptKind
+abbrev pub line_says : {X : Type 0} → (List ℕ → List (List ℕ) → Result (Option X) ScriptKind) → List (List ℕ)
+    → Result (Option X) ScriptKind
 line_says form [] = Ok None
 line_says form (word ∷ words) = if is_comment word then Ok None else form word words
 
@@ -100,13 +101,15 @@ with_step step (Ok steps) = Ok (step ∷ steps)
 with_step step (Err fault) = Err fault
 
 -- line n, before the lines behind it: the first faulty line decides
-abbrev pub line_then : {X : Type 0} → ℕ → Result (Option X) ScriptKind → Result (List X) ScriptFault → Result (List X) ScriptFault
+abbrev pub line_then : {X : Type 0} → ℕ → Result (Option X) ScriptKind → Result (List X) ScriptFault
+    → Result (List X) ScriptFault
 line_then n (Err kind) more = Err (record { line = n; kind = kind })
 line_then n (Ok None) more = more
 line_then n (Ok (Some step)) more = with_step step more
 
 -- the steps of lines that count from n, or the first fault
-abbrev pub steps_from : {X : Type 0} → (List ℕ → List (List ℕ) → Result (Option X) ScriptKind) → ℕ → List (List ℕ) → Result (List X) ScriptFault
+abbrev pub steps_from : {X : Type 0} → (List ℕ → List (List ℕ) → Result (Option X) ScriptKind) → ℕ → List (List ℕ)
+    → Result (List X) ScriptFault
 steps_from form n [] = Ok []
 steps_from form n (line ∷ lines) = line_then n (line_says form (words_of line)) (steps_from form (n + 1) lines)
 
@@ -115,7 +118,8 @@ abbrev pub longest_script : ℕ
 longest_script = 67108864
 
 -- the steps of a whole script, or its fault
-abbrev pub script_by : {X : Type 0} → (List ℕ → List (List ℕ) → Result (Option X) ScriptKind) → List ℕ → Result (List X) ScriptFault
+abbrev pub script_by : {X : Type 0} → (List ℕ → List (List ℕ) → Result (Option X) ScriptKind) → List ℕ
+    → Result (List X) ScriptFault
 script_by form text = if nat_lt longest_script (length text) then Err (record { line = 0; kind = TooLong }) else steps_from form 1 (pieces 10 text)
 
 -- the steps of a script of the command `clear`, or its fault

@@ -26,7 +26,8 @@ pub record StandsWhole (sealing : Sealing) (number : ℕ) (bytes : List ℕ) (n 
 abbrev pub Measures : Sealing → ℕ → List ℕ → Result (Option ℕ) OpenError → Type 0
 Measures sealing number bytes (Ok (Some n)) = StandsWhole sealing number bytes n
 Measures sealing number bytes (Ok None) = front_of sealing number bytes ≡ Unfinished
-Measures sealing number bytes (Err error) = RefusesBy (front_of sealing number bytes) error × IsBadLength sealing error
+Measures sealing number bytes (Err error) = RefusesBy (front_of sealing number bytes) error
+    × IsBadLength sealing error
 
 -- What a refused packet without its tag leaves of a key: where its padding length was bad, what opening it leaves;
 -- where its tag was wrong, what a wrong tag does.
@@ -43,8 +44,10 @@ IsSizeOnly n error = (m : ℕ) → error ≡ PacketSize m → m ≡ n
 
 -- a framed text of packet length n has so many bytes of payload, or none
 abbrev pub Parts : ℕ → List ℕ → Result ℕ OpenError → Type 0
-Parts n text (Ok payload) = (1 + payload ≤ n) × ((rest : List ℕ) → front_parts n text rest ≡ Whole (record { payload = take payload (drop head_length text); padding = drop payload (drop head_length text) }) rest)
-Parts n text (Err error) = ((error ≡ IndexOutOfBounds) ⊎ (error ≡ PacketSize n)) × ((rest : List ℕ) → RefusesBy (front_parts n text rest) error)
+Parts n text (Ok payload) = (1 + payload ≤ n)
+    × ((rest : List ℕ) → front_parts n text rest ≡ Whole (record { payload = take payload (drop head_length text); padding = drop payload (drop head_length text) }) rest)
+Parts n text (Err error) = ((error ≡ IndexOutOfBounds) ⊎ (error ≡ PacketSize n))
+    × ((rest : List ℕ) → RefusesBy (front_parts n text rest) error)
 
 -- A packet was opened where it stood: its payload is behind the first five bytes, and what is behind it is as it was.
 pub record OpensPart (front : Front) (old new : List ℕ) (part : Part) : Type 0 where
@@ -55,8 +58,10 @@ pub record OpensPart (front : Front) (old new : List ℕ) (part : Part) : Type 0
   pub fits : part.end ≤ length old
 
 abbrev pub OpensChecked : Sealing → ℕ → ℕ → List ℕ → List ℕ → Result Part OpenError → Sealing → Type 0
-OpensChecked sealing number n old new (Ok part) sealing' = OpensPart (front_if_tagged sealing number n (take (4 + n) old) (drop (4 + n) old)) old new part × (sealing' ≡ key_behind sealing old (drop part.end old))
-OpensChecked sealing number n old new (Err error) sealing' = RefusesBy (front_if_tagged sealing number n (take (4 + n) old) (drop (4 + n) old)) error × IsSizeOnly n error × LeavesKey sealing (take (4 + n) old) error sealing'
+OpensChecked sealing number n old new (Ok part) sealing' = OpensPart (front_if_tagged sealing number n (take (4 + n) old) (drop (4 + n) old)) old new part
+    × (sealing' ≡ key_behind sealing old (drop part.end old))
+OpensChecked sealing number n old new (Err error) sealing' = RefusesBy (front_if_tagged sealing number n (take (4 + n) old) (drop (4 + n) old)) error
+    × IsSizeOnly n error × LeavesKey sealing (take (4 + n) old) error sealing'
 
 -- A length that isn't read leaves all as it was, and any other refusal is one of the packet at the front.
 abbrev pub LeavesFront : Sealing → List ℕ → List ℕ → OpenError → Sealing → Type 0
@@ -66,6 +71,9 @@ LeavesFront sealing old new error sealing' =
 
 -- What is found at the front was opened. Less than a packet leaves all as it was.
 abbrev pub Opens : Sealing → ℕ → List ℕ → List ℕ → Result (Option Part) OpenError → Sealing → Type 0
-Opens sealing number old new (Ok (Some part)) sealing' = OpensPart (front_of sealing number old) old new part × (sealing' ≡ key_behind sealing old (drop part.end old))
-Opens sealing number old new (Ok None) sealing' = (front_of sealing number old ≡ Unfinished) × (new ≡ old) × (sealing' ≡ sealing)
-Opens sealing number old new (Err error) sealing' = RefusesBy (front_of sealing number old) error × LeavesFront sealing old new error sealing'
+Opens sealing number old new (Ok (Some part)) sealing' = OpensPart (front_of sealing number old) old new part
+    × (sealing' ≡ key_behind sealing old (drop part.end old))
+Opens sealing number old new (Ok None) sealing' = (front_of sealing number old ≡ Unfinished) × (new ≡ old)
+    × (sealing' ≡ sealing)
+Opens sealing number old new (Err error) sealing' = RefusesBy (front_of sealing number old) error
+    × LeavesFront sealing old new error sealing'

@@ -33,10 +33,14 @@ pub record HandsOut (old : Reader) (key : Sealing) (item : Item) (incoming : Inc
 
 -- why `next` was refused
 abbrev pub RefusesNext : Reader → Sealing → OpenError → Type 0
-RefusesNext old key (errors.PacketSize n) = (old.failed ≡ false) × (front_of key old.number old.waiting ≡ Refused (PacketSize n))
-RefusesNext old key errors.IndexOutOfBounds = (old.failed ≡ false) × (front_of key old.number old.waiting ≡ Refused IndexOutOfBounds)
-RefusesNext old key errors.PacketAuth = (old.failed ≡ false) × (front_of key old.number old.waiting ≡ Refused PacketAuth)
-RefusesNext old key errors.DecryptionError = (old.failed ≡ false) × (front_of key old.number old.waiting ≡ Refused DecryptionError)
+RefusesNext old key (errors.PacketSize n) = (old.failed ≡ false)
+    × (front_of key old.number old.waiting ≡ Refused (PacketSize n))
+RefusesNext old key errors.IndexOutOfBounds = (old.failed ≡ false)
+    × (front_of key old.number old.waiting ≡ Refused IndexOutOfBounds)
+RefusesNext old key errors.PacketAuth = (old.failed ≡ false)
+    × (front_of key old.number old.waiting ≡ Refused PacketAuth)
+RefusesNext old key errors.DecryptionError = (old.failed ≡ false)
+    × (front_of key old.number old.waiting ≡ Refused DecryptionError)
 RefusesNext old key errors.Disconnect = old.failed ≡ true
 
 -- A refusal is the end of a reader. Some of the bytes that wait may have been decrypted before it.
@@ -53,13 +57,16 @@ abbrev pub EndsAt : Reader → Sealing → Sealing → OpenError → Reader → 
 EndsAt old key key' (errors.PacketSize n) new = IsOver old new
     × (is_bad_length key n ≡ true → (new ≡ record old { failed = true }) × (key' ≡ key))
     × (is_bad_length key n ≡ false → key' ≡ opened_past key (front_packet key old.waiting))
-EndsAt old key key' errors.IndexOutOfBounds new = IsOver old new × (key' ≡ opened_past key (front_packet key old.waiting))
+EndsAt old key key' errors.IndexOutOfBounds new = IsOver old new
+    × (key' ≡ opened_past key (front_packet key old.waiting))
 EndsAt old key key' errors.PacketAuth new = IsOver old new × (key' ≡ refused_past key (front_packet key old.waiting))
-EndsAt old key key' errors.DecryptionError new = IsOver old new × (key' ≡ refused_past key (front_packet key old.waiting))
+EndsAt old key key' errors.DecryptionError new = IsOver old new
+    × (key' ≡ refused_past key (front_packet key old.waiting))
 EndsAt old key key' errors.Disconnect new = (new ≡ old) × (key' ≡ key)
 
 -- what `next` leaves
 abbrev pub LeavesNext : Reader → Sealing → Sealing → Result (Option Incoming) OpenError → Reader → Type 0
 LeavesNext old key key' (Ok (Some incoming)) new = (item : Item) × HandsOut old key item incoming new key'
-LeavesNext old key key' (Ok None) new = (old.failed ≡ false) × (front_of key old.number old.waiting ≡ Unfinished) × (new ≡ old) × (key' ≡ key)
+LeavesNext old key key' (Ok None) new = (old.failed ≡ false) × (front_of key old.number old.waiting ≡ Unfinished)
+    × (new ≡ old) × (key' ≡ key)
 LeavesNext old key key' (Err error) new = RefusesNext old key error × EndsAt old key key' error new

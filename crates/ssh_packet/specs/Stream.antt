@@ -61,7 +61,8 @@ packet_at at i = sealed_packet at.sealing at.number i
 abbrev pub Reads : Option Place → List Item → List ℕ → List ℕ → Type 0
 Reads at [] bytes rest = bytes ≡ rest
 Reads None (i ∷ items) bytes rest = ⊥
-Reads (Some at) (i ∷ items) bytes rest = (more : List ℕ) × IsAdmissible at.sealing i × (bytes ≡ packet_at at i ++ more) × Reads (place_after at i) items more rest
+Reads (Some at) (i ∷ items) bytes rest = (more : List ℕ) × IsAdmissible at.sealing i
+    × (bytes ≡ packet_at at i ++ more) × Reads (place_after at i) items more rest
 
 -- the place behind packets
 abbrev pub place_behind : Option Place → List Item → Option Place
@@ -90,7 +91,9 @@ place_by false at i = Some (record { sealing = moved_on at.sealing i; number = n
 abbrev pub ReadsBy : (List Item → Item → Bool) → List Item → Option Place → List Item → List ℕ → List ℕ → Type 0
 ReadsBy ends_by before at [] bytes rest = bytes ≡ rest
 ReadsBy ends_by before None (i ∷ items) bytes rest = ⊥
-ReadsBy ends_by before (Some at) (i ∷ items) bytes rest = (more : List ℕ) × IsAdmissible at.sealing i × (bytes ≡ packet_at at i ++ more) × ReadsBy ends_by (before ++ i ∷ []) (place_by (ends_by before i) at i) items more rest
+ReadsBy ends_by before (Some at) (i ∷ items) bytes rest = (more : List ℕ) × IsAdmissible at.sealing i
+    × (bytes ≡ packet_at at i ++ more)
+    × ReadsBy ends_by (before ++ i ∷ []) (place_by (ends_by before i) at i) items more rest
 
 abbrev pub place_behind_by : (List Item → Item → Bool) → List Item → Option Place → List Item → Option Place
 place_behind_by ends_by before at [] = at

@@ -61,7 +61,8 @@ IsSizeOrMemory n error = ((longest_payload < n) × (error ≡ PacketSize n)) ⊎
 
 -- the first n bytes of the output went behind what a sink held, and nothing else happened
 abbrev pub Flushes : ℕ → Writer → Option (List ℕ) → Option (List ℕ) → Writer → Type 0
-Flushes n old held held' new = (n ≤ length old.output) × Appends (take n old.output) held held' × (new ≡ record old { output = drop n old.output; room = old.room + n })
+Flushes n old held held' new = (n ≤ length old.output) × Appends (take n old.output) held held'
+    × (new ≡ record old { output = drop n old.output; room = old.room + n })
 
 -- ---- payloads that a closure makes
 
@@ -83,15 +84,18 @@ pub record RefusesPayload {T : Type 0} (old : Writer) (before after : Stream) (e
   pub undrawn : after ≡ before
 
 -- a closure's own error is the answer; where it has none, its payload is sealed
-abbrev pub Follows : {T : Type 0} → Result (Unit {0}) Error → List ℕ → Writer → Stream → Stream → Result T Error → Writer → Type 0
+abbrev pub Follows : {T : Type 0} → Result (Unit {0}) Error → List ℕ → Writer → Stream → Stream → Result T Error
+    → Writer → Type 0
 Follows (Err error) payload old before after result new = RefusesPayload old before after error result new
 Follows (Ok u) payload old before after result new = Seals old payload before after result new
 
 -- The closure ran, answered and left a payload, of which the rest follows. `Leaves` says which answers and payloads it
 -- may give.
-abbrev pub SealsWith : {T : Type 0} → (Result (Unit {0}) Error → List ℕ → Type 0) → (List ℕ → T) → Writer → Stream → Stream → Result T Error → Writer → Type 0
+abbrev pub SealsWith : {T : Type 0} → (Result (Unit {0}) Error → List ℕ → Type 0) → (List ℕ → T) → Writer → Stream
+    → Stream → Result T Error → Writer → Type 0
 SealsWith Leaves answer_of old before after result new =
-    (answer : Result (Unit {0}) Error) × (payload : List ℕ) × Leaves answer payload × Follows answer payload old before after result new × IfOk result (λ x. x ≡ answer_of payload)
+    (answer : Result (Unit {0}) Error) × (payload : List ℕ) × Leaves answer payload
+        × Follows answer payload old before after result new × IfOk result (λ x. x ≡ answer_of payload)
 
 -- the room before a payload, for packet length and padding length
 abbrev pub head_room : List ℕ
@@ -103,15 +107,18 @@ ClosureCall = Vec ℕ → Result (Unit {0}) Error → Vec ℕ → Type 0
 
 -- it only appends
 abbrev pub OnlyAppends : ClosureCall → Type 0
-OnlyAppends runs = (v v' : Vec ℕ) (answer : Result (Unit {0}) Error) → runs v answer v' → (payload : List ℕ) × (v'.items ≡ v.items ++ payload)
+OnlyAppends runs = (v v' : Vec ℕ) (answer : Result (Unit {0}) Error) → runs v answer v' → (payload : List ℕ)
+    × (v'.items ≡ v.items ++ payload)
 
 -- a payload that it may leave in a vector that was empty
 abbrev pub LeavesPayload : ClosureCall → Result (Unit {0}) Error → List ℕ → Type 0
-LeavesPayload runs answer payload = (v : Vec ℕ) × (v' : Vec ℕ) × (v.items ≡ []) × runs v answer v' × (v'.items ≡ payload)
+LeavesPayload runs answer payload = (v : Vec ℕ) × (v' : Vec ℕ) × (v.items ≡ []) × runs v answer v'
+    × (v'.items ≡ payload)
 
 -- a payload that it may append to these bytes, and the room that it may leave behind it
 abbrev pub AppendsPayload : ClosureCall → List ℕ → Result (Unit {0}) Error → List ℕ → ℕ → Type 0
-AppendsPayload runs bytes answer payload room = (v : Vec ℕ) × (v' : Vec ℕ) × (v.items ≡ bytes) × runs v answer v' × (v'.items ≡ bytes ++ payload) × (room ≡ vec_capacity v' - vec_len v')
+AppendsPayload runs bytes answer payload room = (v : Vec ℕ) × (v' : Vec ℕ) × (v.items ≡ bytes) × runs v answer v'
+    × (v'.items ≡ bytes ++ payload) × (room ≡ vec_capacity v' - vec_len v')
 
 -- behind a payload that a closure left with room for padding and tag, no memory is wanted
 abbrev pub IsReady : Writer → Result (Unit {0}) Error → List ℕ → ℕ → Result (Unit {0}) Error → Type 0

@@ -46,7 +46,8 @@ unfoldable pub mpint_at : List ℕ → Result (List ℕ × List ℕ) EncodingFau
 mpint_at bytes = string_at bytes >>= λ s. if is_shortest s.0 then Ok (magnitude s.0, s.1) else Err MpintEncoding
 
 -- a form that was found, its value seen by `view`, and the bytes behind it
-abbrev pub FindsForm : {X Y R : Type 0} → (X → Y) → (R → List ℕ) → Result (Y × List ℕ) EncodingFault → Result (X × R) EncodingFault → Type 0
+abbrev pub FindsForm : {X Y R : Type 0} → (X → Y) → (R → List ℕ) → Result (Y × List ℕ) EncodingFault
+    → Result (X × R) EncodingFault → Type 0
 FindsForm view bytes read (Ok x) = read ≡ Ok (view x.0, bytes x.1)
 FindsForm view bytes read (Err e) = read ≡ Err e
 
@@ -66,12 +67,14 @@ IsMadeInMemory view y (Ok x) = view x ≡ y
 IsMadeInMemory view y (Err e) = e ≡ Memory
 
 -- A read at the front of `old`, its value seen by `view`. A refusal takes nothing.
-abbrev pub TakesForm : {X Y : Type 0} → (X → Y) → Result (Y × List ℕ) EncodingFault → List ℕ → Result X Error → List ℕ → Type 0
+abbrev pub TakesForm : {X Y : Type 0} → (X → Y) → Result (Y × List ℕ) EncodingFault → List ℕ → Result X Error → List ℕ
+    → Type 0
 TakesForm view read old (Ok x) new = read ≡ Ok (view x, new)
 TakesForm view read old (Err e) new = (answer_of read ≡ Err e) × (new ≡ old)
 
 -- the same of a read that takes memory
-abbrev pub TakesFormInMemory : {X Y : Type 0} → (X → Y) → Result (Y × List ℕ) EncodingFault → List ℕ → Result X Error → List ℕ → Type 0
+abbrev pub TakesFormInMemory : {X Y : Type 0} → (X → Y) → Result (Y × List ℕ) EncodingFault → List ℕ → Result X Error
+    → List ℕ → Type 0
 TakesFormInMemory view read old (Ok x) new = read ≡ Ok (view x, new)
 TakesFormInMemory view read old (Err e) new = ((e ≡ Memory) ⊎ (answer_of read ≡ Err e)) × (new ≡ old)
 

@@ -12,7 +12,8 @@ use Rattle.ssh_wire.specs.declared.error.IdError.TheVariants.{Version, Disconnec
 use Rattle.ssh_wire.specs.declared.read_id.IdProgress.{IdProgress}
 use Rattle.ssh_wire.specs.declared.read_id.IdProgress.TheVariants as progress
 
--- The most bytes that are taken until a line decides, with those that wait: as many other lines as may still come, and one line more, each of the greatest length.
+-- The most bytes that are taken until a line decides, with those that wait: as many other lines as may still come, and
+-- one line more, each of the greatest length.
 abbrev pub reading_room : Bool → IdReading → ℕ
 reading_room allow (Waiting bytes others) = longest_line * (still_allowed allow others + 1) - length bytes
 reading_room allow (Heard text) = 0
@@ -24,7 +25,8 @@ pub record TakesUndecided (allow : Bool) (old : IdReading) (bytes : List ℕ) (l
   pub undecided : Feeds allow old taken (Ok progress.NotYet) now
   pub fits : length taken ≤ reading_room allow old
 
--- The last piece that was taken decides, and what was taken before it decides nothing. The piece is no longer than what is left of the line in the making. All bytes decide the same, however much of them was taken.
+-- The last piece that was taken decides, and what was taken before it decides nothing. The piece is no longer than
+-- what is left of the line in the making. All bytes decide the same, however much of them was taken.
 pub record DecidesByPiece (allow : Bool) (old : IdReading) (bytes : List ℕ) (left : Option (List ℕ)) (piece : List ℕ) (answer : Result IdProgress Error) (new : IdReading) : Type 0 where
   pub before : List ℕ
   pub mid : IdReading
@@ -45,7 +47,8 @@ pub record FindsId (allow : Bool) (old : IdReading) (bytes : List ℕ) (left : O
 
 -- no id line came
 abbrev pub FindsNoId : Bool → IdReading → List ℕ → Option (List ℕ) → IdReading → Type 0
-FindsNoId allow old bytes left new = (piece : List ℕ) × DecidesByPiece allow old bytes left piece (Err error.Version) new
+FindsNoId allow old bytes left new = (piece : List ℕ)
+    × DecidesByPiece allow old bytes left piece (Err error.Version) new
 
 -- the source ended first: all its bytes were taken, and decide nothing
 abbrev pub EndsFirst : Bool → IdReading → List ℕ → Option (List ℕ) → IdReading → Type 0
@@ -109,13 +112,16 @@ pub record Hears {R : Type 0} (left : R → Option (List ℕ)) (faults : R → �
   pub fault : CountsFault answer (faults old.source) (faults new.source)
 
 -- the same, where the id's text is lent
-abbrev pub HearsText : {R : Type 0} → (R → Option (List ℕ)) → (R → ℕ) → Bool → IdRead R → Result (Bor (List ℕ)) IdError → IdRead R → Type 0
-HearsText left faults allow old (Ok text) new = Hears left faults allow old (Ok tt) new × (text.now ≡ text_heard new.id)
+abbrev pub HearsText : {R : Type 0} → (R → Option (List ℕ)) → (R → ℕ) → Bool → IdRead R
+    → Result (Bor (List ℕ)) IdError → IdRead R → Type 0
+HearsText left faults allow old (Ok text) new = Hears left faults allow old (Ok tt) new
+    × (text.now ≡ text_heard new.id)
 HearsText left faults allow old (Err e) new = Hears left faults allow old (Err e) new
 
 -- the id's text in all bytes
 abbrev pub HasId : Bool → IdReading → List ℕ → List ℕ → Type 0
-HasId allow (Waiting waiting others) bytes text = (end : ℕ) × (id_of (still_allowed allow others) (waiting ++ bytes) ≡ Id text end)
+HasId allow (Waiting waiting others) bytes text = (end : ℕ)
+    × (id_of (still_allowed allow others) (waiting ++ bytes) ≡ Id text end)
 HasId allow (Heard before) bytes text = text ≡ before
 HasId allow Failed bytes text = ⊥
 

@@ -16,15 +16,19 @@ IdStays = (bytes more text : List ℕ) (end : ℕ) → id_of 0 bytes ≡ Id text
 
 -- less than a whole id line decides nothing
 abbrev pub LessThanALine : Type 0
-LessThanALine = (line text : List ℕ) (n : ℕ) → id_of 0 line ≡ Id text (length line) → n < length line → id_of 0 (take n line) ≡ NotYet
+LessThanALine = (line text : List ℕ) (n : ℕ) → id_of 0 line ≡ Id text (length line) → n < length line
+    → id_of 0 (take n line) ≡ NotYet
 
 -- two pieces, of which the first decides nothing, are read as one
 abbrev pub FedTwice : Type 0
-FedTwice = (allow : Bool) (old mid new : IdReading) (p q : List ℕ) (r : Result IdProgress Error) → Feeds allow old p (Ok progress.NotYet) mid → Feeds allow mid q r new → Feeds allow old (p ++ q) (shifted_answer (length p) r) new
+FedTwice = (allow : Bool) (old mid new : IdReading) (p q : List ℕ) (r : Result IdProgress Error)
+    → Feeds allow old p (Ok progress.NotYet) mid → Feeds allow mid q r new
+    → Feeds allow old (p ++ q) (shifted_answer (length p) r) new
 
 -- a piece that decides is read the same with bytes behind it
 abbrev pub FedMore : Type 0
-FedMore = (allow : Bool) (old new : IdReading) (p q : List ℕ) (r : Result IdProgress Error) → (r ≡ Ok progress.NotYet → ⊥) → Feeds allow old p r new → Feeds allow old (p ++ q) r new
+FedMore = (allow : Bool) (old new : IdReading) (p q : List ℕ) (r : Result IdProgress Error)
+    → (r ≡ Ok progress.NotYet → ⊥) → Feeds allow old p r new → Feeds allow old (p ++ q) r new
 
 -- what stands in an mpint spells the number that the bytes spell
 abbrev pub MpintNumber : Type 0
@@ -44,7 +48,8 @@ JoinedRead = (names : List (List ℕ)) → AreNames names → names_of (joined_n
 
 -- names that were read are the text, but for one comma at its end
 abbrev pub ReadSpelled : Type 0
-ReadSpelled = (text : List ℕ) (names : List (List ℕ)) → names_of text ≡ Ok names → joined_names names ≡ without_last_comma text
+ReadSpelled = (text : List ℕ) (names : List (List ℕ)) → names_of text ≡ Ok names
+    → joined_names names ≡ without_last_comma text
 
 -- names that were joined are UTF-8
 abbrev pub JoinedUtf8 : Type 0

@@ -30,4 +30,5 @@ Admits name fault (Err e) = (e ≡ Memory) ⊎ ((f : EncodingFault) × (fault �
 
 -- these names stood at the front as a string, with or without one more comma
 abbrev pub Spelled : List (List ℕ) → List ℕ → List ℕ → Type 0
-Spelled names bytes rest = (text : List ℕ) × (bytes ≡ string text ++ rest) × (names_of text ≡ Ok names) × (joined_names names ≡ without_last_comma text)
+Spelled names bytes rest = (text : List ℕ) × (bytes ≡ string text ++ rest) × (names_of text ≡ Ok names)
+    × (joined_names names ≡ without_last_comma text)

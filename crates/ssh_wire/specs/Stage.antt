@@ -19,7 +19,8 @@ reading_of r = reading_at r.stage (take r.len r.line) r.others
 
 -- bytes that wait are less than a line
 abbrev pub IsKept : Inside → Type 0
-IsKept r = (r.len ≤ longest_line) × (r.others ≤ other_line_limit) × (r.stage ≡ Reading → (r.len < longest_line) × (line_end (take r.len r.line) ≡ None))
+IsKept r = (r.len ≤ longest_line) × (r.others ≤ other_line_limit)
+    × (r.stage ≡ Reading → (r.len < longest_line) × (line_end (take r.len r.line) ≡ None))
 
 -- the code's constants are the standard's
 longest_line-example : LONGEST_LINE ≡ longest_line

@@ -12,7 +12,8 @@ use Rattle.ssh_wire.specs.declared.read_id.LineRead.TheVariants.{Unfinished, IdL
 abbrev pub ReadsTo : lines.Line → ℕ → List ℕ → ℕ → LineRead → IdReading → Type 0
 ReadsTo lines.Unfinished had bytes others result new = (result ≡ Unfinished) × (new ≡ Waiting bytes others)
 ReadsTo (lines.IdLine text end) had bytes others result new = (result ≡ IdLine (end - had)) × (new ≡ Heard text)
-ReadsTo (lines.OtherLine end) had bytes others result new = (result ≡ OtherLine (end - had)) × (new ≡ Waiting [] others) × (had ≤ end)
+ReadsTo (lines.OtherLine end) had bytes others result new = (result ≡ OtherLine (end - had))
+    × (new ≡ Waiting [] others) × (had ≤ end)
 ReadsTo lines.TooLong had bytes others result new = (result ≡ TooLong) × (new ≡ Failed)
 
 -- the first line of a piece read; it may have begun before
@@ -37,7 +38,8 @@ may_pass allow others = allow && nat_lt others other_line_limit
 
 -- an other line is let pass, or the reading has failed
 abbrev pub PassesOther : Bool → IdReading → Bool → IdReading → Type 0
-PassesOther allow (Waiting bytes others) result new = (result ≡ may_pass allow others) × (new ≡ reading_past result bytes others)
+PassesOther allow (Waiting bytes others) result new = (result ≡ may_pass allow others)
+    × (new ≡ reading_past result bytes others)
 PassesOther allow (Heard text) result new = (result ≡ false) × (new ≡ Failed)
 PassesOther allow Failed result new = (result ≡ false) × (new ≡ Failed)
 
@@ -49,7 +51,8 @@ shifted_answer used (Err e) = Err e
 
 -- what is answered from here on is answered of the whole piece
 abbrev pub GoesOn : Bool → IdReading → List ℕ → ℕ → IdReading → Type 0
-GoesOn allow old piece used now = (result : Result IdProgress Error) (new : IdReading) → Feeds allow now (drop used piece) result new → Feeds allow old piece (shifted_answer used result) new
+GoesOn allow old piece used now = (result : Result IdProgress Error) (new : IdReading)
+    → Feeds allow now (drop used piece) result new → Feeds allow old piece (shifted_answer used result) new
 
 -- how many other lines may still come
 abbrev pub others_left : IdReading → ℕ

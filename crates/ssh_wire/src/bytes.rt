@@ -142,7 +142,7 @@ impl Text {
     }
 
     /// A text with the same bytes. Memory.
-    pub(crate) fn copied(alloc: Global, text: &str) -> Result<Text, AllocError>
+    pub(crate) fn copy_of(alloc: Global, text: &str) -> Result<Text, AllocError>
         ensures { IfOk result (λ t. t ≡ text.now) }
     {
         Ok(Text::new(String::from_str(alloc, text)?))

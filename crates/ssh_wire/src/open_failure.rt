@@ -80,7 +80,7 @@ impl ChannelOpenFailure {
             ChannelOpenFailure::ResourceShortage => ChannelOpenFailure::ResourceShortage,
             ChannelOpenFailure::Other { code, reason } => ChannelOpenFailure::Other {
                 code: *code,
-                reason: Text::copied(alloc, reason.as_str())?,
+                reason: Text::copy_of(alloc, reason.as_str())?,
             },
         };
         Ok(failure)

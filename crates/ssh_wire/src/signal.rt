@@ -56,9 +56,9 @@ impl Sig {
         ensures name { IfOk result (λ sig. sig_name sig ≡ name.now) }
         ensures err { IfErr result (λ e. e ≡ Memory) }
     {
-        match Sig::known(name) {
+        match Sig::known_signal(name) {
             Some(sig) => Ok(sig),
-            None => Ok(Sig::Custom(Text::copied(alloc, name)?)),
+            None => Ok(Sig::Custom(Text::copy_of(alloc, name)?)),
         }
     }
 
@@ -80,13 +80,13 @@ impl Sig {
             Sig::SEGV => Sig::SEGV,
             Sig::TERM => Sig::TERM,
             Sig::USR1 => Sig::USR1,
-            Sig::Custom(name) => Sig::Custom(Text::copied(alloc, name.as_str())?),
+            Sig::Custom(name) => Sig::Custom(Text::copy_of(alloc, name.as_str())?),
         };
         Ok(sig)
     }
 
     /// The signal of the name, where it is one of the twelve.
-    fn known(name: &str) -> Option<Sig>
+    fn known_signal(name: &str) -> Option<Sig>
         ensures { result ≡ known_sig name.now }
     {
         match name {

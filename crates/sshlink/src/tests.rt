@@ -9,10 +9,11 @@ use std::io::{Cursor, Write};
 use std::test::Fail;
 
 /// The words, the calls at which source and sink fail, the sink's room, the status, and what is written.
-const FAULTS: [(&str, &[u64], &[u64], usize, u8, &str); 8] = [
+const FAULTS: [(&str, &[u64], &[u64], usize, u8, &str); 9] = [
     ("run", &[1], &[], 64, 2, "usage\n"),
     ("hop", &[], &[1], 64, 5, ""),
     ("hop", &[], &[], 4, 5, "usag"),
+    ("hop", &[], &[], 0, 5, ""),
     ("clear", &[1], &[], 64, 4, ""),
     ("clear", &[2], &[], 64, 4, ""),
     ("clear", &[], &[1], 64, 5, ""),

@@ -1,0 +1,28 @@
+#!/usr/bin/env bash
+# Usage: bench/planted.sh [CRATE..]
+# Tries the edits that stand in crates/NAME/planted/, of all crates that have some if none is named. The gate tries
+# those in must-fail/; these are more of the same, for whoever changes a contract. It works on a copy of the
+# repository, and prints each edit that the proofs didn't refuse and each that couldn't be tried.
+set -u
+cd "$(dirname "$0")/.." || exit 1
+if [ $# = 0 ]; then
+  set -- $(find crates -path '*/planted/*.edit' | cut -d/ -f2 | sort -u)
+fi
+copy=$(mktemp -d)
+trap 'rm -rf "$copy"' EXIT
+cp -r crates crates.txt HANDLES "$copy" || exit 1
+cd "$copy" || exit 1
+status=0
+for name in "$@"; do
+  rm -rf "crates/$name/must-fail"
+  if ! cp -r "crates/$name/planted" "crates/$name/must-fail" 2>/dev/null; then
+    echo "$name: no planted edits"
+    continue
+  fi
+  (cd "crates/$name" && rt lib) >"$copy/log" 2>&1
+  rt must-fail "$name" >"$copy/log" 2>&1 || status=1
+  grep -E 'NOT REFUSED|BAD EDIT|NOT TRIED' "$copy/log"
+  edits=$(find "crates/$name/must-fail" -name '*.edit' | wc -l)
+  echo "$name: $(grep -c ': refused, as it must be' "$copy/log") of $edits planted edits refused"
+done
+exit "$status"

@@ -1,0 +1,28 @@
+//! What a caller knows of every cipher and every MAC, by their traits.
+
+ghost use Rattle.std.specs.Prelude.{◌≡◌, IsTrue, length};
+ghost use Rattle.ssh_aes.specs.Laws.{AreBytes};
+ghost use Rattle.ssh_mac.specs.Tags.{tag_length};
+
+use ssh_aes::BlockStreamCipher;
+use ssh_mac::mac::Mac;
+
+/// Encrypts a text, and decrypts it by an equal cipher. It is whole again, and both ciphers are equal again.
+pub fn there_and_back<C: BlockStreamCipher>(sealing: &mut C, opening: &mut C, bytes: &mut [u8])
+    requires bytes { AreBytes bytes.old }
+    requires equal { C.running sealing.old ≡ C.running opening.old }
+    ensures same { bytes.new ≡ bytes.old }
+    ensures equal { C.running sealing.new ≡ C.running opening.new }
+{
+    sealing.encrypt_data(bytes);
+    opening.decrypt_data(bytes);
+}
+
+/// Whether the tag that a MAC computes is accepted, which it is.
+pub fn own_tag_accepted<M: Mac>(mac: &M, number: u32, text: &[u8], room: &mut [u8]) -> bool
+    requires { length room.old ≡ tag_length (M.meaning mac.now) }
+    ensures { IsTrue result }
+{
+    mac.compute(number, text, room);
+    mac.verify(number, text, room)
+}
