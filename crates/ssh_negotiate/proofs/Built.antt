@@ -1,5 +1,5 @@
 -- The payload that is written is the KEXINIT of what is offered.
-use Rattle.std.proofs.Common.{◌≡◌, ℕ, ◌+◌, ◌<◌, ◌≤◌, List, [], ◌∷◌, ◌++◌, length, refl, sym, ap, subst, ◌∙◌, arith, append_assoc, length-append, Option, Result, Ok, Err, OnOk}
+use Rattle.std.proofs.Common.{◌≡◌, ℕ, ◌<◌, List, [], ◌∷◌, ◌++◌, length, sym, ap, subst, ◌∙◌, arith, append_assoc, Option, Result, Ok, Err, OnOk}
 use Rattle.std.proofs.lemmas.List.{length-replicate}
 use Rattle.rand_core.specs.Stream.{Stream}
 use Rattle.ssh_packet.specs.Sealing.{Sealing, Item, IsPadded, Clear, Block, Gcm, longest_payload, padding_length}

@@ -1,15 +1,15 @@
 -- What a side selects, from what it finds.
-use Rattle.std.proofs.Common.{◌≡◌, ℕ, List, [], ◌∷◌, map, Bool, true, false, Option, Some, None, refl, sym, ap, ◌∙◌, Result, Ok, Err, ◌⊎◌, inl, inr}
+use Rattle.std.proofs.Common.{◌≡◌, ℕ, List, map, Bool, Option, Some, None, sym, ap, ◌∙◌, Ok, Err, inl, inr}
 use Rattle.std.specs.Prelude.{find}
 use Rattle.std.specs.List.{list_any}
 use Rattle.std.specs.Str.{bytes_eq}
 use Rattle.ssh_wire.specs.declared.error.AlgorithmKind.{AlgorithmKind}
 use Rattle.ssh_wire.specs.declared.error.Error.{Error}
 use Rattle.ssh_wire.specs.declared.side.Side.{Side}
-use Rattle.ssh_wire.specs.declared.side.Side.TheVariants.{Client, Server}
+use Rattle.ssh_wire.specs.declared.side.Side.TheVariants.{Server}
 use Rattle.ssh_negotiate.specs.Chosen.{◌>>=◌, or_err}
-use Rattle.ssh_negotiate.specs.Reading.{Fault, NoCommon, Gives, IsRefusal, common, own_with, same_first, select}
-use Rattle.ssh_negotiate.proofs.Choices.{server_common, client_common, text_of_found}
+use Rattle.ssh_negotiate.specs.Reading.{NoCommon, Gives, IsRefusal, common, own_with, same_first, select}
+use Rattle.ssh_negotiate.proofs.Choices.{server_common, text_of_found}
 
 pub some_selected : {A : Type 0} (text : A → List ℕ) (side : Side) (kind : AlgorithmKind) (own : List A) (peer : List (List ℕ)) (a : A) (flag : Bool) → Some a ≡ common text side own peer → flag ≡ same_first (map text own) peer → select text side kind own peer ≡ Ok (flag, a)
 unfolding select or_err ◌>>=◌

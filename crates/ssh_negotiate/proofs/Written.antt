@@ -1,21 +1,13 @@
 -- What a side reads of a KEXINIT that a peer wrote: a choice for each list.
 use Rattle.std.proofs.Common.{◌≡◌, ℕ, ◌+◌, ◌^◌, ◌<◌, ◌≤◌, List, [], ◌∷◌, ◌++◌, length, drop, map, refl, ◌∙◌, ap, subst, arith, Bool, true, false, ◌||◌, if◌then◌else◌, nat_lt, Result, Ok, Err, length-append}
-use Rattle.std.specs.List.{list_all}
-use Rattle.std.specs.Str.{IsAscii, is_utf8, chars}
-use Rattle.std.proofs.Common.{All}
-use Rattle.std.proofs.lemmas.Bool.{and_parts}
-use Rattle.std.proofs.lemmas.List.Elements.{All-head, All-tail}
-use Rattle.std.proofs.lemmas.List.Folds.{list_all-append}
-use Rattle.std.proofs.lemmas.List.Sums.{list_all-from_AllPass}
-use Rattle.std.proofs.lemmas.Str.{IsUtf8-from_ascii, is_utf8-from_IsUtf8}
-use Rattle.std.proofs.lemmas.Str.Ascii.{IsAscii-nil, IsAscii-cons}
+use Rattle.std.specs.Str.{is_utf8, chars}
 use Rattle.std.proofs.lemmas.Bool.Decides.{nat_tests}
 use Rattle.std.proofs.Math.Seq.{drop-append_seam}
 use Rattle.ssh_wire.specs.Fields.{text_at}
 use Rattle.ssh_wire.specs.Forms.{u32be, joined_names, name_list}
 use Rattle.ssh_wire.specs.Names.{names_at, IsName, AreNames, name_list_limit}
 use Rattle.ssh_wire.proofs.Lemmas.{text_again, u32_again}
-use Rattle.ssh_wire.proofs.Lemmas.{names_again}
+use Rattle.ssh_wire.proofs.Lemmas.{joined_utf8, names_again}
 use Rattle.ssh_wire.specs.declared.error.AlgorithmKind.TheVariants.{Kex, Key, Cipher, Compression}
 use Rattle.ssh_wire.specs.declared.side.Side.{Side}
 use Rattle.ssh_negotiate.specs.Advertised.{Offers, advertised, name_lists, kexinit, kexinit_end, kex_texts, key_texts, cipher_texts, mac_texts, compression_texts, host_text, cipher_text, mac_text, compression_text}
@@ -71,26 +63,6 @@ by_lists side own still_strict peer =
     select compression_text side Compression own.compression (compression_texts peer) >>= λ _.
     Ok (names_with kex.1 host.1 cipher.1 client_mac server_mac false (still_strict || both_strict side own (kex_texts peer)))
 
-ascii_from_all : (bytes : List ℕ) → list_all (λ b. nat_lt b 128) bytes ≡ true → IsAscii bytes
-ascii_from_all [] h = IsAscii-nil
-ascii_from_all (b ∷ bytes) h =
-    let both = and_parts (nat_lt b 128) (list_all (λ b. nat_lt b 128) bytes) h in
-    IsAscii-cons b bytes (grind (arith, nat_tests, both.0)) (ascii_from_all bytes both.1)
-
-joined_ascii : (names : List (List ℕ)) → All IsName names → list_all (λ b. nat_lt b 128) (joined_names names) ≡ true
-joined_ascii [] each = refl
-joined_ascii (name ∷ []) each =
-    let is : IsName name = All-head IsName name [] each in
-    list_all-from_AllPass (λ b. nat_lt b 128) name is.ascii
-joined_ascii (name ∷ y ∷ names) each =
-    let is : IsName name = All-head IsName name (y ∷ names) each in
-    let first = list_all-from_AllPass (λ b. nat_lt b 128) name is.ascii in
-    let behind = joined_ascii (y ∷ names) (All-tail IsName name (y ∷ names) each) in
-    list_all-append (λ b. nat_lt b 128) name (44 ∷ joined_names (y ∷ names)) ∙ rw (first, behind) refl
-
-joined_utf8 : (ts : List (List ℕ)) → IsGood ts → is_utf8 (joined_names ts) ≡ true
-joined_utf8 ts g = is_utf8-from_IsUtf8 (joined_names ts) (IsUtf8-from_ascii (joined_names ts) (ascii_from_all (joined_names ts) (joined_ascii ts (g.0).each)))
-
 short_join : (ts : List (List ℕ)) → IsGood ts → length (joined_names ts) < 2 ^ 32
 short_join ts g = omega (arith, g.1)
 
@@ -110,7 +82,7 @@ fields_by_lists side own still peer w =
     list_field (kex_texts peer) _ _ g.0 ∙ alike _ _ _ (λ kex.
     list_field (key_texts peer) _ _ g.1 ∙ alike _ _ _ (λ host.
     list_field (cipher_texts peer) _ _ g.2 ∙ alike _ _ _ (λ cipher.
-    joined_text (cipher_texts peer) _ _ (short_join (cipher_texts peer) g.2) (joined_utf8 (cipher_texts peer) g.2) ∙ (
+    joined_text (cipher_texts peer) _ _ (short_join (cipher_texts peer) g.2) (joined_utf8 (cipher_texts peer) (g.2).0) ∙ (
     list_field (mac_texts peer) _ _ g.3 ∙ alike _ _ _ (λ client_mac.
     list_field (mac_texts peer) _ _ g.3 ∙ alike _ _ _ (λ server_mac.
     list_field (compression_texts peer) _ _ g.4 ∙ alike _ _ _ (λ one.

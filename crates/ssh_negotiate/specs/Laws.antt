@@ -1,10 +1,11 @@
 -- What is true of all offers.
-use Rattle.std.specs.Prelude.{◌≡◌, ℕ, ◌<◌, ◌≤◌, Bool, ◌||◌, List, length, map, Option, Some, None, Result, Ok, Err}
+use Rattle.std.specs.Prelude.{◌≡◌, ℕ, ◌<◌, ◌≤◌, Bool, true, false, ◌||◌, List, length, map, Option, Some, None, Result, Ok, Err}
 use Rattle.ssh_packet.specs.Sealing.{longest_payload}
 use Rattle.ssh_wire.specs.Forms.{joined_names}
 use Rattle.ssh_wire.specs.Names.{name_limit, name_list_limit}
 use Rattle.ssh_wire.specs.declared.error.AlgorithmKind.{AlgorithmKind}
 use Rattle.ssh_wire.specs.declared.error.AlgorithmKind.TheVariants.{Kex, Key, Cipher, Compression, Mac}
+use Rattle.ssh_wire.specs.declared.side.Side.{Side}
 use Rattle.ssh_wire.specs.declared.side.Side.TheVariants.{Client, Server}
 use Rattle.ssh_negotiate.specs.Advertised.{Offers, kex_texts, key_texts, cipher_texts, mac_texts, compression_texts, kexinit}
 use Rattle.ssh_negotiate.specs.Chosen.{chosen, without_extensions}
@@ -76,3 +77,25 @@ picked text (Err fault) = None
 abbrev pub OneChoice : {A B : Type 0} → (A → List ℕ) → (B → List ℕ) → Type 0
 OneChoice {A} {B} client_text server_text = (kind : AlgorithmKind) (client : List A) (server : List B) →
     picked client_text (select client_text Client kind client (map server_text server)) ≡ picked server_text (select server_text Server kind server (map client_text client))
+
+-- no guess is marked as dropped, and what was strict stays strict
+pub record KeepsFlags (still : Bool) (n : Names) : Type 0 where
+  pub unmarked : n.guessed_ignored ≡ false
+  pub strict : still ≡ true → n.strict_kex ≡ true
+
+-- every reading keeps the flags
+abbrev pub ReadFlags : Type 0
+ReadFlags = (side : Side) (own : Offers) (still : Bool) (payload : List ℕ) (n : Names) → names_read side own still payload ≡ Ok n → KeepsFlags still n
+
+-- a KEXINIT as it is written marks no guess
+abbrev pub FollowsNone : Type 0
+FollowsNone = (side : Side) (own peer : Offers) (still : Bool) (cookie : List ℕ) (n : Names) → length cookie ≡ 16 → IsWithin peer → names_read side own still (kexinit peer cookie) ≡ Ok n → n.ignore_guessed ≡ false
+
+-- a reading, but for its strict flag
+abbrev pub but_strict : Result Names Fault → Result Names Fault
+but_strict (Ok n) = Ok (record n { strict_kex = false })
+but_strict (Err fault) = Err fault
+
+-- whether the connection was strict before touches nothing but the strict flag, and no refusal
+abbrev pub ReadsAlike : Type 0
+ReadsAlike = (side : Side) (own : Offers) (b c : Bool) (payload : List ℕ) → but_strict (names_read side own b payload) ≡ but_strict (names_read side own c payload)

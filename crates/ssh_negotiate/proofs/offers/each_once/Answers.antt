@@ -1,4 +1,4 @@
-use Rattle.std.proofs.Common.{◌∙◌, ap, sym}
+use Rattle.std.proofs.Common.{◌∙◌, ap}
 use Rattle.ssh_negotiate.proofs.Once.{step_there, step_new}
 use Rattle.ssh_negotiate.proofs.offers.each_once.Goals as goal
 use Rattle.ssh_negotiate.proofs.offers.each_once.Goals.{then-not-stands_in+in_ok-push, else-not-stands_in}
