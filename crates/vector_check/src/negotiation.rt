@@ -1,5 +1,5 @@
-//! Rows of negotiation (RFC 4253 section 7.1): names of key exchanges, what a side offers, its KEXINIT, one choice of two
-//! lists, and what a side reads in the other's KEXINIT.
+//! Rows of negotiation (RFC 4253 section 7.1): names of key exchanges, what a side offers, its KEXINIT, one choice of
+//! two lists, and what a side reads in the other's KEXINIT.
 
 use crate::ciphers::array;
 use crate::keys::{Words, words_of};
@@ -9,7 +9,8 @@ use bytes::Bytes;
 use ssh_mac::{HashValue, mac};
 use ssh_negotiate::{
     AsName, Client, HostCertificate, HostKey, HostName, KexCause, Names, Preferred, Select, Server,
-    ServerKeys, is_key_compatible_with_algo, kex, server_certificate_names, write_kex,
+    ServerKeys, can_be_advertised, is_key_compatible_with_algo, kex, server_certificate_names,
+    write_kex,
 };
 use ssh_packet::{PacketWriter, cipher, compression};
 use ssh_wire::{Algorithm, AlgorithmKind, Blob, Error, NameList, Reader, Side, Text};
@@ -245,7 +246,7 @@ impl Offering {
         }
     }
 
-    /// Writes the KEXINIT with a cookie.
+    /// Writes the KEXINIT with a cookie. Malformed where a list is too long.
     fn write(
         &self,
         alloc: Global,
@@ -258,12 +259,15 @@ impl Offering {
             Side::Client => None,
             Side::Server => Some(&self.hosts),
         };
+        if !can_be_advertised(alloc, &self.preferred, hosts)? {
+            return Err(Fault::Malformed);
+        }
         Ok(write_kex(alloc, &self.preferred, writer, &mut words, hosts)?)
     }
 }
 
-/// `kexinit COOKIE SIDE..`, the side as in `Offering::of`: the KEXINIT's length and payload as they are answered, and the
-/// length and the bytes of the packet that is sent in clear.
+/// `kexinit COOKIE SIDE..`, the side as in `Offering::of`: the KEXINIT's length and payload as they are answered, and
+/// the length and the bytes of the packet that is sent in clear.
 fn kexinit_written(row: &mut Row<'_>, found: &mut String) -> Result<(), Fault> {
     let cookie = array::<16>(row)?;
     let offering = Offering::of(row)?;
@@ -275,8 +279,8 @@ fn kexinit_written(row: &mut Row<'_>, found: &mut String) -> Result<(), Fault> {
     say_bytes(found, writer.output())
 }
 
-/// `offered SIDE..`, the side as in `Offering::of`: the length of the KEXINIT, its lists of names, and what stands behind
-/// them.
+/// `offered SIDE..`, the side as in `Offering::of`: the length of the KEXINIT, its lists of names, and what stands
+/// behind them.
 fn offered(row: &mut Row<'_>, found: &mut String) -> Result<(), Fault> {
     let offering = Offering::of(row)?;
     let mut writer = PacketWriter::clear(row.alloc());

@@ -292,16 +292,17 @@ impl<'a> Fields<'a> {
 /// names, `follows` or `reserved`; `keep` cuts it to so many bytes, `behind` appends bytes.
 pub(crate) fn kexinit(row: &mut Row<'_>) -> Result<Vec<u8>, Fault> {
     let mut fields = Fields::new();
-    let (mut kept, mut behind) = (usize::MAX, "");
+    let mut kept = usize::MAX;
+    let mut behind = Vec::new(row.alloc());
     for (name, value) in settings(row)? {
         match (name, value.parse::<u32>()) {
             ("keep", Ok(number)) => kept = number as usize,
-            ("behind", _) => behind = value,
+            ("behind", _) => behind = blob(row.alloc(), value)?.into_vec(),
             _ => fields.set(name, value)?,
         }
     }
     let mut payload = fields.payload(row.alloc())?;
     payload.truncate(kept);
-    payload.extend_from_slice(blob(row.alloc(), behind)?.as_slice())?;
+    payload.extend_from_slice(behind.as_slice())?;
     Ok(payload)
 }
