@@ -6,15 +6,15 @@ ghost use Rattle.std.specs.Option.{option_copied};
 ghost use Rattle.std.specs.Str.{bytes_eq};
 ghost use Rattle.ssh_wire.specs.Algorithms.{algorithm_name};
 ghost use Rattle.ssh_wire.specs.declared.error.Error.TheVariants.{Memory};
-ghost use Rattle.ssh_negotiate.specs.Advertised.{certificate_names, distinct, fits, has_key, held_certificates, host_names, is_foreign, key_names};
-ghost use Rattle.ssh_negotiate.specs.Chosen.{without_extensions};
+ghost use Rattle.ssh_negotiate.specs.Advertised.{certificate_names, distinct, fits, has_key, held_certificates, host_names, is_foreign, key_names, some_fits};
+ghost use Rattle.ssh_negotiate.specs.Chosen.{asks, without_extensions};
 ghost use Rattle.ssh_negotiate.specs.Reading.{listed, offered_by};
 ghost use Rattle.ssh_negotiate.specs.declared.negotiation.HostName.TheVariants.{Certificate, Plain};
 
 use crate::kex;
 use crate::negotiation::HostName;
 use crate::preferred::{
-    HostCertificate, HostKey, Preferred, ServerKeys, copied, fitting, is_fitting,
+    HostCertificate, HostKey, Preferred, ServerKeys, is_fitting, some_key_fits,
 };
 use ssh_wire::{Algorithm, Error, Side};
 use std::alloc::{AllocError, Global};
@@ -113,15 +113,30 @@ fn is_foreign(side: Side, name: kex::Name) -> bool
     }
 }
 
-/// The names without the extension names. Memory.
+/// The key exchanges that are compared: those that a side advertises without the extension names. Memory.
 #[tactic(auto, unfolding(crate::specs::Chosen::without_extensions))]
-pub(crate) fn comparable_kex(alloc: Global, kex: &[kex::Name]) -> Result<Vec<kex::Name>, AllocError>
-    ensures { IfOk result (λ v. v.items ≡ without_extensions kex.now) }
+pub(crate) fn comparable_kex(
+    alloc: Global,
+    side: Side,
+    kex: &[kex::Name],
+) -> Result<Vec<kex::Name>, AllocError>
+    ensures { IfOk result (λ v. v.items ≡ without_extensions (filter (λ n. not (is_foreign side n)) kex.now)) }
 {
     kex.iter()
         .copied()
+        .filter(|name| !is_foreign(side, *name))
         .filter(|name| !name.is_extension())
         .collect(alloc)
+}
+
+/// Whether a side advertises a name of key exchange.
+pub(crate) fn asks_for(side: Side, kex: &[kex::Name], name: kex::Name) -> bool
+    ensures { result ≡ asks (filter (λ n. not (is_foreign side n)) kex.now) name }
+{
+    kex.iter()
+        .copied()
+        .filter(|n| !is_foreign(side, *n))
+        .any(|n| n.as_str() == name.as_str())
 }
 
 /// The names of host keys that a side advertises, certificates before keys. A client has what it prefers, a server
@@ -142,45 +157,29 @@ pub(crate) fn advertised_hosts(
             pref.host_key_certificates.as_slice(),
             pref.key.as_slice(),
         )?),
-        Side::Server => {
-            let certified = certified_names(alloc, pref, keys, certificates)?;
-            let plain = plain_names(alloc, pref, keys)?;
-            Ok(host_list(alloc, certified.as_slice(), plain.as_slice())?)
-        }
+        Side::Server => server_hosts(alloc, pref, keys, certificates),
     }
 }
 
-/// The algorithms of a server's certificates, where keys and certificates are given. Memory.
-fn certified_names(
+/// The names of a server's certificates and keys; those of all keys, where no keys are given. Memory.
+fn server_hosts(
     alloc: Global,
     pref: &Preferred,
     keys: Option<&[HostKey]>,
     certificates: Option<&[HostCertificate]>,
-) -> Result<Vec<Algorithm>, Error>
-    ensures ok { IfOk result (λ v. v.items ≡ held_certificates pref.now.key (listed keys.entry) (listed certificates.entry)) }
+) -> Result<Vec<HostName>, Error>
+    ensures ok { IfOk result (λ v. v.items ≡ map Certificate (held_certificates pref.now.key (listed keys.entry) (listed certificates.entry)) ++ map Plain (key_names pref.now.key (listed keys.entry))) }
     ensures err { IfErr result (λ e. e ≡ Memory) }
 {
     let Some(keys) = keys else {
-        return Ok(Vec::new(alloc));
+        return Ok(host_list(alloc, &[], pref.key.as_slice())?);
     };
     match certificates {
-        Some(certificates) => server_certificate_names(alloc, pref, certificates, keys),
-        None => Ok(Vec::new(alloc)),
-    }
-}
-
-/// The algorithms of a server's keys; all, where none are given. Memory.
-fn plain_names(
-    alloc: Global,
-    pref: &Preferred,
-    keys: Option<&[HostKey]>,
-) -> Result<Vec<Algorithm>, Error>
-    ensures ok { IfOk result (λ v. v.items ≡ key_names pref.now.key (listed keys.entry)) }
-    ensures err { IfErr result (λ e. e ≡ Memory) }
-{
-    match keys {
-        Some(keys) => Ok(fitting(alloc, pref.key.as_slice(), keys)?),
-        None => Ok(copied(alloc, pref.key.as_slice())?),
+        Some(certificates) => {
+            let certified = server_certificate_names(alloc, pref, certificates, keys)?;
+            Ok(fitting_list(alloc, certified.as_slice(), pref.key.as_slice(), keys)?)
+        }
+        None => Ok(fitting_list(alloc, &[], pref.key.as_slice(), keys)?),
     }
 }
 
@@ -192,10 +191,32 @@ fn host_list(
 ) -> Result<Vec<HostName>, AllocError>
     ensures { IfOk result (λ v. v.items ≡ map Certificate certificates.now ++ map Plain plain.now) }
 {
+    let front = certificates
+        .iter()
+        .map(|algorithm| HostName::Certificate(*algorithm));
+    let behind = plain.iter().map(|algorithm| HostName::Plain(*algorithm));
+    front.chain(behind).collect(alloc)
+}
+
+/// Names of certificates, and behind them those of keys under which some key signs. Memory.
+fn fitting_list(
+    alloc: Global,
+    certificates: &[Algorithm],
+    preferred: &[Algorithm],
+    keys: &[HostKey],
+) -> Result<Vec<HostName>, AllocError>
+    ensures { IfOk result (λ v. v.items ≡ map Certificate certificates.now ++ map Plain (filter (some_fits keys.now) preferred.now)) }
+{
     certificates
         .iter()
         .map(|algorithm| HostName::Certificate(*algorithm))
-        .chain(plain.iter().map(|algorithm| HostName::Plain(*algorithm)))
+        .chain(
+            preferred
+                .iter()
+                .copied()
+                .filter(|algorithm| some_key_fits(keys, *algorithm))
+                .map(|algorithm| HostName::Plain(algorithm)),
+        )
         .collect(alloc)
 }
 

@@ -1,21 +1,22 @@
 //! How a side reads the other's KEXINIT (RFC 4253 section 7.1): field by field, the first refusal deciding.
 
-ghost use Rattle.std.specs.Prelude.{◌≡◌, ◌&&◌, ◌||◌, not, false, Option};
+ghost use Rattle.std.specs.Prelude.{◌≡◌, ◌&&◌, ◌||◌, not, false, filter, map, Option};
 ghost use Rattle.std.specs.List.{list_any};
 ghost use Rattle.std.specs.Str.{bytes_eq};
 ghost use Rattle.ssh_wire.specs.Names.{names_at};
 ghost use Rattle.ssh_wire.specs.Sides.{other_side};
-ghost use Rattle.ssh_negotiate.specs.Advertised.{mac_text, offers_with};
-ghost use Rattle.ssh_negotiate.specs.Chosen.{algorithm_of, asks, is_certificate, mac_under, names_with};
+ghost use Rattle.ssh_wire.specs.declared.error.AlgorithmKind.TheVariants.{Kex};
+ghost use Rattle.ssh_negotiate.specs.Advertised.{is_foreign, mac_text, offers_with};
+ghost use Rattle.ssh_negotiate.specs.Chosen.{algorithm_of, asks, is_certificate, mac_under, names_with, without_extensions};
 ghost use Rattle.ssh_negotiate.specs.Parts.{GivesFront, ciphers_part, compressions_part, guessed, hosts_part, macs_part, taking, with_lists, with_rest};
-ghost use Rattle.ssh_negotiate.specs.Reading.{Gives, listed, names_read, read_fields, read_rest, select, select_mac, strict_name};
+ghost use Rattle.ssh_negotiate.specs.Reading.{Gives, IsRefusal, listed, names_read, read_fields, read_rest, select, select_mac, strict_name};
 ghost use Rattle.ssh_negotiate.specs.Tables.{kex_text};
 
 use crate::kex;
 use crate::negotiation::{AsName, HostName, Names};
-use crate::offers::{advertised_hosts, advertised_kex, comparable_kex};
+use crate::offers::{advertised_hosts, asks_for, comparable_kex};
 use crate::preferred::{HostCertificate, HostKey, Preferred};
-use crate::select::{choice_of, holds, no_common, select_by};
+use crate::select::{begin_alike, choice_of, holds, texts_of};
 use ssh_mac::mac;
 use ssh_packet::cipher;
 use ssh_packet::compression::Compression;
@@ -40,13 +41,11 @@ pub(crate) fn names_of_kexinit(
     if payload.len() < FRONT_LEN {
         return Err(Error::Inconsistent);
     }
-    let kex = advertised_kex(alloc, side, pref.kex.as_slice())?;
     let hosts = advertised_hosts(alloc, side, pref, keys, certificates)?;
     names_of_fields(
         alloc,
         side,
         pref,
-        kex.as_slice(),
         hosts.as_slice(),
         still_strict,
         &payload[FRONT_LEN..],
@@ -58,46 +57,44 @@ fn names_of_fields(
     alloc: Global,
     side: Side,
     pref: &Preferred,
-    kex: &[kex::Name],
     hosts: &[HostName],
     still_strict: bool,
     bytes: &[u8],
 ) -> Result<Names, Error>
-    ensures { Gives (read_fields side (with_lists pref.now kex.now hosts.now) still_strict bytes.now) result }
+    ensures { Gives (read_fields side (with_lists pref.now (filter (λ n. not (is_foreign side n)) pref.now.kex) hosts.now) still_strict bytes.now) result }
 {
     let mut reader = Reader::new(bytes);
     let peer = NameList::decode(alloc, &mut reader)?;
-    let comparable = comparable_kex(alloc, kex)?;
-    let chosen = select_by(
-        alloc,
-        side,
-        comparable.as_slice(),
-        peer.0.as_slice(),
-        AlgorithmKind::Kex,
-    )?;
-    let strict = is_strict(side, kex, peer.0.as_slice(), still_strict);
-    names_behind_kex(alloc, side, pref, hosts, chosen, strict, &mut reader)
+    let strict = is_strict(side, pref.kex.as_slice(), peer.0.as_slice(), still_strict);
+    let kex = kex_of(alloc, side, pref.kex.as_slice(), peer)?;
+    names_behind_kex(alloc, side, pref, hosts, kex, strict, &mut reader)
+}
+
+/// A choice of key exchanges.
+fn kex_of(
+    alloc: Global,
+    side: Side,
+    kex: &[kex::Name],
+    peer: NameList,
+) -> Result<(bool, kex::Name), Error>
+    ensures { Gives (select kex_text side Kex (without_extensions (filter (λ n. not (is_foreign side n)) kex.now)) peer.0.items) result }
+{
+    let own = comparable_kex(alloc, side, kex)?;
+    choice_with(alloc, side, AlgorithmKind::Kex, own.as_slice(), peer)
 }
 
 /// Whether the exchange is strict: the first one was, or both sides ask for it.
 fn is_strict(side: Side, kex: &[kex::Name], peer: &[Text], still_strict: bool) -> bool
-    ensures { result ≡ (still_strict || (asks kex.now (strict_name side) && list_any (bytes_eq (kex_text (strict_name (other_side side)))) peer.now)) }
+    ensures { result ≡ (still_strict || (asks (filter (λ n. not (is_foreign side n)) kex.now) (strict_name side) && list_any (bytes_eq (kex_text (strict_name (other_side side)))) peer.now)) }
 {
     still_strict || are_both_strict(side, kex, peer)
 }
 
 /// Whether both sides ask for strict key exchange.
 fn are_both_strict(side: Side, kex: &[kex::Name], peer: &[Text]) -> bool
-    ensures { result ≡ (asks kex.now (strict_name side) && list_any (bytes_eq (kex_text (strict_name (other_side side)))) peer.now) }
+    ensures { result ≡ (asks (filter (λ n. not (is_foreign side n)) kex.now) (strict_name side) && list_any (bytes_eq (kex_text (strict_name (other_side side)))) peer.now) }
 {
-    asks_for(kex, strict_name(side)) && holds(peer, strict_name(side.other()).as_str())
-}
-
-/// Whether a list has a name.
-fn asks_for(names: &[kex::Name], name: kex::Name) -> bool
-    ensures { result ≡ asks names.now name }
-{
-    names.iter().any(|n| n.as_str() == name.as_str())
+    asks_for(side, kex, strict_name(side)) && holds(peer, strict_name(side.other()).as_str())
 }
 
 /// The name by which a side asks for strict key exchange.
@@ -271,7 +268,37 @@ fn choice_at<A: AsName + Copy>(
     ensures { GivesFront (taking (names_at r.old) (select A.text side kind own.now) with_rest) result r.new }
 {
     let peer = NameList::decode(alloc, r)?;
-    select_by(alloc, side, own, peer.0.as_slice(), kind)
+    choice_with(alloc, side, kind, own, peer)
+}
+
+/// A choice of the own list and the peer's, which is answered where there is none.
+fn choice_with<A: AsName + Copy>(
+    alloc: Global,
+    side: Side,
+    kind: AlgorithmKind,
+    own: &[A],
+    peer: NameList,
+) -> Result<(bool, A), Error>
+    ensures { Gives (select A.text side kind own.now peer.0.items) result }
+{
+    match choice_of(side, own, peer.0.as_slice()) {
+        Some(name) => Ok((begin_alike(own, peer.0.as_slice()), name)),
+        None => Err(refusal_with(alloc, kind, own, peer)),
+    }
+}
+
+/// The refusal where there is no common name, with the list that was read. Memory.
+fn refusal_with<A: AsName>(alloc: Global, kind: AlgorithmKind, own: &[A], peer: NameList) -> Error
+    ensures { IsRefusal kind (map A.text own.now) peer.0.items result }
+{
+    match texts_of(alloc, own) {
+        Ok(ours) => Error::NoCommonAlgo {
+            kind,
+            ours,
+            theirs: peer,
+        },
+        Err(_) => Error::Memory,
+    }
 }
 
 /// A choice of MACs under a cipher.
@@ -285,7 +312,7 @@ fn mac_at(
     ensures { GivesFront (taking (names_at r.old) (select_mac side cipher own.now) with_rest) result r.new }
 {
     let peer = NameList::decode(alloc, r)?;
-    mac_of(alloc, side, cipher, own, peer.0.as_slice())
+    mac_of(alloc, side, cipher, own, peer)
 }
 
 /// A MAC of two lists. A cipher that needs one refuses where there is no common name, and where it is `none`.
@@ -294,13 +321,13 @@ fn mac_of(
     side: Side,
     cipher: cipher::Name,
     own: &[mac::Name],
-    peer: &[Text],
+    peer: NameList,
 ) -> Result<mac::Name, Error>
-    ensures { Gives (select_mac side cipher own.now peer.now) result }
+    ensures { Gives (select_mac side cipher own.now peer.0.items) result }
 {
-    match mac_under(cipher, choice_of(side, own, peer)) {
+    match mac_under(cipher, choice_of(side, own, peer.0.as_slice())) {
         Some(mac) => Ok(mac),
-        None => Err(no_common(alloc, AlgorithmKind::Mac, own, peer)),
+        None => Err(refusal_with(alloc, AlgorithmKind::Mac, own, peer)),
     }
 }
 

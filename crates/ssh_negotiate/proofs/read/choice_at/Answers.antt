@@ -1,10 +1,8 @@
-use Rattle.std.proofs.Common.{◌∙◌, ap}
-use Rattle.std.proofs.lemmas.List.{map-id}
 use Rattle.std.proofs.lemmas.Result.{err_from_is_err_and}
 use Rattle.ssh_wire.specs.Names.{names_at}
 use Rattle.ssh_negotiate.specs.Parts.{taking, with_rest}
 use Rattle.ssh_negotiate.specs.Reading.{select}
-use Rattle.ssh_negotiate.proofs.Parts.{field_refused_in_memory, front_err, given, list_taken}
+use Rattle.ssh_negotiate.proofs.Parts.{field_refused_in_memory, front_err, list_taken}
 use Rattle.ssh_negotiate.proofs.read.choice_at.Goals as goal
 
 pub returns-in_err-peer : goal.returns-in_err-peer
@@ -14,5 +12,4 @@ returns-in_err-peer g c =
 
 pub returns : goal.returns
 returns g c =
-    list_taken (names_at c.args.r.now) (select g.A.AsName.text c.args.side c.args.kind c.args.own.now) c.in_ok-peer.peer.0.items c.decode.new.r c.select_by.result c.in_ok-peer.ensures.exact
-    (given _ _ c.select_by.result (ap (select g.A.AsName.text c.args.side c.args.kind c.args.own.now) (map-id c.as_slice.result.now ∙ c.as_slice.ensures.value)) c.select_by.ensures)
+    list_taken (names_at c.args.r.now) (select g.A.AsName.text c.args.side c.args.kind c.args.own.now) c.in_ok-peer.peer.0.items c.decode.new.r c.choice_with.result c.in_ok-peer.ensures.exact c.choice_with.ensures

@@ -1,9 +1,8 @@
-use Rattle.std.proofs.Common.{ap}
 use Rattle.std.proofs.lemmas.Result.{err_from_is_err_and}
 use Rattle.ssh_wire.specs.Names.{names_at}
 use Rattle.ssh_negotiate.specs.Parts.{taking, with_rest}
 use Rattle.ssh_negotiate.specs.Reading.{select_mac}
-use Rattle.ssh_negotiate.proofs.Parts.{field_refused_in_memory, front_err, given, list_taken}
+use Rattle.ssh_negotiate.proofs.Parts.{field_refused_in_memory, front_err, list_taken}
 use Rattle.ssh_negotiate.proofs.read.mac_at.Goals as goal
 
 pub returns-in_err-peer : goal.returns-in_err-peer
@@ -13,5 +12,4 @@ returns-in_err-peer c =
 
 pub returns : goal.returns
 returns c =
-    list_taken (names_at c.args.r.now) (select_mac c.args.side c.args.cipher c.args.own.now) c.in_ok-peer.peer.0.items c.decode.new.r c.mac_of.result c.in_ok-peer.ensures.exact
-    (given _ _ c.mac_of.result (ap (select_mac c.args.side c.args.cipher c.args.own.now) c.as_slice.ensures.value) c.mac_of.ensures)
+    list_taken (names_at c.args.r.now) (select_mac c.args.side c.args.cipher c.args.own.now) c.in_ok-peer.peer.0.items c.decode.new.r c.mac_of.result c.in_ok-peer.ensures.exact c.mac_of.ensures
