@@ -1,5 +1,5 @@
 -- Whether all lists of an offer can be advertised.
-use Rattle.std.proofs.Common.{Result, Ok, Err, IfOk, ◌≡◌, Bool, true, ◌&&◌, ◌↔◌, IsTrue, sym, ◌∙◌}
+use Rattle.std.proofs.Common.{Result, Ok, Err, IfOk, ◌≡◌, Bool, ◌&&◌, ◌↔◌, IsTrue, sym, ◌∙◌}
 use Rattle.std.proofs.lemmas.Bool.{and_parts, and_from}
 use Rattle.ssh_negotiate.specs.Advertised.{Offers, kex_texts, key_texts, cipher_texts, mac_texts, compression_texts}
 use Rattle.ssh_negotiate.specs.Laws.{AreShort, IsListed, IsWithin}
