@@ -8,7 +8,9 @@ mod ciphers;
 mod forms;
 mod keys;
 mod lines;
+mod negotiation;
 mod packets;
+mod preferences;
 mod recorded;
 mod row;
 mod tables;
@@ -37,6 +39,7 @@ fn answer(connection: &mut Connection, row: &mut Row<'_>, found: &mut String) ->
         || tables::answer(kind, row, found)?
         || ciphers::answer(kind, row, found)?
         || packets::answer(kind, row, found)?
+        || negotiation::answer(kind, row, found)?
         || recorded::answer(kind, connection, row, found)?;
     if is_known && row.left() == 0 {
         Ok(())

@@ -1,0 +1,154 @@
+-- How a side reads the other's KEXINIT: field by field, the first refusal deciding (RFC 4253 section 7.1).
+use Rattle.std.specs.Prelude.{◌≡◌, ℕ, Bool, false, not, ◌&&◌, ◌||◌, ◌==◌, nat_lt, if◌then◌else◌, List, [], ◌∷◌, length, drop, map, find, Option, Some, None, Result, Ok, Err, ◌⊎◌}
+use Rattle.std.specs.List.{list_any}
+use Rattle.std.specs.Str.{bytes_eq}
+use denote.Ref.{Bor}
+use Rattle.ssh_mac.specs.declared.mac.Name as macs
+use Rattle.ssh_packet.specs.declared.cipher.Name as ciphers
+use Rattle.ssh_wire.specs.Fields.{byte_at, u32_at, text_at}
+use Rattle.ssh_wire.specs.Names.{names_at}
+use Rattle.ssh_wire.specs.Sides.{other_side}
+use Rattle.ssh_wire.specs.declared.name_list.NameList.{NameList}
+use Rattle.ssh_wire.specs.declared.error.AlgorithmKind.{AlgorithmKind}
+use Rattle.ssh_wire.specs.declared.error.AlgorithmKind.TheVariants.{Kex, Key, Cipher, Compression, Mac}
+use Rattle.ssh_wire.specs.declared.error.EncodingFault.{EncodingFault}
+use Rattle.ssh_wire.specs.declared.error.EncodingFault.TheVariants.{TrailingData}
+use Rattle.ssh_wire.specs.declared.error.Error.{Error}
+use Rattle.ssh_wire.specs.declared.error.Error.TheVariants as errors
+use Rattle.ssh_wire.specs.declared.side.Side.{Side}
+use Rattle.ssh_wire.specs.declared.side.Side.TheVariants.{Client, Server}
+use Rattle.ssh_negotiate.specs.Preferences.{Preferences, Hosts}
+use Rattle.ssh_negotiate.specs.Advertised.{Offers, offers, host_text, cipher_text, mac_text, compression_text}
+use Rattle.ssh_negotiate.specs.Chosen.{◌>>=◌, or_err, without_extensions, asks, mac_under, names_with}
+use Rattle.ssh_negotiate.specs.Tables.{kex_text}
+use Rattle.ssh_negotiate.specs.declared.kex.Name as kexes
+use Rattle.ssh_negotiate.specs.declared.kex.Name.TheVariants.{StrictC, StrictS}
+use Rattle.ssh_negotiate.specs.declared.negotiation.Names.{Names}
+
+-- why a KEXINIT is refused
+pub data Fault : Type 0 where
+  Inconsistent : Fault
+  Encoding : (fault : EncodingFault) → Fault
+  NoCommon : (kind : AlgorithmKind) (ours theirs : List (List ℕ)) → Fault
+
+-- ---- one choice
+
+-- the own name that has a text
+abbrev pub own_with : {A : Type 0} → (A → List ℕ) → List A → Option (List ℕ) → Option A
+own_with text own None = None
+own_with text own (Some t) = find (λ a. bytes_eq t (text a)) own
+
+-- the first name of the client's list that the server's list holds, from the own list and the texts of the peer's
+unfoldable pub common : {A : Type 0} → (A → List ℕ) → Side → List A → List (List ℕ) → Option A
+common text Client own peer = find (λ a. list_any (bytes_eq (text a)) peer) own
+common text Server own peer = own_with text own (find (λ t. list_any (λ a. bytes_eq t (text a)) own) peer)
+
+-- whether both lists begin with one name
+abbrev pub same_first : List (List ℕ) → List (List ℕ) → Bool
+same_first (a ∷ own) (b ∷ peer) = bytes_eq a b
+same_first (a ∷ own) [] = false
+same_first [] peer = false
+
+-- the choice of a kind, and whether both sides name it first
+unfoldable pub select : {A : Type 0} → (A → List ℕ) → Side → AlgorithmKind → List A → List (List ℕ) → Result (Bool × A) Fault
+select text side kind own peer =
+    or_err (NoCommon kind (map text own) peer) (common text side own peer) >>= λ a. Ok (same_first (map text own) peer, a)
+
+-- what of the peer's list of key exchanges is compared. Its extension names stay in it
+unfoldable pub compared_kex : List (List ℕ) → List (List ℕ)
+compared_kex texts = texts
+
+-- a choice of MACs under a cipher
+abbrev pub select_mac : Side → ciphers.Name → List macs.Name → List (List ℕ) → Result macs.Name Fault
+select_mac side cipher own peer = or_err (NoCommon Mac (map mac_text own) peer) (mac_under cipher (common mac_text side own peer))
+
+-- the name by which a side asks for strict key exchange
+abbrev pub strict_name : Side → kexes.Name
+strict_name Client = StrictC
+strict_name Server = StrictS
+
+-- both sides ask for it
+abbrev pub both_strict : Side → Offers → List (List ℕ) → Bool
+both_strict side own peer = asks own.kex (strict_name side) && list_any (bytes_eq (kex_text (strict_name (other_side side)))) peer
+
+-- ---- the fields
+
+-- a field, and what is made of it and of the bytes behind it
+unfoldable pub field : {X A : Type 0} → Result (X × List ℕ) EncodingFault → (X → List ℕ → Result A Fault) → Result A Fault
+field (Ok x) then' = then' x.0 x.1
+field (Err fault) then' = Err (Encoding fault)
+
+abbrev pub at_end : {A : Type 0} → List ℕ → A → Result A Fault
+at_end [] x = Ok x
+at_end (b ∷ bytes) x = Err (Encoding TrailingData)
+
+-- two languages, whether a guess follows, a uint32 of any value, the end
+unfoldable pub read_rest : {A : Type 0} → List ℕ → (Bool → A) → Result A Fault
+read_rest bytes names =
+    field (text_at bytes) λ _ r.
+    field (text_at r) λ _ s.
+    field (byte_at s) λ follows t.
+    field (u32_at t) λ _ u.
+    at_end u (names (not (follows == 0)))
+
+-- the fields behind the cookie
+unfoldable pub read_fields : Side → Offers → Bool → List ℕ → Result Names Fault
+read_fields side own still_strict bytes =
+    field (names_at bytes) λ kex_list r1.
+    select kex_text side Kex (without_extensions own.kex) (compared_kex kex_list) >>= λ kex.
+    field (names_at r1) λ key_list r2.
+    select host_text side Key own.key key_list >>= λ host.
+    field (names_at r2) λ to_server r3.
+    select cipher_text side Cipher own.cipher to_server >>= λ cipher.
+    field (text_at r3) λ _ r4.
+    field (names_at r4) λ macs_to_server r5.
+    select_mac side cipher.1 own.mac macs_to_server >>= λ client_mac.
+    field (names_at r5) λ macs_to_client r6.
+    select_mac side cipher.1 own.mac macs_to_client >>= λ server_mac.
+    field (names_at r6) λ compressions_to_server r7.
+    select compression_text side Compression own.compression compressions_to_server >>= λ _.
+    field (names_at r7) λ compressions_to_client r8.
+    select compression_text side Compression own.compression compressions_to_client >>= λ _.
+    read_rest r8 λ follows.
+    names_with kex.1 host.1 cipher.1 client_mac server_mac (follows && not (kex.0 && host.0)) (still_strict || both_strict side own kex_list)
+
+-- The names that a side takes from the other's KEXINIT; `still_strict` where this is a later exchange of a strict
+-- connection. The number and the cookie are not looked at.
+unfoldable pub names_read : Side → Offers → Bool → List ℕ → Result Names Fault
+names_read side own still_strict payload = if nat_lt (length payload) 17 then Err Inconsistent else read_fields side own still_strict (drop 17 payload)
+
+-- ---- answers
+
+-- the refusal that answers a fault
+abbrev pub Answers : Fault → Error → Type 0
+Answers Inconsistent error = error ≡ errors.Inconsistent
+Answers (Encoding fault) error = error ≡ errors.SshEncoding fault
+Answers (NoCommon kind ours theirs) error = (own peer : NameList) × (error ≡ errors.NoCommonAlgo kind own peer) × (own.0.items ≡ ours) × (peer.0.items ≡ theirs)
+
+abbrev pub Gives : {A : Type 0} → Result A Fault → Result A Error → Type 0
+Gives read (Ok x) = read ≡ Ok x
+Gives read (Err error) = (error ≡ errors.Memory) ⊎ ((fault : Fault) × (read ≡ Err fault) × Answers fault error)
+
+-- the refusal of a kind without a common name, or want of memory
+abbrev pub IsRefusal : AlgorithmKind → List (List ℕ) → List (List ℕ) → Error → Type 0
+IsRefusal kind ours theirs error = (error ≡ errors.Memory) ⊎ Answers (NoCommon kind ours theirs) error
+
+-- ---- what is written
+
+-- whose KEXINIT it is: a server's, where its keys are given
+abbrev pub side_of : Option Hosts → Side
+side_of None = Client
+side_of (Some hosts) = Server
+
+abbrev pub own_hosts : Option Hosts → Hosts
+own_hosts None = record { keys = []; certificates = [] }
+own_hosts (Some hosts) = hosts
+
+-- what is offered
+abbrev pub offered_by : Preferences → Option Hosts → Offers
+offered_by preferences hosts = offers (side_of hosts) preferences (own_hosts hosts)
+
+-- what is handed in as a slice, or not at all
+abbrev pub listed : {A : Type 0} → Option (Bor (List A)) → Option (List A)
+listed None = None
+listed (Some s) = Some s.now

@@ -1,0 +1,133 @@
+//! The KEXINIT that a side writes (RFC 4253 section 7.1).
+
+ghost use Rattle.std.specs.Prelude.{◌≡◌, ◌++◌, ◌∷◌, [], ◌≤◌, ◌<◌, length, map, IfOk, IfErr, OnOk, OnErr, Option};
+ghost use Rattle.std.specs.Option.{option_copied};
+ghost use Rattle.rand_core.specs.Stream.{fill_bytes};
+ghost use Rattle.ssh_packet.specs.Sealing.{IsAdmissible, item_of, longest_payload, padding_length, stream_after};
+ghost use Rattle.ssh_packet.specs.Writing.{Sends, SameButRoom};
+ghost use Rattle.ssh_wire.specs.Forms.{AreBytes, joined_names, name_list, u32be};
+ghost use Rattle.ssh_wire.specs.Names.{name_list_limit};
+ghost use Rattle.ssh_wire.specs.declared.error.Error.TheVariants.{Memory};
+ghost use Rattle.ssh_negotiate.specs.Advertised.{kexinit, kexinit_end, name_lists};
+ghost use Rattle.ssh_negotiate.specs.Laws.{AreShort};
+ghost use Rattle.ssh_negotiate.specs.Reading.{offered_by};
+ghost use Rattle.ssh_negotiate.specs.Parts.{with_lists};
+
+use crate::kex;
+use crate::negotiation::{AsName, HostName};
+use crate::offers::{hosts_to_write, kex_to_write};
+use crate::preferred::{Preferred, ServerKeys};
+use crate::select::texts_of;
+use bytes::Bytes;
+use rand_core::Rng;
+use ssh_packet::PacketWriter;
+use ssh_wire::{Error, msg, put_u8, put_u32};
+use std::alloc::Global;
+
+/// How many bytes are drawn for a KEXINIT.
+const COOKIE_LEN: usize = 16;
+
+/// Writes a KEXINIT with 16 drawn bytes as cookie, and answers its payload. It is a server's where the keys are given.
+/// Memory leaves the writer as it was.
+pub fn write_kex<R: Rng>(
+    alloc: Global,
+    prefs: &Preferred,
+    writer: &mut PacketWriter,
+    rng: &mut R,
+    server_config: Option<&ServerKeys>,
+) -> Result<Bytes, Error>
+    requires { AreShort (offered_by prefs.now (option_copied server_config)) }
+    ensures answer { IfOk result (λ b. b ≡ kexinit (offered_by prefs.now (option_copied server_config.entry)) (fill_bytes 16 (R.stream rng.old)).0) }
+    ensures sent { OnOk result (Sends writer.old (kexinit (offered_by prefs.now (option_copied server_config.entry)) (fill_bytes 16 (R.stream rng.old)).0) (fill_bytes 16 (R.stream rng.old)).1 writer.new) }
+    ensures stream { OnOk result (R.stream rng.new ≡ stream_after writer.old.sealing (kexinit (offered_by prefs.now (option_copied server_config.entry)) (fill_bytes 16 (R.stream rng.old)).0) (fill_bytes 16 (R.stream rng.old)).1) }
+    ensures admissible { OnOk result (IsAdmissible writer.old.sealing (item_of writer.old.sealing (kexinit (offered_by prefs.now (option_copied server_config.entry)) (fill_bytes 16 (R.stream rng.old)).0) (fill_bytes 16 (R.stream rng.old)).1)) }
+    ensures cookie { OnOk result (length (fill_bytes 16 (R.stream rng.old)).0 ≡ 16) }
+    ensures bytes { OnOk result (AreBytes (fill_bytes 16 (R.stream rng.old)).0) }
+    ensures padded { OnOk result (length (item_of writer.old.sealing (kexinit (offered_by prefs.now (option_copied server_config.entry)) (fill_bytes 16 (R.stream rng.old)).0) (fill_bytes 16 (R.stream rng.old)).1).padding ≡ padding_length writer.old.sealing (length (kexinit (offered_by prefs.now (option_copied server_config.entry)) (fill_bytes 16 (R.stream rng.old)).0))) }
+    ensures unchanged { OnErr result (SameButRoom writer.old writer.new) }
+    ensures err { IfErr result (λ e. e ≡ Memory) }
+{
+    let kex = kex_to_write(alloc, prefs, server_config)?;
+    let hosts = hosts_to_write(alloc, prefs, server_config)?;
+    let mut cookie = [0; COOKIE_LEN];
+    rng.fill_bytes(&mut cookie);
+    let payload = kexinit_payload(alloc, prefs, kex.as_slice(), hosts.as_slice(), &cookie)?;
+    send_payload(writer, rng, payload)
+}
+
+/// Sends a payload, and answers it. Memory leaves the writer as it was.
+fn send_payload<R: Rng>(
+    writer: &mut PacketWriter,
+    rng: &mut R,
+    payload: Vec<u8>,
+) -> Result<Bytes, Error>
+    requires some { 0 < length payload.items }
+    requires short { length payload.items < longest_payload }
+    ensures answer { IfOk result (λ b. b ≡ payload.items) }
+    ensures sent { OnOk result (Sends writer.old payload.items (R.stream rng.old) writer.new) }
+    ensures stream { OnOk result (R.stream rng.new ≡ stream_after writer.old.sealing payload.items (R.stream rng.old)) }
+    ensures admissible { OnOk result (IsAdmissible writer.old.sealing (item_of writer.old.sealing payload.items (R.stream rng.old))) }
+    ensures padded { OnOk result (length (item_of writer.old.sealing payload.items (R.stream rng.old)).padding ≡ padding_length writer.old.sealing (length payload.items)) }
+    ensures unchanged { OnErr result (SameButRoom writer.old writer.new) }
+    ensures err { IfErr result (λ e. e ≡ Memory) }
+{
+    let bytes = Bytes::from_vec(payload)?;
+    writer.packet_raw(rng, bytes.as_slice())?;
+    Ok(bytes)
+}
+
+/// The payload of a KEXINIT. Memory.
+fn kexinit_payload(
+    alloc: Global,
+    prefs: &Preferred,
+    kex: &[kex::Name],
+    hosts: &[HostName],
+    cookie: &[u8],
+) -> Result<Vec<u8>, Error>
+    requires { AreShort (with_lists prefs.now kex.now hosts.now) }
+    ensures ok { IfOk result (λ v. v.items ≡ kexinit (with_lists prefs.now kex.now hosts.now) cookie.now) }
+    ensures err { IfErr result (λ e. e ≡ Memory) }
+    ensures bytes { AreBytes cookie.now }
+{
+    let mut out = Vec::new(alloc);
+    put_u8(&mut out, msg::KEXINIT)?;
+    out.extend_from_slice(cookie)?;
+    put_list(alloc, &mut out, kex)?;
+    put_list(alloc, &mut out, hosts)?;
+    put_twice(alloc, &mut out, prefs.cipher.as_slice())?;
+    put_twice(alloc, &mut out, prefs.mac.as_slice())?;
+    put_twice(alloc, &mut out, prefs.compression.as_slice())?;
+    put_end(&mut out)?;
+    Ok(out)
+}
+
+/// Appends a list of names once for each direction. After an error the bytes may have grown.
+fn put_twice<A: AsName>(alloc: Global, out: &mut Vec<u8>, names: &[A]) -> Result<(), Error>
+    requires { length (joined_names (map A.text names.now)) ≤ name_list_limit }
+    ensures ok { OnOk result (out.new.items ≡ (out.old.items ++ name_list (map A.text names.now)) ++ name_list (map A.text names.now)) }
+    ensures err { IfErr result (λ e. e ≡ Memory) }
+{
+    put_list(alloc, out, names)?;
+    put_list(alloc, out, names)
+}
+
+/// Appends a list of names. Memory leaves the bytes as they were.
+fn put_list<A: AsName>(alloc: Global, out: &mut Vec<u8>, names: &[A]) -> Result<(), Error>
+    requires { length (joined_names (map A.text names.now)) ≤ name_list_limit }
+    ensures ok { OnOk result (out.new.items ≡ out.old.items ++ name_list (map A.text names.now)) }
+    ensures err { IfErr result (λ e. e ≡ Memory) }
+{
+    let list = texts_of(alloc, names)?;
+    list.encode(out)
+}
+
+/// Appends two empty lists of languages, that no guess follows, and a uint32 of nothing.
+fn put_end(out: &mut Vec<u8>) -> Result<(), Error>
+    ensures ok { OnOk result (out.new.items ≡ out.old.items ++ kexinit_end) }
+    ensures err { IfErr result (λ e. e ≡ Memory) }
+{
+    put_u32(out, 0)?;
+    put_u32(out, 0)?;
+    put_u8(out, 0)?;
+    put_u32(out, 0)
+}
