@@ -62,6 +62,15 @@ TABLE = {
         "Runs": "ClosureCall",
     },
     ("ssh_packet", "specs.Carried"): {"used": "ends_left"},
+    ("ssh_negotiate", "specs.Advertised"): {"advertised": "advertised_lists", "distinct": "each_once"},
+    ("ssh_negotiate", "specs.Chosen"): {"chosen": "chosen_names"},
+    ("ssh_negotiate", "specs.Reading"): {
+        "listed": "slice_list", "Gives": "AnswersReading", "Fault": "KexinitFault", "Answers": "AnswersFault",
+    },
+    ("ssh_negotiate", "specs.Laws"): {"picked": "choice_text", "told": "side_answer"},
+    ("ssh_negotiate", "specs.Parts"): {
+        "guessed": "with_guess", "taking": "front_taken", "Refuses": "RefusesReading",
+    },
     ("ssh_link", "specs.Delivering"): {"Finds": "FindsPackets", "IsRefused": "RefusesPacket"},
     ("ssh_link", "specs.Receiving"): {"Takes": "TakesPiece"},
     ("ssh_link", "specs.ClearRun"): {"submitted": "submitted_payloads"},
@@ -109,7 +118,8 @@ def is_bare_use(text, start, end):
     if line.strip() == "pub" and line[:1].isspace():
         return False
     is_set = re.match(r"\s*=(?![=>])", text[end : end + 40])
-    return "--" not in line and not (is_set and line and not line.endswith("let "))
+    is_field = line and line.strip()[-1:] in ("", "{", ";")
+    return "--" not in line and not (is_set and is_field)
 
 
 def replaced(text, names):

@@ -8,7 +8,7 @@ use Rattle.ssh_wire.specs.declared.side.Side.{Side}
 use Rattle.ssh_negotiate.specs.Advertised.{Offers}
 use Rattle.ssh_negotiate.specs.Chosen.{◌>>=◌}
 use Rattle.ssh_negotiate.specs.Laws.{FollowsNone, KeepsFlags, ReadFlags, ReadsAlike, but_strict}
-use Rattle.ssh_negotiate.specs.Reading.{Fault, Inconsistent, field, at_end, read_rest, read_fields, names_read}
+use Rattle.ssh_negotiate.specs.Reading.{KexinitFault, Inconsistent, field, at_end, read_rest, read_fields, names_read}
 use Rattle.ssh_negotiate.specs.declared.negotiation.Names.{Names}
 use Rattle.ssh_negotiate.proofs.Picked.{bind_ok, field_ok, rest_ok}
 use Rattle.ssh_negotiate.proofs.Written.{by_lists, read_written}
@@ -47,7 +47,7 @@ read_flags side own still payload n e = by_test (nat_lt (length payload) 17) e w
 
 -- ---- no guess stands in what a peer of this crate writes
 
-unfoldable pub ok_is : Names → Result Names Fault
+unfoldable pub ok_is : Names → Result Names KexinitFault
 ok_is m = Ok m
 
 last_follows : (m n : Names) → ok_is m ≡ Ok n → m.ignore_guessed ≡ false → n.ignore_guessed ≡ false
@@ -71,12 +71,12 @@ follows_none side own peer still cookie n l within e = lists_follow side own sti
 
 -- ---- what is read doesn't hang on what was strict before, but for the strict flag itself
 
-bind_alike : {A : Type 0} (x : Result A Fault) (f g : A → Result Names Fault) → ((a : A) → but_strict (f a) ≡ but_strict (g a)) → but_strict (x >>= f) ≡ but_strict (x >>= g)
+bind_alike : {A : Type 0} (x : Result A KexinitFault) (f g : A → Result Names KexinitFault) → ((a : A) → but_strict (f a) ≡ but_strict (g a)) → but_strict (x >>= f) ≡ but_strict (x >>= g)
 unfolding ◌>>=◌
 bind_alike (Ok a) f g h = h a
 bind_alike (Err r) f g h = refl
 
-field_alike : {X : Type 0} (r : Result (X × List ℕ) EncodingFault) (f g : X → List ℕ → Result Names Fault) → ((x : X) (b : List ℕ) → but_strict (f x b) ≡ but_strict (g x b)) → but_strict (field r f) ≡ but_strict (field r g)
+field_alike : {X : Type 0} (r : Result (X × List ℕ) EncodingFault) (f g : X → List ℕ → Result Names KexinitFault) → ((x : X) (b : List ℕ) → but_strict (f x b) ≡ but_strict (g x b)) → but_strict (field r f) ≡ but_strict (field r g)
 unfolding field
 field_alike (Ok p) f g h = h p.0 p.1
 field_alike (Err d) f g h = refl

@@ -10,10 +10,10 @@ use Rattle.ssh_wire.proofs.Lemmas.{text_again, u32_again}
 use Rattle.ssh_wire.proofs.Lemmas.{joined_utf8, names_again}
 use Rattle.ssh_wire.specs.declared.error.AlgorithmKind.TheVariants.{Kex, Key, Cipher, Compression}
 use Rattle.ssh_wire.specs.declared.side.Side.{Side}
-use Rattle.ssh_negotiate.specs.Advertised.{Offers, advertised, name_lists, kexinit, kexinit_end, kex_texts, key_texts, cipher_texts, mac_texts, compression_texts, host_text, cipher_text, mac_text, compression_text}
+use Rattle.ssh_negotiate.specs.Advertised.{Offers, advertised_lists, name_lists, kexinit, kexinit_end, kex_texts, key_texts, cipher_texts, mac_texts, compression_texts, host_text, cipher_text, mac_text, compression_text}
 use Rattle.ssh_negotiate.specs.Chosen.{◌>>=◌, names_with, without_extensions}
 use Rattle.ssh_negotiate.specs.Laws.{IsListed, IsWithin, ShortKexinit}
-use Rattle.ssh_negotiate.specs.Reading.{Fault, Inconsistent, field, at_end, read_rest, read_fields, names_read, select, select_mac, compared_kex, both_strict}
+use Rattle.ssh_negotiate.specs.Reading.{KexinitFault, Inconsistent, field, at_end, read_rest, read_fields, names_read, select, select_mac, compared_kex, both_strict}
 use Rattle.ssh_negotiate.specs.Tables.{kex_text}
 use Rattle.ssh_negotiate.specs.declared.negotiation.Names.{Names}
 use Rattle.ssh_negotiate.proofs.Texts.{texts_are_names, kex_name, host_name, cipher_name, mac_name, compression_name}
@@ -25,7 +25,7 @@ IsGood ts = AreNames ts × (length (joined_names ts) ≤ name_list_limit)
 good : {A : Type 0} (text : A → List ℕ) → ((a : A) → IsName (text a)) → (xs : List A) → IsListed (map text xs) → IsGood (map text xs)
 good text each xs l = (record { each = texts_are_names text each xs; count = l.count }, l.size)
 
-list_field : {A : Type 0} (ts : List (List ℕ)) (rest : List ℕ) (f : List (List ℕ) → List ℕ → Result A Fault) → IsGood ts → field (names_at (name_list ts ++ rest)) f ≡ f ts rest
+list_field : {A : Type 0} (ts : List (List ℕ)) (rest : List ℕ) (f : List (List ℕ) → List ℕ → Result A KexinitFault) → IsGood ts → field (names_at (name_list ts ++ rest)) f ≡ f ts rest
 unfolding field
 list_field ts rest f g = ap (λ r. field r f) (names_again ts rest g.0 g.1)
 
@@ -35,7 +35,7 @@ alike (Ok a) f g h = h a
 alike (Err e) f g h = refl
 
 -- names that are joined are a text
-joined_text : {A : Type 0} (ts : List (List ℕ)) (rest : List ℕ) (f : List ℕ → List ℕ → Result A Fault) → length (joined_names ts) < 2 ^ 32 → is_utf8 (joined_names ts) ≡ true → field (text_at (name_list ts ++ rest)) f ≡ f (joined_names ts) rest
+joined_text : {A : Type 0} (ts : List (List ℕ)) (rest : List ℕ) (f : List ℕ → List ℕ → Result A KexinitFault) → length (joined_names ts) < 2 ^ 32 → is_utf8 (joined_names ts) ≡ true → field (text_at (name_list ts ++ rest)) f ≡ f (joined_names ts) rest
 unfolding field
 joined_text ts rest f short utf8 = ap (λ r. field r f) (text_again (joined_names ts) rest short utf8)
 
@@ -52,7 +52,7 @@ rest_read names =
     ∙ ap (λ r. field r (λ _ u. at_end u (names false))) (u32_again 0 [] (omega arith)))
 
 -- the choices, one after the other, where no guess follows
-unfoldable pub by_lists : Side → Offers → Bool → Offers → Result Names Fault
+unfoldable pub by_lists : Side → Offers → Bool → Offers → Result Names KexinitFault
 by_lists side own still_strict peer =
     select kex_text side Kex (without_extensions own.kex) (compared_kex (kex_texts peer)) >>= λ kex.
     select host_text side Key own.key (key_texts peer) >>= λ host.
@@ -75,7 +75,7 @@ lists_good o w = (
   good compression_text compression_name o.compression w.compression,
 )
 
-fields_by_lists : (side : Side) (own : Offers) (still : Bool) (peer : Offers) → IsWithin peer → read_fields side own still (name_lists (advertised peer) kexinit_end) ≡ by_lists side own still peer
+fields_by_lists : (side : Side) (own : Offers) (still : Bool) (peer : Offers) → IsWithin peer → read_fields side own still (name_lists (advertised_lists peer) kexinit_end) ≡ by_lists side own still peer
 unfolding read_fields by_lists
 fields_by_lists side own still peer w =
     let g = lists_good peer w in
@@ -93,7 +93,7 @@ fields_by_lists side own still peer w =
 pub read_written : (side : Side) (own : Offers) (still : Bool) (peer : Offers) (cookie : List ℕ) → IsWithin peer → length cookie ≡ 16 → names_read side own still (kexinit peer cookie) ≡ by_lists side own still peer
 unfolding names_read kexinit
 read_written side own still peer cookie w h =
-    let lists = name_lists (advertised peer) kexinit_end in
+    let lists = name_lists (advertised_lists peer) kexinit_end in
     let seventeen : length (20 ∷ cookie) ≡ 17 = omega (arith, h) in
     let long : nat_lt (length ((20 ∷ cookie) ++ lists)) 17 ≡ false = grind (arith, nat_tests, length-append (20 ∷ cookie) lists) in
     let cut : drop 17 ((20 ∷ cookie) ++ lists) ≡ lists = subst (λ n. drop n ((20 ∷ cookie) ++ lists) ≡ lists) seventeen (drop-append_seam (20 ∷ cookie) lists) in

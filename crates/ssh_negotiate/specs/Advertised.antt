@@ -60,15 +60,15 @@ abbrev pub is_other : Algorithm → Algorithm → Bool
 is_other a b = not (bytes_eq (algorithm_name a) (algorithm_name b))
 
 -- each once, where it stands first
-abbrev pub distinct : List Algorithm → List Algorithm
-distinct [] = []
-distinct (a ∷ rest) = a ∷ filter (is_other a) (distinct rest)
+abbrev pub each_once : List Algorithm → List Algorithm
+each_once [] = []
+each_once (a ∷ rest) = a ∷ filter (is_other a) (each_once rest)
 
 -- the algorithms under which a server has a certificate: for each certificate whose key is there, the preferred ones that
 -- it fits
 unfoldable pub certificate_names : List Algorithm → List HostCertificate → List HostKey → List Algorithm
 certificate_names preferred certificates keys =
-    distinct (flat_map (λ (c : HostCertificate). filter (fits c.algorithm) preferred) (filter (has_key keys) certificates))
+    each_once (flat_map (λ (c : HostCertificate). filter (fits c.algorithm) preferred) (filter (has_key keys) certificates))
 
 -- the algorithms under which a server has a key; all, where no keys are handed in
 abbrev pub key_names : List Algorithm → Option (List HostKey) → List Algorithm
@@ -134,8 +134,8 @@ compression_texts o = map compression_text o.compression
 
 -- the eight lists as they are advertised: key exchanges, host keys, then ciphers, MACs and compressions, each to the
 -- server and to the client
-abbrev pub advertised : Offers → List (List (List ℕ))
-advertised o = kex_texts o ∷ key_texts o ∷ cipher_texts o ∷ cipher_texts o ∷ mac_texts o ∷ mac_texts o ∷ compression_texts o ∷ compression_texts o ∷ []
+abbrev pub advertised_lists : Offers → List (List (List ℕ))
+advertised_lists o = kex_texts o ∷ key_texts o ∷ cipher_texts o ∷ cipher_texts o ∷ mac_texts o ∷ mac_texts o ∷ compression_texts o ∷ compression_texts o ∷ []
 
 -- ---- the KEXINIT
 
@@ -150,4 +150,4 @@ kexinit_end = name_lists ([] ∷ [] ∷ []) (0 ∷ u32be 0)
 
 -- the payload: its number 20, the cookie, the lists
 unfoldable pub kexinit : Offers → List ℕ → List ℕ
-kexinit o cookie = (20 ∷ cookie) ++ name_lists (advertised o) kexinit_end
+kexinit o cookie = (20 ∷ cookie) ++ name_lists (advertised_lists o) kexinit_end

@@ -8,8 +8,8 @@ use Rattle.ssh_wire.specs.declared.error.AlgorithmKind.TheVariants.{Kex, Key, Ci
 use Rattle.ssh_wire.specs.declared.side.Side.{Side}
 use Rattle.ssh_wire.specs.declared.side.Side.TheVariants.{Client, Server}
 use Rattle.ssh_negotiate.specs.Advertised.{Offers, kex_texts, key_texts, cipher_texts, mac_texts, compression_texts, kexinit}
-use Rattle.ssh_negotiate.specs.Chosen.{chosen, without_extensions}
-use Rattle.ssh_negotiate.specs.Reading.{Fault, NoCommon, compared_kex, names_read, select}
+use Rattle.ssh_negotiate.specs.Chosen.{chosen_names, without_extensions}
+use Rattle.ssh_negotiate.specs.Reading.{KexinitFault, NoCommon, compared_kex, names_read, select}
 use Rattle.ssh_negotiate.specs.Tables.{kex_text}
 use Rattle.ssh_negotiate.specs.declared.negotiation.Names.{Names}
 
@@ -54,29 +54,29 @@ abbrev pub kept_strict : Bool → Names → Names
 kept_strict still n = record n { strict_kex = still || n.strict_kex }
 
 -- what a side answers for what both offers choose
-abbrev pub told : Bool → Offers → Offers → Result Names AlgorithmKind → Result Names Fault
-told still own peer (Ok n) = Ok (kept_strict still n)
-told still own peer (Err kind) = Err (NoCommon kind (own_list kind own) (peer_list kind peer))
+abbrev pub side_answer : Bool → Offers → Offers → Result Names AlgorithmKind → Result Names KexinitFault
+side_answer still own peer (Ok n) = Ok (kept_strict still n)
+side_answer still own peer (Err kind) = Err (NoCommon kind (own_list kind own) (peer_list kind peer))
 
 -- each side reads of the other's KEXINIT what both offers choose
 abbrev pub NamesAgree : Type 0
 NamesAgree = (client server : Offers) (still : Bool) (cookie : List ℕ) → IsWithin client → IsWithin server → length cookie ≡ 16 →
-    (names_read Client client still (kexinit server cookie) ≡ told still client server (chosen client server))
-    × (names_read Server server still (kexinit client cookie) ≡ told still server client (chosen client server))
+    (names_read Client client still (kexinit server cookie) ≡ side_answer still client server (chosen_names client server))
+    × (names_read Server server still (kexinit client cookie) ≡ side_answer still server client (chosen_names client server))
 
 -- a KEXINIT is short enough to be sent
 abbrev pub ShortKexinit : Type 0
 ShortKexinit = (o : Offers) (cookie : List ℕ) → AreShort o → length cookie ≡ 16 → length (kexinit o cookie) < longest_payload
 
 -- one choice: the flag, and the text of the name
-abbrev pub picked : {A : Type 0} → (A → List ℕ) → Result (Bool × A) Fault → Option (Bool × List ℕ)
-picked text (Ok r) = Some (r.0, text r.1)
-picked text (Err fault) = None
+abbrev pub choice_text : {A : Type 0} → (A → List ℕ) → Result (Bool × A) KexinitFault → Option (Bool × List ℕ)
+choice_text text (Ok r) = Some (r.0, text r.1)
+choice_text text (Err fault) = None
 
 -- a client and a server that select from the same two lists make one choice
 abbrev pub OneChoice : {A B : Type 0} → (A → List ℕ) → (B → List ℕ) → Type 0
 OneChoice {A} {B} client_text server_text = (kind : AlgorithmKind) (client : List A) (server : List B) →
-    picked client_text (select client_text Client kind client (map server_text server)) ≡ picked server_text (select server_text Server kind server (map client_text client))
+    choice_text client_text (select client_text Client kind client (map server_text server)) ≡ choice_text server_text (select server_text Server kind server (map client_text client))
 
 -- no guess is marked as dropped, and what was strict stays strict
 pub record KeepsFlags (still : Bool) (n : Names) : Type 0 where
@@ -92,7 +92,7 @@ abbrev pub FollowsNone : Type 0
 FollowsNone = (side : Side) (own peer : Offers) (still : Bool) (cookie : List ℕ) (n : Names) → length cookie ≡ 16 → IsWithin peer → names_read side own still (kexinit peer cookie) ≡ Ok n → n.ignore_guessed ≡ false
 
 -- a reading, but for its strict flag
-abbrev pub but_strict : Result Names Fault → Result Names Fault
+abbrev pub but_strict : Result Names KexinitFault → Result Names KexinitFault
 but_strict (Ok n) = Ok (record n { strict_kex = false })
 but_strict (Err fault) = Err fault
 

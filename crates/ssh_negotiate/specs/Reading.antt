@@ -18,7 +18,8 @@ use Rattle.ssh_wire.specs.declared.error.Error.TheVariants as errors
 use Rattle.ssh_wire.specs.declared.side.Side.{Side}
 use Rattle.ssh_wire.specs.declared.side.Side.TheVariants.{Client, Server}
 use Rattle.ssh_negotiate.specs.Preferences.{Preferences, Hosts}
-use Rattle.ssh_negotiate.specs.Advertised.{Offers, offers, host_text, cipher_text, mac_text, compression_text}
+use Rattle.rand_core.specs.Stream.{Stream, fill_bytes}
+use Rattle.ssh_negotiate.specs.Advertised.{Offers, offers, kexinit, host_text, cipher_text, mac_text, compression_text}
 use Rattle.ssh_negotiate.specs.Chosen.{◌>>=◌, or_err, without_extensions, asks, mac_under, names_with}
 use Rattle.ssh_negotiate.specs.Tables.{kex_text}
 use Rattle.ssh_negotiate.specs.declared.kex.Name as kexes
@@ -26,10 +27,10 @@ use Rattle.ssh_negotiate.specs.declared.kex.Name.TheVariants.{StrictC, StrictS}
 use Rattle.ssh_negotiate.specs.declared.negotiation.Names.{Names}
 
 -- why a KEXINIT is refused
-pub data Fault : Type 0 where
-  Inconsistent : Fault
-  Encoding : (fault : EncodingFault) → Fault
-  NoCommon : (kind : AlgorithmKind) (ours theirs : List (List ℕ)) → Fault
+pub data KexinitFault : Type 0 where
+  Inconsistent : KexinitFault
+  Encoding : (fault : EncodingFault) → KexinitFault
+  NoCommon : (kind : AlgorithmKind) (ours theirs : List (List ℕ)) → KexinitFault
 
 -- ---- one choice
 
@@ -50,7 +51,7 @@ same_first (a ∷ own) [] = false
 same_first [] peer = false
 
 -- the choice of a kind, and whether both sides name it first
-unfoldable pub select : {A : Type 0} → (A → List ℕ) → Side → AlgorithmKind → List A → List (List ℕ) → Result (Bool × A) Fault
+unfoldable pub select : {A : Type 0} → (A → List ℕ) → Side → AlgorithmKind → List A → List (List ℕ) → Result (Bool × A) KexinitFault
 select text side kind own peer =
     or_err (NoCommon kind (map text own) peer) (common text side own peer) >>= λ a. Ok (same_first (map text own) peer, a)
 
@@ -59,7 +60,7 @@ unfoldable pub compared_kex : List (List ℕ) → List (List ℕ)
 compared_kex texts = texts
 
 -- a choice of MACs under a cipher
-abbrev pub select_mac : Side → ciphers.Name → List macs.Name → List (List ℕ) → Result macs.Name Fault
+abbrev pub select_mac : Side → ciphers.Name → List macs.Name → List (List ℕ) → Result macs.Name KexinitFault
 select_mac side cipher own peer = or_err (NoCommon Mac (map mac_text own) peer) (mac_under cipher (common mac_text side own peer))
 
 -- the name by which a side asks for strict key exchange
@@ -74,16 +75,16 @@ both_strict side own peer = asks own.kex (strict_name side) && list_any (bytes_e
 -- ---- the fields
 
 -- a field, and what is made of it and of the bytes behind it
-unfoldable pub field : {X A : Type 0} → Result (X × List ℕ) EncodingFault → (X → List ℕ → Result A Fault) → Result A Fault
+unfoldable pub field : {X A : Type 0} → Result (X × List ℕ) EncodingFault → (X → List ℕ → Result A KexinitFault) → Result A KexinitFault
 field (Ok x) then' = then' x.0 x.1
 field (Err fault) then' = Err (Encoding fault)
 
-abbrev pub at_end : {A : Type 0} → List ℕ → A → Result A Fault
+abbrev pub at_end : {A : Type 0} → List ℕ → A → Result A KexinitFault
 at_end [] x = Ok x
 at_end (b ∷ bytes) x = Err (Encoding TrailingData)
 
 -- two languages, whether a guess follows, a uint32 of any value, the end
-unfoldable pub read_rest : {A : Type 0} → List ℕ → (Bool → A) → Result A Fault
+unfoldable pub read_rest : {A : Type 0} → List ℕ → (Bool → A) → Result A KexinitFault
 read_rest bytes names =
     field (text_at bytes) λ _ r.
     field (text_at r) λ _ s.
@@ -92,7 +93,7 @@ read_rest bytes names =
     at_end u (names (not (follows == 0)))
 
 -- the fields behind the cookie
-unfoldable pub read_fields : Side → Offers → Bool → List ℕ → Result Names Fault
+unfoldable pub read_fields : Side → Offers → Bool → List ℕ → Result Names KexinitFault
 read_fields side own still_strict bytes =
     field (names_at bytes) λ kex_list r1.
     select kex_text side Kex (without_extensions own.kex) (compared_kex kex_list) >>= λ kex.
@@ -114,24 +115,24 @@ read_fields side own still_strict bytes =
 
 -- The names that a side takes from the other's KEXINIT; `still_strict` where this is a later exchange of a strict
 -- connection. The number and the cookie are not looked at.
-unfoldable pub names_read : Side → Offers → Bool → List ℕ → Result Names Fault
+unfoldable pub names_read : Side → Offers → Bool → List ℕ → Result Names KexinitFault
 names_read side own still_strict payload = if nat_lt (length payload) 17 then Err Inconsistent else read_fields side own still_strict (drop 17 payload)
 
 -- ---- answers
 
 -- the refusal that answers a fault
-abbrev pub Answers : Fault → Error → Type 0
-Answers Inconsistent error = error ≡ errors.Inconsistent
-Answers (Encoding fault) error = error ≡ errors.SshEncoding fault
-Answers (NoCommon kind ours theirs) error = (own peer : NameList) × (error ≡ errors.NoCommonAlgo kind own peer) × (own.0.items ≡ ours) × (peer.0.items ≡ theirs)
+abbrev pub AnswersFault : KexinitFault → Error → Type 0
+AnswersFault Inconsistent error = error ≡ errors.Inconsistent
+AnswersFault (Encoding fault) error = error ≡ errors.SshEncoding fault
+AnswersFault (NoCommon kind ours theirs) error = (own peer : NameList) × (error ≡ errors.NoCommonAlgo kind own peer) × (own.0.items ≡ ours) × (peer.0.items ≡ theirs)
 
-abbrev pub Gives : {A : Type 0} → Result A Fault → Result A Error → Type 0
-Gives read (Ok x) = read ≡ Ok x
-Gives read (Err error) = (error ≡ errors.Memory) ⊎ ((fault : Fault) × (read ≡ Err fault) × Answers fault error)
+abbrev pub AnswersReading : {A : Type 0} → Result A KexinitFault → Result A Error → Type 0
+AnswersReading read (Ok x) = read ≡ Ok x
+AnswersReading read (Err error) = (error ≡ errors.Memory) ⊎ ((fault : KexinitFault) × (read ≡ Err fault) × AnswersFault fault error)
 
 -- the refusal of a kind without a common name, or want of memory
 abbrev pub IsRefusal : AlgorithmKind → List (List ℕ) → List (List ℕ) → Error → Type 0
-IsRefusal kind ours theirs error = (error ≡ errors.Memory) ⊎ Answers (NoCommon kind ours theirs) error
+IsRefusal kind ours theirs error = (error ≡ errors.Memory) ⊎ AnswersFault (NoCommon kind ours theirs) error
 
 -- ---- what is written
 
@@ -149,6 +150,17 @@ abbrev pub offered_by : Preferences → Option Hosts → Offers
 offered_by preferences hosts = offers (side_of hosts) preferences (own_hosts hosts)
 
 -- what is handed in as a slice, or not at all
-abbrev pub listed : {A : Type 0} → Option (Bor (List A)) → Option (List A)
-listed None = None
-listed (Some s) = Some s.now
+abbrev pub slice_list : {A : Type 0} → Option (Bor (List A)) → Option (List A)
+slice_list None = None
+slice_list (Some s) = Some s.now
+
+-- the cookie is the next 16 bytes of a generator
+abbrev pub cookie_from : Stream → List ℕ
+cookie_from stream = (fill_bytes 16 stream).0
+
+abbrev pub behind_cookie : Stream → Stream
+behind_cookie stream = (fill_bytes 16 stream).1
+
+-- the KEXINIT that is written, with the cookie that is drawn
+abbrev pub kexinit_drawn : Preferences → Option Hosts → Stream → List ℕ
+kexinit_drawn preferences hosts stream = kexinit (offered_by preferences hosts) (cookie_from stream)

@@ -6,9 +6,9 @@ ghost use Rattle.std.specs.Option.{option_copied};
 ghost use Rattle.std.specs.Str.{bytes_eq};
 ghost use Rattle.ssh_wire.specs.Algorithms.{algorithm_name};
 ghost use Rattle.ssh_wire.specs.declared.error.Error.TheVariants.{Memory};
-ghost use Rattle.ssh_negotiate.specs.Advertised.{certificate_names, distinct, fits, has_key, held_certificates, host_names, is_foreign, key_names, some_fits};
+ghost use Rattle.ssh_negotiate.specs.Advertised.{certificate_names, each_once, fits, has_key, held_certificates, host_names, is_foreign, key_names, some_fits};
 ghost use Rattle.ssh_negotiate.specs.Chosen.{asks, without_extensions};
-ghost use Rattle.ssh_negotiate.specs.Reading.{listed, offered_by};
+ghost use Rattle.ssh_negotiate.specs.Reading.{slice_list, offered_by};
 ghost use Rattle.ssh_negotiate.specs.declared.negotiation.HostName.TheVariants.{Certificate, Plain};
 
 use crate::kex;
@@ -65,7 +65,7 @@ fn add_fitting(
 
 /// Each algorithm once, where it stands first.
 fn each_once(alloc: Global, names: &[Algorithm]) -> Result<Vec<Algorithm>, AllocError>
-    ensures { IfOk result (λ v. v.items ≡ distinct names.now) }
+    ensures { IfOk result (λ v. v.items ≡ each_once names.now) }
 {
     let mut once = Vec::new(alloc);
     for name in names {
@@ -148,7 +148,7 @@ pub(crate) fn advertised_hosts(
     keys: Option<&[HostKey]>,
     certificates: Option<&[HostCertificate]>,
 ) -> Result<Vec<HostName>, Error>
-    ensures ok { IfOk result (λ v. v.items ≡ host_names side pref.now (listed keys.entry) (listed certificates.entry)) }
+    ensures ok { IfOk result (λ v. v.items ≡ host_names side pref.now (slice_list keys.entry) (slice_list certificates.entry)) }
     ensures err { IfErr result (λ e. e ≡ Memory) }
 {
     match side {
@@ -168,7 +168,7 @@ fn server_hosts(
     keys: Option<&[HostKey]>,
     certificates: Option<&[HostCertificate]>,
 ) -> Result<Vec<HostName>, Error>
-    ensures ok { IfOk result (λ v. v.items ≡ map Certificate (held_certificates pref.now.key (listed keys.entry) (listed certificates.entry)) ++ map Plain (key_names pref.now.key (listed keys.entry))) }
+    ensures ok { IfOk result (λ v. v.items ≡ map Certificate (held_certificates pref.now.key (slice_list keys.entry) (slice_list certificates.entry)) ++ map Plain (key_names pref.now.key (slice_list keys.entry))) }
     ensures err { IfErr result (λ e. e ≡ Memory) }
 {
     let Some(keys) = keys else {

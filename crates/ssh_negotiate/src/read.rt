@@ -8,8 +8,8 @@ ghost use Rattle.ssh_wire.specs.Sides.{other_side};
 ghost use Rattle.ssh_wire.specs.declared.error.AlgorithmKind.TheVariants.{Kex};
 ghost use Rattle.ssh_negotiate.specs.Advertised.{is_foreign, mac_text, offers_with};
 ghost use Rattle.ssh_negotiate.specs.Chosen.{algorithm_of, asks, is_certificate, mac_under, names_with, without_extensions};
-ghost use Rattle.ssh_negotiate.specs.Parts.{GivesFront, ciphers_part, compressions_part, guessed, hosts_part, macs_part, taking, with_lists, with_rest};
-ghost use Rattle.ssh_negotiate.specs.Reading.{Gives, IsRefusal, listed, names_read, read_fields, read_rest, select, select_mac, strict_name};
+ghost use Rattle.ssh_negotiate.specs.Parts.{GivesFront, ciphers_part, compressions_part, with_guess, hosts_part, macs_part, front_taken, with_lists, with_rest};
+ghost use Rattle.ssh_negotiate.specs.Reading.{AnswersReading, IsRefusal, slice_list, names_read, read_fields, read_rest, select, select_mac, strict_name};
 ghost use Rattle.ssh_negotiate.specs.Tables.{kex_text};
 
 use crate::kex;
@@ -36,7 +36,7 @@ pub(crate) fn names_of_kexinit(
     certificates: Option<&[HostCertificate]>,
     still_strict: bool,
 ) -> Result<Names, Error>
-    ensures { Gives (names_read side (offers_with side pref.now (listed keys.entry) (listed certificates.entry)) still_strict payload.now) result }
+    ensures { AnswersReading (names_read side (offers_with side pref.now (slice_list keys.entry) (slice_list certificates.entry)) still_strict payload.now) result }
 {
     if payload.len() < FRONT_LEN {
         return Err(Error::Inconsistent);
@@ -61,7 +61,7 @@ fn names_of_fields(
     still_strict: bool,
     bytes: &[u8],
 ) -> Result<Names, Error>
-    ensures { Gives (read_fields side (with_lists pref.now (filter (λ n. not (is_foreign side n)) pref.now.kex) hosts.now) still_strict bytes.now) result }
+    ensures { AnswersReading (read_fields side (with_lists pref.now (filter (λ n. not (is_foreign side n)) pref.now.kex) hosts.now) still_strict bytes.now) result }
 {
     let mut reader = Reader::new(bytes);
     let peer = NameList::decode(alloc, &mut reader)?;
@@ -77,7 +77,7 @@ fn kex_of(
     kex: &[kex::Name],
     peer: NameList,
 ) -> Result<(bool, kex::Name), Error>
-    ensures { Gives (select kex_text side Kex (without_extensions (filter (λ n. not (is_foreign side n)) kex.now)) peer.0.items) result }
+    ensures { AnswersReading (select kex_text side Kex (without_extensions (filter (λ n. not (is_foreign side n)) kex.now)) peer.0.items) result }
 {
     let own = comparable_kex(alloc, side, kex)?;
     choice_with(alloc, side, AlgorithmKind::Kex, own.as_slice(), peer)
@@ -117,7 +117,7 @@ fn names_behind_kex(
     strict: bool,
     r: &mut Reader<'_>,
 ) -> Result<Names, Error>
-    ensures { Gives (hosts_part side pref.now hosts.now kex strict r.old) result }
+    ensures { AnswersReading (hosts_part side pref.now hosts.now kex strict r.old) result }
 {
     let host = choice_at(alloc, side, AlgorithmKind::Key, hosts, r)?;
     names_behind_host(alloc, side, pref, kex, host, strict, r)
@@ -133,7 +133,7 @@ fn names_behind_host(
     strict: bool,
     r: &mut Reader<'_>,
 ) -> Result<Names, Error>
-    ensures { Gives (ciphers_part side pref.now kex host strict r.old) result }
+    ensures { AnswersReading (ciphers_part side pref.now kex host strict r.old) result }
 {
     let cipher = choice_at(
         alloc,
@@ -157,7 +157,7 @@ fn names_behind_cipher(
     strict: bool,
     r: &mut Reader<'_>,
 ) -> Result<Names, Error>
-    ensures { Gives (macs_part side pref.now kex host cipher strict r.old) result }
+    ensures { AnswersReading (macs_part side pref.now kex host cipher strict r.old) result }
 {
     let client_mac = mac_at(alloc, side, cipher, pref.mac.as_slice(), r)?;
     let server_mac = mac_at(alloc, side, cipher, pref.mac.as_slice(), r)?;
@@ -175,7 +175,7 @@ fn names_behind_macs(
     both_first: bool,
     r: &mut Reader<'_>,
 ) -> Result<Names, Error>
-    ensures { Gives (compressions_part side pref.now (guessed names both_first) r.old) result }
+    ensures { AnswersReading (compressions_part side pref.now (with_guess names both_first) r.old) result }
 {
     choice_at(
         alloc,
@@ -265,7 +265,7 @@ fn choice_at<A: AsName + Copy>(
     own: &[A],
     r: &mut Reader<'_>,
 ) -> Result<(bool, A), Error>
-    ensures { GivesFront (taking (names_at r.old) (select A.text side kind own.now) with_rest) result r.new }
+    ensures { GivesFront (front_taken (names_at r.old) (select A.text side kind own.now) with_rest) result r.new }
 {
     let peer = NameList::decode(alloc, r)?;
     choice_with(alloc, side, kind, own, peer)
@@ -279,7 +279,7 @@ fn choice_with<A: AsName + Copy>(
     own: &[A],
     peer: NameList,
 ) -> Result<(bool, A), Error>
-    ensures { Gives (select A.text side kind own.now peer.0.items) result }
+    ensures { AnswersReading (select A.text side kind own.now peer.0.items) result }
 {
     match choice_of(side, own, peer.0.as_slice()) {
         Some(name) => Ok((begin_alike(own, peer.0.as_slice()), name)),
@@ -309,7 +309,7 @@ fn mac_at(
     own: &[mac::Name],
     r: &mut Reader<'_>,
 ) -> Result<mac::Name, Error>
-    ensures { GivesFront (taking (names_at r.old) (select_mac side cipher own.now) with_rest) result r.new }
+    ensures { GivesFront (front_taken (names_at r.old) (select_mac side cipher own.now) with_rest) result r.new }
 {
     let peer = NameList::decode(alloc, r)?;
     mac_of(alloc, side, cipher, own, peer)
@@ -323,7 +323,7 @@ fn mac_of(
     own: &[mac::Name],
     peer: NameList,
 ) -> Result<mac::Name, Error>
-    ensures { Gives (select_mac side cipher own.now peer.0.items) result }
+    ensures { AnswersReading (select_mac side cipher own.now peer.0.items) result }
 {
     match mac_under(cipher, choice_of(side, own, peer.0.as_slice())) {
         Some(mac) => Ok(mac),
@@ -346,7 +346,7 @@ fn mac_under(cipher: cipher::Name, common: Option<mac::Name>) -> Option<mac::Nam
 
 /// Two texts of languages, whether a guess follows, a uint32 of any value, and nothing more.
 fn guess_at_end(r: &mut Reader<'_>) -> Result<bool, Error>
-    ensures { Gives (read_rest r.old (λ follows. follows)) result }
+    ensures { AnswersReading (read_rest r.old (λ follows. follows)) result }
 {
     r.read_text()?;
     r.read_text()?;

@@ -2,15 +2,14 @@
 
 ghost use Rattle.std.specs.Prelude.{◌≡◌, ◌++◌, ◌∷◌, [], ◌≤◌, ◌<◌, length, map, IfOk, IfErr, OnOk, OnErr, Option};
 ghost use Rattle.std.specs.Option.{option_copied};
-ghost use Rattle.rand_core.specs.Stream.{fill_bytes};
-ghost use Rattle.ssh_packet.specs.Sealing.{IsAdmissible, item_of, longest_payload, padding_length, stream_after};
+ghost use Rattle.ssh_packet.specs.Sealing.{IsAdmissible, IsPadded, item_of, longest_payload, stream_after};
 ghost use Rattle.ssh_packet.specs.Writing.{Sends, SameButRoom};
 ghost use Rattle.ssh_wire.specs.Forms.{AreBytes, joined_names, name_list, u32be};
 ghost use Rattle.ssh_wire.specs.Names.{name_list_limit};
 ghost use Rattle.ssh_wire.specs.declared.error.Error.TheVariants.{Memory};
 ghost use Rattle.ssh_negotiate.specs.Advertised.{kexinit, kexinit_end, name_lists};
 ghost use Rattle.ssh_negotiate.specs.Laws.{AreShort};
-ghost use Rattle.ssh_negotiate.specs.Reading.{offered_by};
+ghost use Rattle.ssh_negotiate.specs.Reading.{behind_cookie, cookie_from, kexinit_drawn, offered_by};
 ghost use Rattle.ssh_negotiate.specs.Parts.{with_lists};
 
 use crate::kex;
@@ -37,13 +36,17 @@ pub fn write_kex<R: Rng>(
     server_config: Option<&ServerKeys>,
 ) -> Result<Bytes, Error>
     requires { AreShort (offered_by prefs.now (option_copied server_config)) }
-    ensures answer { IfOk result (λ b. b ≡ kexinit (offered_by prefs.now (option_copied server_config.entry)) (fill_bytes 16 (R.stream rng.old)).0) }
-    ensures sent { OnOk result (Sends writer.old (kexinit (offered_by prefs.now (option_copied server_config.entry)) (fill_bytes 16 (R.stream rng.old)).0) (fill_bytes 16 (R.stream rng.old)).1 writer.new) }
-    ensures stream { OnOk result (R.stream rng.new ≡ stream_after writer.old.sealing (kexinit (offered_by prefs.now (option_copied server_config.entry)) (fill_bytes 16 (R.stream rng.old)).0) (fill_bytes 16 (R.stream rng.old)).1) }
-    ensures admissible { OnOk result (IsAdmissible writer.old.sealing (item_of writer.old.sealing (kexinit (offered_by prefs.now (option_copied server_config.entry)) (fill_bytes 16 (R.stream rng.old)).0) (fill_bytes 16 (R.stream rng.old)).1)) }
-    ensures cookie { OnOk result (length (fill_bytes 16 (R.stream rng.old)).0 ≡ 16) }
-    ensures bytes { OnOk result (AreBytes (fill_bytes 16 (R.stream rng.old)).0) }
-    ensures padded { OnOk result (length (item_of writer.old.sealing (kexinit (offered_by prefs.now (option_copied server_config.entry)) (fill_bytes 16 (R.stream rng.old)).0) (fill_bytes 16 (R.stream rng.old)).1).padding ≡ padding_length writer.old.sealing (length (kexinit (offered_by prefs.now (option_copied server_config.entry)) (fill_bytes 16 (R.stream rng.old)).0))) }
+    ensures answer { IfOk result (λ b. b ≡ kexinit_drawn prefs.now (option_copied server_config.entry) (R.stream rng.old)) }
+    ensures sent { OnOk result (Sends writer.old (kexinit_drawn prefs.now (option_copied server_config.entry) (R.stream rng.old))
+        (behind_cookie (R.stream rng.old)) writer.new) }
+    ensures stream { OnOk result (R.stream rng.new ≡ stream_after writer.old.sealing
+        (kexinit_drawn prefs.now (option_copied server_config.entry) (R.stream rng.old)) (behind_cookie (R.stream rng.old))) }
+    ensures admissible { OnOk result (IsAdmissible writer.old.sealing (item_of writer.old.sealing
+        (kexinit_drawn prefs.now (option_copied server_config.entry) (R.stream rng.old)) (behind_cookie (R.stream rng.old)))) }
+    ensures padded { OnOk result (IsPadded writer.old.sealing (item_of writer.old.sealing
+        (kexinit_drawn prefs.now (option_copied server_config.entry) (R.stream rng.old)) (behind_cookie (R.stream rng.old)))) }
+    ensures cookie { OnOk result (length (cookie_from (R.stream rng.old)) ≡ 16) }
+    ensures bytes { OnOk result (AreBytes (cookie_from (R.stream rng.old))) }
     ensures unchanged { OnErr result (SameButRoom writer.old writer.new) }
     ensures err { IfErr result (λ e. e ≡ Memory) }
 {
@@ -67,7 +70,7 @@ fn send_payload<R: Rng>(
     ensures sent { OnOk result (Sends writer.old payload.items (R.stream rng.old) writer.new) }
     ensures stream { OnOk result (R.stream rng.new ≡ stream_after writer.old.sealing payload.items (R.stream rng.old)) }
     ensures admissible { OnOk result (IsAdmissible writer.old.sealing (item_of writer.old.sealing payload.items (R.stream rng.old))) }
-    ensures padded { OnOk result (length (item_of writer.old.sealing payload.items (R.stream rng.old)).padding ≡ padding_length writer.old.sealing (length payload.items)) }
+    ensures padded { OnOk result (IsPadded writer.old.sealing (item_of writer.old.sealing payload.items (R.stream rng.old))) }
     ensures unchanged { OnErr result (SameButRoom writer.old writer.new) }
     ensures err { IfErr result (λ e. e ≡ Memory) }
 {

@@ -5,7 +5,7 @@ use Rattle.ssh_wire.specs.Names.{names_at}
 use Rattle.ssh_wire.specs.declared.error.AlgorithmKind.TheVariants.{Kex}
 use Rattle.ssh_negotiate.specs.Advertised.{is_foreign}
 use Rattle.ssh_negotiate.specs.Chosen.{without_extensions}
-use Rattle.ssh_negotiate.specs.Parts.{Refuses, hosts_part, with_lists}
+use Rattle.ssh_negotiate.specs.Parts.{RefusesReading, hosts_part, with_lists}
 use Rattle.ssh_negotiate.specs.Reading.{both_strict, read_fields, select}
 use Rattle.ssh_negotiate.specs.Tables.{kex_text}
 use Rattle.ssh_negotiate.specs.declared.kex.Name as kexes
@@ -17,7 +17,7 @@ returns-in_err-peer c =
     let kex = filter (λ n. not (is_foreign c.args.side n)) c.args.pref.now.kex in
     let p = err_from_is_err_and c.from_residual.result c.from_residual.ensures.1 in
     gives_err (read_fields c.args.side (with_lists c.args.pref.now kex c.args.hosts.now) c.args.still_strict c.args.bytes.now) c.from_residual.result p.0 c.in_err-peer.field-0.0 p.1 p.2
-    (subst (λ b. Refuses (read_fields c.args.side (with_lists c.args.pref.now kex c.args.hosts.now) c.args.still_strict b) c.in_err-peer.field-0.0) c.new-reader.ensures
+    (subst (λ b. RefusesReading (read_fields c.args.side (with_lists c.args.pref.now kex c.args.hosts.now) c.args.still_strict b) c.in_err-peer.field-0.0) c.new-reader.ensures
     (no_list c.args.side c.args.pref.now kex c.args.hosts.now c.args.still_strict c.new-reader.result c.in_err-peer.field-0.0 c.in_err-peer.ensures.exact.0))
 
 pub returns-in_err-kex : goal.returns-in_err-kex
@@ -28,7 +28,7 @@ returns-in_err-kex c =
     gives_err (read_fields c.args.side (with_lists c.args.pref.now kex c.args.hosts.now) c.args.still_strict c.args.bytes.now) c.from_residual-in_err-kex.result p.0 c.in_err-kex.field-0.0 p.1 p.2
     (no_choice c.args.side c.args.pref.now kex c.args.hosts.now c.args.still_strict c.args.bytes.now c.in_ok-peer.peer.0.items c.decode.new.r c.in_err-kex.field-0.0
     (ap names_at (sym c.new-reader.ensures) ∙ c.in_ok-peer.ensures.exact)
-    (subst (λ (l : List kexes.Name). Refuses (select kex_text c.args.side Kex (without_extensions (filter (λ n. not (is_foreign c.args.side n)) l)) c.in_ok-peer.peer.0.items) c.in_err-kex.field-0.0) own c.in_err-kex.ensures))
+    (subst (λ (l : List kexes.Name). RefusesReading (select kex_text c.args.side Kex (without_extensions (filter (λ n. not (is_foreign c.args.side n)) l)) c.in_ok-peer.peer.0.items) c.in_err-kex.field-0.0) own c.in_err-kex.ensures))
 
 pub returns : goal.returns
 returns c =

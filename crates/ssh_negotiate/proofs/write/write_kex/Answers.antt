@@ -1,7 +1,7 @@
 use Rattle.std.proofs.Common.{◌≡◌, ◌∙◌, ap, subst, OnOk, IfOk, length, List, ℕ}
 use Rattle.std.specs.Option.{option_copied}
 use Rattle.rand_core.specs.Stream.{Stream, fill_bytes}
-use Rattle.ssh_packet.specs.Sealing.{IsAdmissible, item_of, padding_length, stream_after}
+use Rattle.ssh_packet.specs.Sealing.{IsAdmissible, IsPadded, item_of, stream_after}
 use Rattle.ssh_packet.specs.Writing.{Sends}
 use Rattle.ssh_wire.specs.Forms.{AreBytes}
 use Rattle.ssh_negotiate.specs.Advertised.{kexinit}
@@ -44,7 +44,7 @@ pub returns-clause-admissible : goal.returns-clause-admissible
 returns-clause-admissible g c = carried (λ p s. OnOk c.send_payload.result (IsAdmissible c.args.writer.now.sealing (item_of c.args.writer.now.sealing p s))) _ _ _ _ (is_payload g c) (is_left g c) c.send_payload.ensures.admissible
 
 pub returns-clause-padded : goal.returns-clause-padded
-returns-clause-padded g c = carried (λ p s. OnOk c.send_payload.result (length (item_of c.args.writer.now.sealing p s).padding ≡ padding_length c.args.writer.now.sealing (length p))) _ _ _ _ (is_payload g c) (is_left g c) c.send_payload.ensures.padded
+returns-clause-padded g c = carried (λ p s. OnOk c.send_payload.result (IsPadded c.args.writer.now.sealing (item_of c.args.writer.now.sealing p s))) _ _ _ _ (is_payload g c) (is_left g c) c.send_payload.ensures.padded
 
 pub returns-clause-bytes : goal.returns-clause-bytes
 returns-clause-bytes g c = on_ok c.send_payload.result _ (subst AreBytes (ap (λ (p : List ℕ × Stream). p.0) c.fill_bytes.ensures) c.kexinit_payload.ensures.bytes)

@@ -1,6 +1,6 @@
 use Rattle.std.proofs.Common.{sym, ap, ◌∙◌}
 use Rattle.ssh_aes.specs.Modes.{unmasked_text, running_past}
-use Rattle.ssh_aes.proofs.Running.{streams_undone}
+use Rattle.ssh_aes.proofs.Lemmas.{streams_undone}
 use Rattle.uses.proofs.running.there_and_back.Goals as goal
 
 pub returns-clause-same : goal.returns-clause-same
