@@ -60,13 +60,15 @@ side_answer still own peer (Err kind) = Err (NoCommon kind (own_list kind own) (
 
 -- each side reads of the other's KEXINIT what both offers choose
 abbrev pub NamesAgree : Type 0
-NamesAgree = (client server : Offers) (still : Bool) (cookie : List ℕ) → IsWithin client → IsWithin server → length cookie ≡ 16 →
+NamesAgree = (client server : Offers) (still : Bool) (cookie : List ℕ) → IsWithin client → IsWithin server
+    → length cookie ≡ 16 →
     (names_read Client client still (kexinit server cookie) ≡ side_answer still client server (chosen_names client server))
     × (names_read Server server still (kexinit client cookie) ≡ side_answer still server client (chosen_names client server))
 
 -- a KEXINIT is short enough to be sent
 abbrev pub ShortKexinit : Type 0
-ShortKexinit = (o : Offers) (cookie : List ℕ) → AreShort o → length cookie ≡ 16 → length (kexinit o cookie) < longest_payload
+ShortKexinit = (o : Offers) (cookie : List ℕ) → AreShort o → length cookie ≡ 16
+    → length (kexinit o cookie) < longest_payload
 
 -- one choice: the flag, and the text of the name
 abbrev pub choice_text : {A : Type 0} → (A → List ℕ) → Result (Bool × A) KexinitFault → Option (Bool × List ℕ)
@@ -85,11 +87,13 @@ pub record KeepsFlags (still : Bool) (n : Names) : Type 0 where
 
 -- every reading keeps the flags
 abbrev pub ReadFlags : Type 0
-ReadFlags = (side : Side) (own : Offers) (still : Bool) (payload : List ℕ) (n : Names) → names_read side own still payload ≡ Ok n → KeepsFlags still n
+ReadFlags = (side : Side) (own : Offers) (still : Bool) (payload : List ℕ) (n : Names)
+    → names_read side own still payload ≡ Ok n → KeepsFlags still n
 
 -- a KEXINIT as it is written marks no guess
 abbrev pub FollowsNone : Type 0
-FollowsNone = (side : Side) (own peer : Offers) (still : Bool) (cookie : List ℕ) (n : Names) → length cookie ≡ 16 → IsWithin peer → names_read side own still (kexinit peer cookie) ≡ Ok n → n.ignore_guessed ≡ false
+FollowsNone = (side : Side) (own peer : Offers) (still : Bool) (cookie : List ℕ) (n : Names) → length cookie ≡ 16
+    → IsWithin peer → names_read side own still (kexinit peer cookie) ≡ Ok n → n.ignore_guessed ≡ false
 
 -- a reading, but for its strict flag
 abbrev pub but_strict : Result Names KexinitFault → Result Names KexinitFault
@@ -98,4 +102,5 @@ but_strict (Err fault) = Err fault
 
 -- whether the connection was strict before touches nothing but the strict flag, and no refusal
 abbrev pub ReadsAlike : Type 0
-ReadsAlike = (side : Side) (own : Offers) (b c : Bool) (payload : List ℕ) → but_strict (names_read side own b payload) ≡ but_strict (names_read side own c payload)
+ReadsAlike = (side : Side) (own : Offers) (b c : Bool) (payload : List ℕ)
+    → but_strict (names_read side own b payload) ≡ but_strict (names_read side own c payload)

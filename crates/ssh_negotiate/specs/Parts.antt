@@ -22,7 +22,8 @@ with_lists p kex key = record { kex = kex; key = key; cipher = p.cipher; mac = p
 
 -- the refusal of a reading, or want of memory
 abbrev pub RefusesReading : {A : Type 0} → Result A KexinitFault → Error → Type 0
-RefusesReading read error = (error ≡ errors.Memory) ⊎ ((fault : KexinitFault) × (read ≡ Err fault) × AnswersFault fault error)
+RefusesReading read error = (error ≡ errors.Memory)
+    ⊎ ((fault : KexinitFault) × (read ≡ Err fault) × AnswersFault fault error)
 
 -- what was read at the front, with the bytes behind it
 abbrev pub GivesFront : {A : Type 0} → Result (A × List ℕ) KexinitFault → Result A Error → List ℕ → Type 0
@@ -30,7 +31,8 @@ GivesFront read (Ok x) new = read ≡ Ok (x, new)
 GivesFront read (Err error) new = RefusesReading read error
 
 -- a field, what is made of it, and what follows with the bytes behind it
-abbrev pub front_taken : {X A B : Type 0} → Result (X × List ℕ) EncodingFault → (X → Result A KexinitFault) → (A → List ℕ → Result B KexinitFault) → Result B KexinitFault
+abbrev pub front_taken : {X A B : Type 0} → Result (X × List ℕ) EncodingFault → (X → Result A KexinitFault)
+    → (A → List ℕ → Result B KexinitFault) → Result B KexinitFault
 front_taken read made then' = field read λ x rest. made x >>= λ a. then' a rest
 
 -- what was made, and the bytes behind it
@@ -49,21 +51,24 @@ abbrev pub with_guess : Names → Bool → Bool → Names
 with_guess names both_first follows = record names { ignore_guessed = follows && not both_first }
 
 -- both lists of MACs
-abbrev pub macs_part : Side → Preferences → (Bool × kexes.Name) → (Bool × HostName) → ciphers.Name → Bool → List ℕ → Result Names KexinitFault
+abbrev pub macs_part : Side → Preferences → (Bool × kexes.Name) → (Bool × HostName) → ciphers.Name → Bool → List ℕ
+    → Result Names KexinitFault
 macs_part side p kex host cipher strict bytes =
     front_taken (names_at bytes) (select_mac side cipher p.mac) λ client_mac r.
     front_taken (names_at r) (select_mac side cipher p.mac) λ server_mac s.
     compressions_part side p (with_guess (names_with kex.1 host.1 cipher client_mac server_mac false strict) (kex.0 && host.0)) s
 
 -- both lists of ciphers, of which the second is a text
-abbrev pub ciphers_part : Side → Preferences → (Bool × kexes.Name) → (Bool × HostName) → Bool → List ℕ → Result Names KexinitFault
+abbrev pub ciphers_part : Side → Preferences → (Bool × kexes.Name) → (Bool × HostName) → Bool → List ℕ
+    → Result Names KexinitFault
 ciphers_part side p kex host strict bytes =
     front_taken (names_at bytes) (select cipher_text side Cipher p.cipher) λ cipher r.
     field (text_at r) λ _ s.
     macs_part side p kex host cipher.1 strict s
 
 -- the list of host keys
-abbrev pub hosts_part : Side → Preferences → List HostName → (Bool × kexes.Name) → Bool → List ℕ → Result Names KexinitFault
+abbrev pub hosts_part : Side → Preferences → List HostName → (Bool × kexes.Name) → Bool → List ℕ
+    → Result Names KexinitFault
 hosts_part side p hosts kex strict bytes =
     front_taken (names_at bytes) (select host_text side Key hosts) λ host r.
     ciphers_part side p kex host strict r

@@ -51,7 +51,8 @@ same_first (a ∷ own) [] = false
 same_first [] peer = false
 
 -- the choice of a kind, and whether both sides name it first
-unfoldable pub select : {A : Type 0} → (A → List ℕ) → Side → AlgorithmKind → List A → List (List ℕ) → Result (Bool × A) KexinitFault
+unfoldable pub select : {A : Type 0} → (A → List ℕ) → Side → AlgorithmKind → List A → List (List ℕ)
+    → Result (Bool × A) KexinitFault
 select text side kind own peer =
     or_err (NoCommon kind (map text own) peer) (common text side own peer) >>= λ a. Ok (same_first (map text own) peer, a)
 
@@ -75,7 +76,8 @@ both_strict side own peer = asks own.kex (strict_name side) && list_any (bytes_e
 -- ---- the fields
 
 -- a field, and what is made of it and of the bytes behind it
-unfoldable pub field : {X A : Type 0} → Result (X × List ℕ) EncodingFault → (X → List ℕ → Result A KexinitFault) → Result A KexinitFault
+unfoldable pub field : {X A : Type 0} → Result (X × List ℕ) EncodingFault → (X → List ℕ → Result A KexinitFault)
+    → Result A KexinitFault
 field (Ok x) then' = then' x.0 x.1
 field (Err fault) then' = Err (Encoding fault)
 
@@ -124,11 +126,13 @@ names_read side own still_strict payload = if nat_lt (length payload) 17 then Er
 abbrev pub AnswersFault : KexinitFault → Error → Type 0
 AnswersFault Inconsistent error = error ≡ errors.Inconsistent
 AnswersFault (Encoding fault) error = error ≡ errors.SshEncoding fault
-AnswersFault (NoCommon kind ours theirs) error = (own peer : NameList) × (error ≡ errors.NoCommonAlgo kind own peer) × (own.0.items ≡ ours) × (peer.0.items ≡ theirs)
+AnswersFault (NoCommon kind ours theirs) error = (own peer : NameList) × (error ≡ errors.NoCommonAlgo kind own peer)
+    × (own.0.items ≡ ours) × (peer.0.items ≡ theirs)
 
 abbrev pub AnswersReading : {A : Type 0} → Result A KexinitFault → Result A Error → Type 0
 AnswersReading read (Ok x) = read ≡ Ok x
-AnswersReading read (Err error) = (error ≡ errors.Memory) ⊎ ((fault : KexinitFault) × (read ≡ Err fault) × AnswersFault fault error)
+AnswersReading read (Err error) = (error ≡ errors.Memory)
+    ⊎ ((fault : KexinitFault) × (read ≡ Err fault) × AnswersFault fault error)
 
 -- the refusal of a kind without a common name, or want of memory
 abbrev pub IsRefusal : AlgorithmKind → List (List ℕ) → List (List ℕ) → Error → Type 0
