@@ -95,7 +95,7 @@ abbrev pub SealsWith : {T : Type 0} → (Result (Unit {0}) Error → List ℕ �
     → Stream → Result T Error → Writer → Type 0
 SealsWith Leaves answer_of old before after result new =
     (answer : Result (Unit {0}) Error) × (payload : List ℕ) × Leaves answer payload
-        × Follows answer payload old before after result new × IfOk result (λ x. x ≡ answer_of payload)
+    × Follows answer payload old before after result new × IfOk result (λ x. x ≡ answer_of payload)
 
 -- the room before a payload, for packet length and padding length
 abbrev pub head_room : List ℕ
