@@ -140,7 +140,7 @@ def scope_of(path, text):
         if listed:
             for item in re.split(r",\s*", listed.strip()):
                 word, _, other = item.partition(" as ")
-                if word in table and not other:
+                if word in table and not other and not is_declared(table[word], text):
                     names[word] = table[word]
         elif table:
             modules[alias or module.split(".")[-1]] = table
@@ -182,22 +182,34 @@ def lemmas_moved(path, text):
     return text
 
 
+def is_declared(word, text):
+    """Whether a definition file declares a word itself."""
+    return re.search(rf"^(?:pub |abbrev )*{re.escape(word)} :", text, re.MULTILINE) is not None
+
+
 def imports_changed(text):
-    """The text with the lists of its imports changed."""
+    """The text with the lists of its imports changed. What a file has another thing for keeps its former name."""
     def change(match):
         table = TABLE.get((match.group(1), match.group(2)), {})
         if not match.group(3) or not table:
             return match.group(0)
         items = []
         for item in re.split(r",\s*", match.group(3).strip()):
-            word, as_, other = item.partition(" as ")
-            word = table.get(word, word)
+            former, as_, other = item.partition(" as ")
+            word = table.get(former, former)
+            if word != former and not other and is_declared(word, text):
+                as_, other = " as ", former
             items.append(word if word == other else word + as_ + other)
         return match.group(0).replace("{" + match.group(3) + "}", "{" + ", ".join(items) + "}")
     return IMPORT.sub(change, text)
 
 
 def by_module(text, modules):
+    """The text with the words changed that it reaches through their module."""
+    for (crate, module), table in TABLE.items():
+        place = f"Rattle.{crate}.{module}."
+        for old, new in table.items():
+            text = re.sub(rf"{re.escape(place + old)}(?!{WORD}|\.)", place + new, text)
     for word, table in modules.items():
         for old, new in table.items():
             text = re.sub(rf"(?<!{WORD})(?<!\.){word}\.{re.escape(old)}(?!{WORD})", f"{word}.{new}", text)
