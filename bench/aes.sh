@@ -2,12 +2,13 @@
 # Usage: bench/aes.sh
 # Encrypts messages of 32 KiB under a key of 32 bytes by each mode of ssh_aes for about two seconds, and by
 # OpenSSL with its AES and carry-less product instructions switched off, and prints bytes per second of both.
-# Needs rt (once, to build crates/aes_speed), openssl and python3.
+# Where valgrind is installed, it also prints how many instructions ssh_aes runs for each byte of 1 MiB, less
+# what a run of no message takes. Needs rt (once, to build crates/aes_speed), openssl and python3.
 set -eu
 cd "$(dirname "$0")/.."
 [ -x crates/aes_speed/out/aes_speed ] || (cd crates/aes_speed && rt run -- ctr 1 >/dev/null 2>&1)
 python3 - crates/aes_speed/out/aes_speed <<'PYTHON'
-import os, re, subprocess, sys, time
+import os, re, shutil, subprocess, sys, time
 
 program = sys.argv[1]
 plain = dict(os.environ, OPENSSL_ia32cap="~0x200000200000000")
@@ -33,7 +34,20 @@ def openssl(mode):
     return 1000 * float(re.search(r"([0-9.]+)k\s*$", written).group(1))
 
 
-print(f"{'mode':6}{'ssh_aes':>16}{'openssl':>16}   bytes per second")
+def collected(mode, count):
+    words = ["valgrind", "--tool=callgrind", "--callgrind-out-file=/dev/null", program, mode, str(count)]
+    written = subprocess.run(words, capture_output=True, text=True, check=True).stderr
+    return int(re.search(r"Collected : (\d+)", written).group(1))
+
+
+def instructions(mode):
+    """Instructions for each byte of 1 MiB, less what a run of no message takes."""
+    if shutil.which("valgrind") is None:
+        return "-"
+    return f"{(collected(mode, 32) - collected(mode, 0)) / (32 * 32768):.1f}"
+
+
+print(f"{'mode':6}{'ssh_aes':>16}{'openssl':>16}   bytes per second{'':6}instructions a byte")
 for mode in ("ctr", "cbc", "gcm"):
-    print(f"{mode:6}{speed(mode):16,.0f}{openssl(mode):16,.0f}")
+    print(f"{mode:6}{speed(mode):16,.0f}{openssl(mode):16,.0f}{instructions(mode):>44}")
 PYTHON

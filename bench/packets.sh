@@ -2,14 +2,18 @@
 # Usage: bench/packets.sh
 # Seals payloads of 64 bytes and of 32 KiB under each kind of key for about a second, and opens them, and prints
 # the payload bytes per second of both. Opening is what a run that seals and opens takes longer than one that seals.
-# Needs rt (once, to build crates/packet_speed) and python3.
+# Beside them it prints the bytes per second of OpenSSL's cipher and then its HMAC over as many bytes, with its AES
+# and carry-less product instructions switched off; and, where valgrind is installed, how many instructions sealing
+# and opening run for each byte of 1 MiB, less what a run of no packet takes. Needs rt (once, to build
+# crates/packet_speed), openssl and python3.
 set -eu
 cd "$(dirname "$0")/.."
 [ -x crates/packet_speed/out/packet_speed ] || (cd crates/packet_speed && rt run >/dev/null 2>&1)
 python3 - crates/packet_speed/out/packet_speed <<'PYTHON'
-import subprocess, sys, time
+import functools, os, re, shutil, subprocess, sys, time
 
 program = sys.argv[1]
+plain = dict(os.environ, OPENSSL_ia32cap="~0x200000200000000")
 kinds = [
     ("none", "none"),
     ("aes256-ctr", "hmac-sha2-256"),
@@ -40,9 +44,50 @@ def speeds(kind, length):
     return length * count / (sealing - none), length * count / (both - sealing)
 
 
-print(f"{'cipher and MAC':54}{'bytes':>7}{'sealed':>15}{'opened':>15}   bytes per second")
+@functools.cache
+def openssl_time(length, *words):
+    words = ["openssl", "speed", "-elapsed", "-seconds", "1", "-bytes", str(length), *words]
+    written = subprocess.run(words, env=plain, capture_output=True, text=True, check=True).stdout
+    return 0.001 / float(re.search(r"([0-9.]+)k\s*$", written).group(1))
+
+
+def openssl(kind, length):
+    """Bytes per second of the cipher and then the MAC."""
+    cipher, mac = kind
+    if cipher == "none":
+        return "-"
+    total = openssl_time(length, "-evp", "aes-256-" + cipher[7:10])
+    if mac != "none":
+        total += openssl_time(length, "-hmac", "sha256")
+    return f"{1 / total:,.0f}"
+
+
+def collected(kind, how, length, count):
+    words = ["valgrind", "--tool=callgrind", "--callgrind-out-file=/dev/null"]
+    words += [program, *kind, how, str(length), str(count)]
+    written = subprocess.run(words, capture_output=True, text=True, check=True).stderr
+    return int(re.search(r"Collected : (\d+)", written).group(1))
+
+
+def instructions(kind, length):
+    """Instructions for each byte of 1 MiB, sealed and opened."""
+    if shutil.which("valgrind") is None:
+        return "-", "-"
+    count = 2**20 // length
+    none = collected(kind, "seal", length, 0)
+    sealing = collected(kind, "seal", length, count)
+    both = collected(kind, "open", length, count)
+    return f"{(sealing - none) / 2**20:.1f}", f"{(both - sealing) / 2**20:.1f}"
+
+
+print(f"{'':52}{'bytes per second':>46}{'instructions a byte':>22}")
+print(f"{'cipher and MAC':46}{'bytes':>6}{'sealed':>16}{'opened':>16}{'openssl':>14}{'sealed':>11}{'opened':>11}")
 for kind in kinds:
     for length in (64, 32768):
         sealed, opened = speeds(kind, length)
-        print(f"{' '.join(kind):54}{length:7}{sealed:15,.0f}{opened:15,.0f}")
+        run = instructions(kind, length)
+        print(
+            f"{' '.join(kind):46}{length:6}{sealed:16,.0f}{opened:16,.0f}{openssl(kind, length):>14}"
+            f"{run[0]:>11}{run[1]:>11}"
+        )
 PYTHON

@@ -101,7 +101,7 @@ spread j p q r s a b c d =
     ∙ ap (λ x. bit_xor x (byte_product j (bit_xor (byte_product r c) (byte_product s d)))) (product_modulo-sum 8 0x11b j (byte_product p a) (byte_product q b))
     ∙ ap (bit_xor (bit_xor (byte_product j (byte_product p a)) (byte_product j (byte_product q b)))) (product_modulo-sum 8 0x11b j (byte_product r c) (byte_product s d))
 
-four_across : (a b c d e f g h : ℕ) → bit_xor (bit_xor (bit_xor a b) (bit_xor c d)) (bit_xor (bit_xor e f) (bit_xor g h)) ≡ bit_xor (bit_xor (bit_xor a e) (bit_xor b f)) (bit_xor (bit_xor c g) (bit_xor d h))
+pub four_across : (a b c d e f g h : ℕ) → bit_xor (bit_xor (bit_xor a b) (bit_xor c d)) (bit_xor (bit_xor e f) (bit_xor g h)) ≡ bit_xor (bit_xor (bit_xor a e) (bit_xor b f)) (bit_xor (bit_xor c g) (bit_xor d h))
 four_across a b c d e f g h =
     xor_across (bit_xor a b) (bit_xor c d) (bit_xor e f) (bit_xor g h)
     ∙ ap (λ x. bit_xor x (bit_xor (bit_xor c d) (bit_xor g h))) (xor_across a b e f)

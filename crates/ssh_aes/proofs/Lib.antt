@@ -1,9 +1,13 @@
 pub mod Below
 pub mod Entries
 pub mod Polynomials
+pub mod Nibbles
 pub mod Written
 pub mod Schedules
 pub mod Inverses
+pub mod RoundTables
+pub mod Words
+pub mod Equivalent
 pub mod Redone
 pub mod Worked
 pub mod Running
@@ -12,4 +16,6 @@ pub mod Chaining
 pub mod Sealing
 pub mod Fronts
 pub mod Spelling
+pub mod Numbers
+pub mod Streams
 pub mod Lemmas

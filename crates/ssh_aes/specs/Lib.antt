@@ -1,5 +1,6 @@
 pub mod Field
 pub mod Aes
+pub mod Columns
 pub mod Keys
 pub mod Modes
 pub mod States

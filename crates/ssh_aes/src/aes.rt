@@ -2,12 +2,14 @@
 
 ghost use Rattle.std.specs.Prelude.{◌≡◌, ◌<◌, ◌≤◌, ◌*◌, ◌+◌, length, take, slice_index};
 ghost use Rattle.ssh_aes.specs.Aes.{aes, inverse_aes, next_word, plus_word, substitute};
+ghost use Rattle.ssh_aes.specs.Columns.{AreUnmixed};
 ghost use Rattle.ssh_aes.specs.Keys.{IsKeyLength};
 
-use crate::steps::{
-    add_key, mix_block, move_rows_left, move_rows_right, restore_bytes, substitute_bytes,
-    unmix_block,
+use crate::blocks::{block_at, put_block};
+use crate::columns::{
+    columns_with_key, inverse_round_of, last_inverse_round_of, last_round_of, round_of,
 };
+use crate::steps::unmix_block;
 use crate::tables::{ROUND_CONSTANTS, SUBSTITUTION};
 use std::marker::Model;
 
@@ -15,18 +17,19 @@ use std::marker::Model;
 #[derive(Clone, Drop)]
 pub struct Aes {
     keys: [u8; 240],
+    inverse_keys: [u8; 240],
     words: usize,
 }
 
 impl Model for Aes {
     ghost use Rattle.std.specs.Prelude.{ℕ, List};
-    ghost use Rattle.ssh_aes.specs.Keys.{key_in, IsExpanded};
+    ghost use Rattle.ssh_aes.specs.Keys.{key_in, IsPrepared};
 
     ghost Value = { List ℕ };
 
     ghost view = { λ a. key_in a.words a.keys };
 
-    ghost invariant = { λ a. IsExpanded a.words a.keys };
+    ghost invariant = { λ a. IsPrepared a.words a.keys a.inverse_keys };
 }
 
 impl Aes {
@@ -41,40 +44,49 @@ impl Aes {
             let word = word_after(&keys, words, i);
             keys[4 * i..4 * i + 4].copy_from_slice(&word);
         }
-        Aes { keys, words }
+        Aes {
+            keys,
+            inverse_keys: inverse_keys_of(&keys),
+            words,
+        }
     }
 
     /// Encrypts a block in place (FIPS 197 section 5.1).
     pub fn encrypt_block(&self, block: &mut [u8; 16])
         ensures { block.new ≡ aes self.now block.old }
     {
-        add_key(block, &self.keys, 0);
+        let mut columns = columns_with_key(block, &self.keys, 0);
         for round in 1..self.words + 6 {
-            substitute_bytes(block);
-            move_rows_left(block);
-            mix_block(block);
-            add_key(block, &self.keys, round);
+            columns = round_of(columns, &self.keys, round);
         }
-        substitute_bytes(block);
-        move_rows_left(block);
-        add_key(block, &self.keys, self.words + 6);
+        let last = last_round_of(columns, &self.keys, self.words + 6);
+        *block = last;
     }
 
     /// Decrypts a block in place (FIPS 197 section 5.3).
     pub fn decrypt_block(&self, block: &mut [u8; 16])
         ensures { block.new ≡ inverse_aes self.now block.old }
     {
-        add_key(block, &self.keys, self.words + 6);
+        let mut columns = columns_with_key(block, &self.keys, self.words + 6);
         for done in 0..self.words + 5 {
-            move_rows_right(block);
-            restore_bytes(block);
-            add_key(block, &self.keys, self.words + 5 - done);
-            unmix_block(block);
+            columns = inverse_round_of(columns, &self.inverse_keys, self.words + 5 - done);
         }
-        move_rows_right(block);
-        restore_bytes(block);
-        add_key(block, &self.keys, 0);
+        let last = last_inverse_round_of(columns, &self.keys, 0);
+        *block = last;
     }
+}
+
+/// The keys of the rounds of decryption: those of encryption unmixed (FIPS 197 section 5.3.5).
+fn inverse_keys_of(keys: &[u8; 240]) -> [u8; 240]
+    ensures { AreUnmixed 15 keys.now result }
+{
+    let mut inverse_keys = *keys;
+    for round in 0..15 {
+        let mut block = block_at(keys, 16 * round);
+        unmix_block(&mut block);
+        put_block(&mut inverse_keys, 16 * round, &block);
+    }
+    inverse_keys
 }
 
 /// Room for a schedule, with the key at its front.

@@ -1,12 +1,13 @@
 //! Counter mode (SP 800-38A section 6.5).
 
-ghost use Rattle.std.specs.Prelude.{◌≡◌, ◌≢◌, ◌+◌, ◌/◌, ◌%◌, ◌^◌, length};
+ghost use Rattle.std.specs.Prelude.{◌≡◌, ◌+◌, ◌%◌, ◌^◌, length};
 ghost use Rattle.ssh_aes.specs.Keys.{IsKeyLength};
-ghost use Rattle.ssh_aes.specs.Modes.{stream_block, counter_text};
+ghost use Rattle.ssh_aes.specs.Modes.{counter_text};
 ghost use Rattle.ssh_aes.specs.States.{ctr_running};
 
 use crate::aes::Aes;
 use crate::runs::{BlockStreamCipher, PacketLengthProbe};
+use crate::stream::mask_from;
 use std::marker::Model;
 
 /// AES in counter mode, which runs on byte by byte. The place counts bytes, modulo 2^64 on purpose.
@@ -40,38 +41,11 @@ impl CtrWrapper {
         }
     }
 
-    /// The block of the key stream that has the byte at a place.
-    fn stream_at(&self, place: u64) -> [u8; 16]
-        ensures { result ≡ stream_block self.now.key self.now.iv (place / 16) }
-    {
-        let counter = u128::from_be_bytes(self.iv).wrapping_add(u128::from(place / 16));
-        let mut block = counter.to_be_bytes();
-        self.aes.encrypt_block(&mut block);
-        block
-    }
-
-    /// The same, with the block of the place before at hand, which serves unless a block begins.
-    fn stream_from(&self, place: u64, before: [u8; 16]) -> [u8; 16]
-        requires { place % 16 ≢ 0 → before ≡ stream_block self.now.key self.now.iv (place / 16) }
-        ensures { result ≡ stream_block self.now.key self.now.iv (place / 16) }
-    {
-        if place % 16 == 0 {
-            self.stream_at(place)
-        } else {
-            before
-        }
-    }
-
     /// Combines bytes with the key stream from the place on.
     fn mask(&self, bytes: &mut [u8])
         ensures { bytes.new ≡ counter_text self.now.key self.now.iv self.now.place bytes.old }
     {
-        let mut block = self.stream_at(self.place);
-        for i in 0..bytes.len() {
-            let place = self.place.wrapping_add(i as u64);
-            block = self.stream_from(place, block);
-            bytes[i] ^= block[(place % 16) as usize];
-        }
+        mask_from(&self.aes, &self.iv, self.place, bytes);
     }
 
     /// Moves the place on.

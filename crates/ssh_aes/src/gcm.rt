@@ -1,18 +1,19 @@
 //! Galois counter mode (SP 800-38D), with a nonce of 12 bytes and a tag of 16.
 
 ghost use Rattle.std.specs.Prelude.{◌≡◌, ◌≢◌, ◌↔◌, ◌<◌, ◌^◌, ◌+◌, ◌/◌, ◌%◌, ◌⊎◌, IsTrue, MatchBool, length};
-ghost use Rattle.ssh_aes.specs.Gcm.{nonce_stream, gcm_counter_text, gcm_text, gcm_plain, gcm_tag, cipher_tag};
+ghost use Rattle.ssh_aes.specs.Gcm.{nonce_block, nonce_stream, gcm_counter_text, gcm_text, gcm_plain, gcm_tag, cipher_tag};
 
 use crate::aes::Aes;
 use crate::blocks::add_block;
-use crate::hash::{from_block, hash_after, lengths, product, to_block};
+use crate::hash::{HashKey, from_block, hash_after, lengths, to_block};
+use crate::stream::mask_from;
 use std::marker::Model;
 
 /// AES in Galois counter mode under one key. A contract sees the key.
 #[derive(Clone, Drop)]
 pub struct Gcm {
     aes: Aes,
-    subkey: u128,
+    subkey: HashKey,
 }
 
 impl Model for Gcm {
@@ -35,7 +36,7 @@ impl Gcm {
         let aes = Aes::new(key);
         let mut zeros = [0; 16];
         aes.encrypt_block(&mut zeros);
-        let subkey = from_block(zeros);
+        let subkey = HashKey::new(from_block(zeros));
         Gcm { aes, subkey }
     }
 
@@ -71,38 +72,17 @@ impl Gcm {
     fn stream(&self, nonce: &[u8; 12], number: u32) -> [u8; 16]
         ensures { result ≡ nonce_stream self.now nonce.now number }
     {
-        let n = number.to_be_bytes();
-        let mut counter = [
-            nonce[0], nonce[1], nonce[2], nonce[3], nonce[4], nonce[5], nonce[6], nonce[7],
-            nonce[8], nonce[9], nonce[10], nonce[11], n[0], n[1], n[2], n[3],
-        ];
+        let mut counter = counter_block(nonce, number);
         self.aes.encrypt_block(&mut counter);
         counter
     }
 
-    /// The stream's block at a byte of the text, with the one of the byte before at hand.
-    fn stream_from(&self, nonce: &[u8; 12], at: usize, before: [u8; 16]) -> [u8; 16]
-        requires at { at < 2 ^ 32 }
-        requires before { at % 16 ≢ 0 → before ≡ nonce_stream self.now nonce.now (at / 16 + 2) }
-        ensures { result ≡ nonce_stream self.now nonce.now (at / 16 + 2) }
-    {
-        if at % 16 == 0 {
-            self.stream(nonce, (at / 16) as u32 + 2)
-        } else {
-            before
-        }
-    }
-
-    /// Combines a text with the key stream.
+    /// Combines a text with the key stream, of which counter blocks 0 and 1 stay unused.
     fn mask(&self, nonce: &[u8; 12], bytes: &mut [u8])
         requires { length bytes.old < 2 ^ 32 }
         ensures { bytes.new ≡ gcm_counter_text self.now nonce.now bytes.old }
     {
-        let mut block = [0; 16];
-        for i in 0..bytes.len() {
-            block = self.stream_from(nonce, i, block);
-            bytes[i] ^= block[i % 16];
-        }
+        mask_from(&self.aes, &counter_block(nonce, 0), 32, bytes);
     }
 
     /// The tag of a cipher text.
@@ -111,10 +91,21 @@ impl Gcm {
         requires bytes { length bytes.now < 2 ^ 32 }
         ensures { result ≡ cipher_tag self.now nonce.now aad.now bytes.now }
     {
-        let front = hash_after(self.subkey, hash_after(self.subkey, 0, aad), bytes);
+        let front = hash_after(&self.subkey, hash_after(&self.subkey, 0, aad), bytes);
         let last = from_block(lengths(aad.len(), bytes.len()));
-        let mut tag = to_block(product(front ^ last, self.subkey));
+        let mut tag = to_block(self.subkey.product(front ^ last));
         add_block(&mut tag, &self.stream(nonce, 1));
         tag
     }
+}
+
+/// The counter block of a number: the nonce and 32 bits.
+fn counter_block(nonce: &[u8; 12], number: u32) -> [u8; 16]
+    ensures { result ≡ nonce_block nonce.now number }
+{
+    let n = number.to_be_bytes();
+    [
+        nonce[0], nonce[1], nonce[2], nonce[3], nonce[4], nonce[5], nonce[6], nonce[7], nonce[8],
+        nonce[9], nonce[10], nonce[11], n[0], n[1], n[2], n[3],
+    ]
 }

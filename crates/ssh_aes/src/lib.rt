@@ -5,12 +5,15 @@
 mod aes;
 mod blocks;
 mod cbc;
+mod columns;
 mod ctr;
 mod gcm;
 mod hash;
 mod laws;
+mod round_tables;
 mod runs;
 mod steps;
+mod stream;
 mod tables;
 
 pub use crate::aes::Aes;

@@ -1,5 +1,5 @@
 -- The key of a block, in an array that is longer, and HMAC over it.
-use Rattle.std.proofs.Common.{◌≡◌, ℕ, ◌+◌, ◌-◌, ◌≤◌, ◌<◌, List, [], ◌++◌, length, take, drop, ap, subst, sym, ◌∙◌, refl, arith, append_assoc, bit_xor, set, get_or}
+use Rattle.std.proofs.Common.{◌≡◌, ℕ, ◌+◌, ◌-◌, ◌≤◌, ◌<◌, List, ◌++◌, length, take, drop, ap, subst, sym, ◌∙◌, refl, arith, append_assoc, bit_xor, set, get_or}
 use Rattle.std.proofs.lemmas.List.{take-map}
 use Rattle.ssh_mac.specs.declared.digest.DigestKind.{DigestKind}
 use Rattle.ssh_mac.specs.declared.digest.DigestKind.TheVariants.{Sha1, Sha256, Sha384, Sha512}
@@ -7,7 +7,7 @@ use Rattle.ssh_mac.specs.Digests.{digest_of, block_length}
 use Rattle.ssh_mac.specs.Hmac.{block_key, short_key, bytes_xor, hmac}
 use Rattle.ssh_mac.specs.Zeros.{zeros}
 use Rattle.ssh_mac.proofs.Filling.{zeros-dropped}
-use Rattle.std.proofs.lemmas.List.{take-replicate, append-nil, get_or_default}
+use Rattle.std.proofs.lemmas.List.{take-replicate, get_or_default}
 use Rattle.std.proofs.lemmas.List.Edits.{map_over_more}
 use Rattle.std.proofs.lemmas.Bool.{lt-ltb, le-ltb}
 use Rattle.std.proofs.Math.Seq.{take-append-add}
@@ -70,14 +70,18 @@ pub combined-taken : (byte n : ℕ) (bytes : List ℕ) → take n (bytes_xor byt
 unfolding bytes_xor
 combined-taken byte n bytes = take-map (λ b. bit_xor b byte) n bytes
 
+-- the key's block, combined with a byte
+pub combined_front : (kind : DigestKind) (key block : List ℕ) (byte : ℕ) (combined : List ℕ) (n : ℕ) →
+    take (block_length kind) block ≡ block_key kind key → n ≡ block_length kind → combined ≡ bytes_xor byte block → take n combined ≡ bytes_xor byte (block_key kind key)
+combined_front kind key block byte combined n is len combined_is =
+    ap (λ (m : ℕ). take m combined) len ∙ ap (take (block_length kind)) combined_is ∙ combined-taken byte (block_length kind) block ∙ ap (bytes_xor byte) is
+
 -- the two digests are HMAC
-pub two_digests : (kind : DigestKind) (key block inner_block outer_block front rest inner bytes result : List ℕ) (n : ℕ) →
-    take (block_length kind) block ≡ block_key kind key → n ≡ block_length kind →
-    inner_block ≡ bytes_xor 0x36 block → outer_block ≡ bytes_xor 0x5c block →
-    inner ≡ digest_of kind ((take n inner_block ++ front) ++ rest) → bytes ≡ inner →
-    result ≡ digest_of kind ((take n outer_block ++ bytes) ++ []) →
+pub two_digests : (kind : DigestKind) (key front rest inner bytes result : List ℕ) →
+    inner ≡ digest_of kind ((bytes_xor 0x36 (block_key kind key) ++ front) ++ rest) → bytes ≡ inner →
+    result ≡ digest_of kind (bytes_xor 0x5c (block_key kind key) ++ bytes) →
     result ≡ hmac kind key (front ++ rest)
 unfolding hmac
-two_digests kind key block inner_block outer_block front rest inner bytes result n is len in_is out_is inside same outside =
-    let inner_is = simp (len, in_is, combined-taken, is, append_assoc) at inside in
-    simp (len, out_is, combined-taken, is, append-nil, same, inner_is) at outside
+two_digests kind key front rest inner bytes result inside same outside =
+    let block = bytes_xor 0x36 (block_key kind key) in
+    outside ∙ ap (λ x. digest_of kind (bytes_xor 0x5c (block_key kind key) ++ x)) (same ∙ inside ∙ ap (digest_of kind) (append_assoc block front rest))

@@ -7,6 +7,7 @@ use Rattle.ssh_mac.specs.declared.digest.DigestKind.TheVariants as K
 use Rattle.ssh_mac.specs.declared.digest.State.{State}
 use Rattle.ssh_mac.specs.declared.digest.State.TheVariants.{Sha1, Sha256, Sha384, Sha512}
 use Rattle.ssh_mac.specs.declared.digest.Hasher.{Hasher}
+use Rattle.ssh_mac.specs.Hmac.{block_key, bytes_xor}
 
 -- the hash function of a state
 abbrev pub kind_of : State → DigestKind
@@ -25,3 +26,8 @@ HasTaken (Sha512 hasher) text = Holds512 hasher text
 -- the hasher hashes by this function, and this is the text so far
 unfoldable pub IsHashing : Hasher → DigestKind → List ℕ → Type 0
 IsHashing hasher kind text = (kind_of hasher.state ≡ kind) × HasTaken hasher.state text
+
+-- two hashers have taken in the blocks of a key of HMAC, the inner one and the outer one
+pub record AreKeyed (inner outer : Hasher) (kind : DigestKind) (key : List ℕ) : Type 0 where
+  pub inner_is : IsHashing inner kind (bytes_xor 0x36 (block_key kind key))
+  pub outer_is : IsHashing outer kind (bytes_xor 0x5c (block_key kind key))

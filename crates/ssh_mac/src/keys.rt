@@ -6,7 +6,7 @@ ghost use Rattle.ssh_mac.specs.Tags.{tag_of};
 
 use crate::digest::DigestKind;
 use crate::hash_value::HashValue;
-use crate::hmac::hmac_of;
+use crate::hmac::KeyStates;
 use crate::mac::Mac;
 use std::marker::Model;
 
@@ -31,18 +31,22 @@ fn is_same(tag: &[u8], given: &[u8]) -> bool
 #[derive(Drop)]
 pub struct CryptoMac {
     kind: DigestKind,
-    // The key, with bytes behind it that are never read.
+    // The key, with bytes behind it that are never read. The tags are made of the states.
     key: [u8; LONGEST_KEY],
+    states: KeyStates,
 }
 
 impl Model for CryptoMac {
     ghost use Rattle.std.specs.Prelude.{take};
     ghost use Rattle.ssh_mac.specs.Digests.{digest_length};
+    ghost use Rattle.ssh_mac.specs.Hashing.{AreKeyed};
     ghost use Rattle.ssh_mac.specs.Tags.{Keyed};
 
     ghost Value = { Keyed };
 
     ghost view = { λ m. record { digest = m.kind; key = take (digest_length m.kind) m.key } };
+
+    ghost invariant = { λ m. AreKeyed m.states.inner m.states.outer m.kind (take (digest_length m.kind) m.key) };
 }
 
 impl CryptoMac {
@@ -55,7 +59,12 @@ impl CryptoMac {
     {
         let mut whole = [0; LONGEST_KEY];
         whole[..key.len()].copy_from_slice(key);
-        CryptoMac { kind, key: whole }
+        let states = KeyStates::new(kind, key);
+        CryptoMac {
+            kind,
+            key: whole,
+            states,
+        }
     }
 
     // The tag of the packet number and the text.
@@ -63,13 +72,7 @@ impl CryptoMac {
         ensures value { result ≡ tag_of (Plain self.now.digest self.now.key) sequence_number payload.now }
         ensures size { length result ≡ digest_length self.now.digest }
     {
-        let key_len = self.kind.digest_len();
-        hmac_of(
-            self.kind,
-            &self.key[..key_len],
-            &sequence_number.to_be_bytes(),
-            payload,
-        )
+        self.states.tag(&sequence_number.to_be_bytes(), payload)
     }
 }
 

@@ -9,8 +9,8 @@ pub loop-k-preserved : goal.loop-k-preserved
 loop-k-preserved c =
     let b = c.args.bytes.now in
     let e = c.from_block.ensures ∙ ap element c.zero_filled_block.ensures ∙ cut-element b (16 * c.loop-k.k) in
-    let v = c.product-hash.ensures ∙ ap (λ x. block_product (bit_xor c.loop-k.hash x) c.args.subkey) e in
-    hash_of_blocks-more c.args.subkey c.loop-k.hash c.product-hash.result _ b c.loop-k.k ((length b + 15) / 16) c.loop-k-test.true v c.loop-k.invariant
+    let v = c.product-hash.ensures ∙ ap (λ x. block_product (bit_xor c.loop-k.hash x) c.args.key.now) e in
+    hash_of_blocks-more c.args.key.now c.loop-k.hash c.product-hash.result _ b c.loop-k.k ((length b + 15) / 16) c.loop-k-test.true v c.loop-k.invariant
 
 pub returns : goal.returns
-returns c = hash_of_blocks-done c.args.subkey c.loop-k.hash _ c.args.bytes.now c.loop-k.k ((length c.args.bytes.now + 15) / 16) c.loop-k-test.false c.loop-k.invariant
+returns c = hash_of_blocks-done c.args.key.now c.loop-k.hash _ c.args.bytes.now c.loop-k.k ((length c.args.bytes.now + 15) / 16) c.loop-k-test.false c.loop-k.invariant

@@ -1,7 +1,7 @@
-use Rattle.std.proofs.Common.{refl}
-use Rattle.ssh_aes.specs.Gcm.{element_block}
+use Rattle.std.proofs.Common.{arith, ap, ◌∙◌, slice_index}
+use Rattle.ssh_aes.specs.Aes.{bytes_by}
+use Rattle.ssh_aes.proofs.Numbers.{reversed_byte, element-written}
 use Rattle.ssh_aes.proofs.hash.to_block.Goals as goal
 
 pub returns : goal.returns
-unfolding element_block
-returns c = rw (c.to_be_bytes.ensures, c.reverse_bits.ensures) refl
+returns c = element-written c.args.polynomial _ (omega arith) (c.reversed.ensures ∙ ap (λ s. bytes_by 16 (λ i. reversed_byte (slice_index s i))) c.to_le_bytes.ensures)

@@ -1,6 +1,5 @@
 -- The bytes that were copied, and the zeros that stood behind them.
 use Rattle.std.proofs.Common.{◌<◌, ◌≤◌, length, ◌∙◌, ap, arith}
-use Rattle.std.proofs.lemmas.List.{append-nil}
 use Rattle.ssh_mac.specs.Digests.{block_length}
 use Rattle.ssh_mac.specs.Zeros.{zeros}
 use Rattle.ssh_mac.proofs.BlockKey.{long_key, other_key}
@@ -10,8 +9,7 @@ pub returns-then-key-block_len : goal.returns-then-key-block_len
 unfolding zeros
 returns-then-key-block_len c =
     let long : block_length c.args.kind < length c.args.key.now = omega arith in
-    let hash = simp append-nil at c.digest_of_parts-hash.ensures in
-    long_key c.args.kind c.args.key.now c.as_bytes-bytes.result.now _ long (c.as_bytes-bytes.ensures.value ∙ hash) c.copy_from_slice.ensures.after
+    long_key c.args.kind c.args.key.now c.as_bytes-bytes.result.now _ long (c.as_bytes-bytes.ensures.value ∙ c.digest_of_key-hash.ensures) c.copy_from_slice.ensures.after
     (omega (arith, ap length c.as_bytes-bytes.ensures.value, c.as_bytes-bytes.ensures.short))
 
 pub returns-else-key-block_len : goal.returns-else-key-block_len

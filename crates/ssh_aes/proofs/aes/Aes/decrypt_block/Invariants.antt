@@ -5,4 +5,4 @@ use Rattle.ssh_aes.proofs.aes.Aes.decrypt_block.Given as goal
 abbrev pub invariant-loop-done : goal.invariant-loop-done
 invariant-loop-done l =
     let w = take (16 * (l.self-inside.words + 7)) l.self-inside.keys in
-    inverse_rounds w (l.self-inside.words + 5 - l.done) l.block ≡ inverse_cipher w (l.self-inside.words + 5) l.fn.block
+    inverse_rounds w (l.self-inside.words + 5 - l.done) l.columns ≡ inverse_cipher w (l.self-inside.words + 5) l.fn.block

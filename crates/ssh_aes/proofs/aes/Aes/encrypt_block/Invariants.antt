@@ -3,4 +3,4 @@ use Rattle.ssh_aes.specs.Aes.{rounds}
 use Rattle.ssh_aes.proofs.aes.Aes.encrypt_block.Given as goal
 
 abbrev pub invariant-loop-round : goal.invariant-loop-round
-invariant-loop-round l = l.block ≡ rounds (take (16 * (l.self-inside.words + 7)) l.self-inside.keys) (l.round - 1) l.fn.block
+invariant-loop-round l = l.columns ≡ rounds (take (16 * (l.self-inside.words + 7)) l.self-inside.keys) (l.round - 1) l.fn.block

@@ -36,7 +36,7 @@ pub invariant_of-result : goal.invariant_of-result
 invariant_of-result c =
     let e : c.loop-i.i ≡ 4 * (length c.args.key.now / 4 + 7) = omega arith in
     let p = expanded-made (length c.args.key.now) c.args.key.now c.loop-i.keys c.requires refl (λ k. omega (arith, c.type_inv.key k)) (rw e at c.loop-i.invariant.made) in
-    record { length_is = key_length _ c.requires; keys_are = rw p.0 p.1 }
+    record { expanded = record { length_is = key_length _ c.requires; keys_are = rw p.0 p.1 }; unmixed = c.inverse_keys_of.ensures }
 
 pub returns : goal.returns
 returns c =

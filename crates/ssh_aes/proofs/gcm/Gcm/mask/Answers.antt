@@ -1,10 +1,12 @@
-use Rattle.std.proofs.Common.{◌≡◌, length, arith, refl}
+use Rattle.std.proofs.Common.{ap, ◌∙◌}
 use Rattle.ssh_aes.specs.Gcm.{gcm_counter_text}
-use Rattle.ssh_aes.proofs.Written.{IsWritten-all}
+use Rattle.ssh_aes.specs.Modes.{counter_text}
+use Rattle.ssh_aes.proofs.Streams.{gcm_counted-is}
 use Rattle.ssh_aes.proofs.gcm.Gcm.mask.Goals as goal
 
 pub returns : goal.returns
-unfolding gcm_counter_text
 returns c =
-    let e : c.loop-i.i ≡ length c.args.bytes.now = omega arith in
-    IsWritten-all _ _ _ (length c.args.bytes.now) refl (rw e at c.loop-i.invariant.written)
+    c.mask_from.ensures
+    ∙ ap (λ iv. counter_text c.self.inside.aes iv 32 c.args.bytes.now) c.counter_block.ensures
+    ∙ gcm_counted-is c.self.inside.aes c.args.nonce.now c.args.bytes.now c.fits-nonce c.requires
+    ∙ ap (λ key. gcm_counter_text key c.args.nonce.now c.args.bytes.now) c.self.view_is

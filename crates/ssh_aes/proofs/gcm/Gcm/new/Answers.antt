@@ -4,4 +4,4 @@ use Rattle.ssh_aes.proofs.gcm.Gcm.new.Goals as goal
 
 pub invariant_of-result : goal.invariant_of-result
 unfolding hash_key
-invariant_of-result c = c.from_block-subkey.ensures ∙ ap element c.encrypt_block.ensures
+invariant_of-result c = c.new-subkey.ensures ∙ c.from_block.ensures ∙ ap element c.encrypt_block.ensures

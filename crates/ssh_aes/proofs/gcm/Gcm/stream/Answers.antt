@@ -1,9 +1,8 @@
-use Rattle.std.proofs.Common.{◌≡◌, ◌%◌, ◌^◌, arith, refl}
+use Rattle.std.proofs.Common.{ap, ◌∙◌}
+use Rattle.ssh_aes.specs.Aes.{aes}
 use Rattle.ssh_aes.specs.Gcm.{nonce_stream}
 use Rattle.ssh_aes.proofs.gcm.Gcm.stream.Goals as goal
 
 pub returns : goal.returns
 unfolding nonce_stream
-returns c =
-    let e : c.args.number ≡ c.args.number % 2 ^ 32 = omega arith in
-    rw (c.encrypt_block.ensures, c.to_be_bytes-n.ensures, ← c.self.view_is) (rw (← e) refl)
+returns c = c.encrypt_block.ensures ∙ ap (aes c.self.inside.aes) c.counter_block-counter.ensures ∙ ap (λ key. nonce_stream key c.args.nonce.now c.args.number) c.self.view_is

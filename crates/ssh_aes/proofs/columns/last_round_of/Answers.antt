@@ -1,0 +1,15 @@
+use Rattle.std.proofs.Common.{ap, ◌∙◌}
+use Rattle.ssh_aes.specs.Aes.{add_round_key, shift_rows, sub_bytes}
+use Rattle.ssh_aes.proofs.Words.{word-sum-of, four-words}
+use Rattle.ssh_aes.proofs.columns.last_round_of.Goals as goal
+
+pub returns : goal.returns
+unfolding add_round_key shift_rows sub_bytes
+returns c =
+    c.block_of.ensures
+    ∙ four-words _ _ _ _ _ _ _ _
+    (word-sum-of _ _ _ _ c.substituted.ensures c.key_word.ensures)
+    (word-sum-of _ _ _ _ c.substituted-2.ensures c.key_word-2.ensures)
+    (word-sum-of _ _ _ _ c.substituted-3.ensures c.key_word-3.ensures)
+    (word-sum-of _ _ _ _ c.substituted-4.ensures c.key_word-4.ensures)
+    ∙ ap (λ x. add_round_key c.args.keys.now c.args.round (shift_rows (sub_bytes x))) c.s.view_is

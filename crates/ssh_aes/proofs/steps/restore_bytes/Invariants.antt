@@ -1,7 +1,0 @@
-use Rattle.std.proofs.Common.{slice_index}
-use Rattle.ssh_aes.specs.Aes.{inverse_substitute}
-use Rattle.ssh_aes.proofs.Written.{IsWritten}
-use Rattle.ssh_aes.proofs.steps.restore_bytes.Given as goal
-
-abbrev pub invariant-loop-i : goal.invariant-loop-i
-invariant-loop-i l = IsWritten (λ k. inverse_substitute (slice_index l.initial.block k)) l.block l.initial.block l.i

@@ -1,0 +1,5 @@
+use Rattle.ssh_aes.proofs.Streams.{two_parts}
+use Rattle.ssh_aes.proofs.stream.mask_from.Goals as goal
+
+pub returns : goal.returns
+returns c = two_parts c.args.aes.now c.args.iv.now c.args.place c.before_block-before.result _ _ c.args.bytes.now _ _ c.split_at_mut-front.ensures.value c.split_at_mut-front.ensures.front_len c.mask_part.ensures c.mask_from_block.ensures
