@@ -1,6 +1,19 @@
-//! A source and a sink in memory, of which chosen calls fail, for tests.
+//! What tests are made of: a source and a sink in memory, of which chosen calls fail, and parts to hand in. Nothing of
+//! the parts is secure.
 #![tactic(auto)]
 
+mod agreement;
+mod counts;
+mod groups;
+mod hashing;
+mod hosts;
+mod laws;
 mod memory;
+mod refusing;
 
+pub use crate::agreement::TestAgreement;
+pub use crate::groups::TestGroups;
+pub use crate::hosts::{TestHosts, TrustedHost};
+pub use crate::laws::hosts_trusted;
 pub use crate::memory::{MemorySink, MemorySource};
+pub use crate::refusing::Refusing;

@@ -29,6 +29,15 @@ impl Blob {
         Blob { bytes: items }
     }
 
+    /// A blob of the same bytes. Memory.
+    pub fn copy_of(alloc: Global, bytes: &[u8]) -> Result<Blob, AllocError>
+        ensures { IfOk result (λ b. b ≡ bytes.now) }
+    {
+        let mut items = Vec::new(alloc);
+        items.extend_from_slice(bytes)?;
+        Ok(Blob::new(items))
+    }
+
     /// The bytes.
     pub fn as_slice(&self) -> &[u8]
         ensures { result.now ≡ self.now }

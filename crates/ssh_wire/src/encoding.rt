@@ -1,7 +1,7 @@
 //! Writing the forms of RFC 4251 section 5.
 
 ghost use Rattle.std.specs.Prelude.{◌≡◌, ◌∷◌, [], ◌++◌, ◌<◌, ◌≤◌, ◌-◌, ◌^◌, ◌+◌, length, vec_len, vec_capacity, OnOk, OnErr, IfErr, IsOk};
-ghost use Rattle.ssh_wire.specs.Forms.{u32be, string, mpint, unsigned};
+ghost use Rattle.ssh_wire.specs.Forms.{u32be, string, mpint, unsigned, magnitude};
 ghost use Rattle.ssh_wire.specs.declared.error.Error.TheVariants.{Memory};
 
 use crate::error::Error;
@@ -56,14 +56,25 @@ pub fn encode_mpint(s: &[u8], out: &mut Vec<u8>) -> Result<(), Error>
     ensures ready { vec_len out.old + length (mpint s.now) ≤ vec_capacity out.old → IsOk result }
     ensures capacity { vec_capacity out.old ≤ vec_capacity out.new }
 {
-    let digits = without_leading_zeros(s);
-    let sign = sign_of(digits);
+    let (sign, digits) = mpint_parts(s);
     let size = sign.len() + digits.len();
     out.reserve(4 + size)?;
     out.extend_from_slice(&(size as u32).to_be_bytes())?;
     out.extend_from_slice(sign)?;
     out.extend_from_slice(digits)?;
     Ok(())
+}
+
+/// What stands in an `mpint` behind its length, in two pieces: the zero byte that keeps the first bit clear, where it is
+/// needed, and the number's bytes without leading zeros.
+pub fn mpint_parts(bytes: &[u8]) -> (&'static [u8], &[u8])
+    ensures body { result.0.now ++ result.1.now ≡ unsigned (magnitude bytes.now) }
+    ensures digits { result.1.now ≡ magnitude bytes.now }
+    ensures short { length result.0.now ≤ 1 }
+    ensures within { length result.1.now ≤ length bytes.now }
+{
+    let digits = without_leading_zeros(bytes);
+    (sign_of(digits), digits)
 }
 
 /// The zero byte that keeps the first bit clear, where it is needed.

@@ -33,7 +33,7 @@ pub use crate::algorithm::{Algorithm, EcdsaCurve, HashAlg};
 pub use crate::bytes::{Blob, Payload, PayloadList, Text};
 pub use crate::channel_id::ChannelId;
 pub use crate::disconnect::Disconnect;
-pub use crate::encoding::{encode_mpint, put_string, put_u8, put_u32};
+pub use crate::encoding::{encode_mpint, mpint_parts, put_string, put_u8, put_u32};
 pub use crate::error::{AlgorithmKind, ConfigFault, EncodingFault, Error, IdError};
 pub use crate::laws::{
     equal_mpints, fed_more, fed_twice, id_stays, joined_read, joined_utf8, less_than_a_line,

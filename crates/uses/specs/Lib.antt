@@ -1,1 +1,3 @@
 pub mod InStep
+pub mod OneGroup
+pub mod OneGroupLaws

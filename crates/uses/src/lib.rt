@@ -1,8 +1,14 @@
 //! Callers of the library whose contracts rest on its public clauses alone: examples of what a caller can prove.
 #![tactic(auto)]
 
+mod agreeing;
+mod ciphers;
+mod own_part;
 mod running;
 mod sealing;
 
+pub use crate::agreeing::{Secrets, agree, agree_in_group};
+pub use crate::ciphers::ciphers_of_both;
+pub use crate::own_part::OneGroup;
 pub use crate::running::{own_tag_accepted, there_and_back};
 pub use crate::sealing::{carry, carry_three};

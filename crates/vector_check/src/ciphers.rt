@@ -4,10 +4,10 @@
 ghost use Rattle.std.specs.Prelude.{◌≡◌, ◌⊎◌, IsTrue, length};
 ghost use Rattle.ssh_aes.specs.Keys.{IsKeyLength};
 
-use crate::row::{Fault, Row, say, say_bytes, say_number, say_shown};
 use ssh_aes::{Aes, CbcWrapper, CtrWrapper, Gcm, PacketLengthProbe};
 use ssh_mac::mac::{self, Mac};
 use ssh_mac::{DigestKind, HashValue, Hasher, hmac_of};
+use vector_rows::{Fault, Row, say, say_bytes, say_number, say_shown};
 
 /// Answers a row of one of these kinds. False where the kind is another.
 pub(crate) fn answer(kind: &str, row: &mut Row<'_>, found: &mut String) -> Result<bool, Fault> {
@@ -26,17 +26,6 @@ pub(crate) fn answer(kind: &str, row: &mut Row<'_>, found: &mut String) -> Resul
     Ok(true)
 }
 
-/// The next word as bytes of this length.
-pub(crate) fn array<const N: usize>(row: &mut Row<'_>) -> Result<[u8; N], Fault> {
-    let bytes = row.bytes()?;
-    let mut array = [0; N];
-    if bytes.len() != array.len() {
-        return Err(Fault::Malformed);
-    }
-    array.copy_from_slice(bytes.as_slice());
-    Ok(array)
-}
-
 fn is_key(key: &[u8]) -> bool
     ensures { IsTrue result → IsKeyLength (length key.now) }
 {
@@ -52,7 +41,7 @@ fn is_gcm_key(key: &[u8]) -> bool
 /// `aes KEY BLOCK`: the encrypted block, and `back` with what it decrypts to where that is another.
 fn aes(row: &mut Row<'_>, found: &mut String) -> Result<(), Fault> {
     let key = row.bytes()?;
-    let plain = array::<16>(row)?;
+    let plain = row.array::<16>()?;
     if !is_key(key.as_slice()) {
         return Err(Fault::Malformed);
     }
@@ -81,7 +70,7 @@ pub(crate) fn say_other(
 /// `ctr KEY COUNTER CUT TEXT`: see `run`.
 fn counter_mode(row: &mut Row<'_>, found: &mut String) -> Result<(), Fault> {
     let key = row.bytes()?;
-    let first = array::<16>(row)?;
+    let first = row.array::<16>()?;
     if !is_key(key.as_slice()) {
         return Err(Fault::Malformed);
     }
@@ -93,7 +82,7 @@ fn counter_mode(row: &mut Row<'_>, found: &mut String) -> Result<(), Fault> {
 /// `cbc KEY BLOCK CUT TEXT`: see `run`.
 fn chaining_mode(row: &mut Row<'_>, found: &mut String) -> Result<(), Fault> {
     let key = row.bytes()?;
-    let first = array::<16>(row)?;
+    let first = row.array::<16>()?;
     if !is_key(key.as_slice()) {
         return Err(Fault::Malformed);
     }
@@ -133,7 +122,7 @@ fn run<C: PacketLengthProbe>(
 /// decrypts to where that is another.
 fn galois_counter_mode(row: &mut Row<'_>, found: &mut String) -> Result<(), Fault> {
     let key = row.bytes()?;
-    let nonce = array::<12>(row)?;
+    let nonce = row.array::<12>()?;
     let aad = row.bytes()?;
     let text = row.bytes()?;
     if !is_gcm_key(key.as_slice()) || aad.len() >= 1 << 24 || text.len() >= 1 << 24 {

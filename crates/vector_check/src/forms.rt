@@ -1,11 +1,11 @@
 //! Rows of the forms of RFC 4251 section 5.
 
 use crate::ciphers::say_other;
-use crate::row::{Fault, Row, say, say_bytes, say_number, say_shown};
 use ssh_wire::{
     ChannelId, Error, LimitedString, NameList, Reader, SshId, Text, encode_mpint, put_string,
     put_u8, put_u32,
 };
+use vector_rows::{Fault, Row, say, say_bytes, say_number, say_shown};
 
 /// Answers a row of one of these kinds. False where the kind is another.
 pub(crate) fn answer(kind: &str, row: &mut Row<'_>, found: &mut String) -> Result<bool, Fault> {

@@ -2,8 +2,8 @@
 
 ghost use Rattle.std.specs.Prelude.{List, ℕ, Option, Some};
 
-use crate::row::{Fault, Row, say, say_bytes, say_number, say_shown};
 use ssh_wire::{Error, Failed, IdProgress, ReadSshIdBuffer, Source, SshRead};
+use vector_rows::{Fault, Row, say, say_bytes, say_number, say_shown};
 
 /// Bytes that are handed out a few at a time. The first call fails where it is to.
 #[derive(Debug, Drop)]

@@ -1,10 +1,7 @@
 //! Rows of negotiation (RFC 4253 section 7.1): names of key exchanges, what a side offers, its KEXINIT, one choice of
 //! two lists, and what a side reads in the other's KEXINIT.
 
-use crate::ciphers::array;
-use crate::keys::{Words, words_of};
 use crate::preferences::{Named, certificates, extension, kexinit, keys, names, preferred, texts};
-use crate::row::{Fault, Row, say, say_bytes, say_number, say_shown};
 use bytes::Bytes;
 use ssh_mac::{HashValue, mac};
 use ssh_negotiate::{
@@ -15,6 +12,7 @@ use ssh_negotiate::{
 use ssh_packet::{PacketWriter, cipher, compression};
 use ssh_wire::{Algorithm, AlgorithmKind, Blob, Error, NameList, Reader, Side, Text};
 use std::alloc::Global;
+use vector_rows::{Fault, Row, Words, say, say_bytes, say_number, say_shown, words_of};
 
 /// Answers a row of one of these kinds. False where the kind is another.
 pub(crate) fn answer(kind: &str, row: &mut Row<'_>, found: &mut String) -> Result<bool, Fault> {
@@ -269,7 +267,7 @@ impl Offering {
 /// `kexinit COOKIE SIDE..`, the side as in `Offering::of`: the KEXINIT's length and payload as they are answered, and
 /// the length and the bytes of the packet that is sent in clear.
 fn kexinit_written(row: &mut Row<'_>, found: &mut String) -> Result<(), Fault> {
-    let cookie = array::<16>(row)?;
+    let cookie = row.array::<16>()?;
     let offering = Offering::of(row)?;
     let mut writer = PacketWriter::clear(row.alloc());
     let payload = offering.write(row.alloc(), &mut writer, &cookie)?;

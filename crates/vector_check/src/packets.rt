@@ -1,41 +1,19 @@
 //! Rows of packets (RFC 4253 section 6), their keys, and the names of these.
 
-ghost use Rattle.std.specs.Prelude.{Some};
-
-use crate::ciphers::{array, say_other};
-use crate::keys::{Material, Words, words_of};
-use crate::row::{Fault, Row, say, say_bytes, say_number, say_shown};
+use crate::ciphers::say_other;
+use crate::keys::Material;
 use ssh_mac::mac;
 use ssh_packet::compression::{self, Compress};
 use ssh_packet::{
     OpenKey, OpeningKey, PacketBytesWriter, PacketReader, PacketWriter, SSHBuffer, SealingKey,
     cipher, clear,
 };
-use ssh_vectors::MemorySink;
-use ssh_wire::{Error, Failed, Sink, SshId, Text};
+use ssh_wire::{Error, SshId, Text};
 use std::alloc::Global;
-use uses::carry_three;
+use vector_rows::{Fault, Row, Words, say, say_bytes, say_number, say_shown, words_of};
 
 /// A clear packet of the payload 02.
 const OTHER_PACKET: &[u8] = b"\0\0\0\x0c\x0a\x02\0\0\0\0\0\0\0\0\0\0";
-
-/// A sink that takes at most so many bytes a call.
-#[derive(Drop)]
-struct SlowSink {
-    sink: MemorySink,
-    step: usize,
-}
-
-impl Sink for SlowSink {
-    ghost faults = { λ s. s.sink.faults };
-
-    ghost held = { λ s. Some s.sink.held };
-
-    fn write(&mut self, bytes: &[u8]) -> Result<usize, Failed> {
-        let n = bytes.len().min(self.step.max(1));
-        self.sink.write(&bytes[..n])
-    }
-}
 
 /// Answers a row of one of these kinds. False where the kind is another.
 pub(crate) fn answer(kind: &str, row: &mut Row<'_>, found: &mut String) -> Result<bool, Fault> {
@@ -52,9 +30,7 @@ pub(crate) fn answer(kind: &str, row: &mut Row<'_>, found: &mut String) -> Resul
         "count" => count(row, found)?,
         "given_up" => given_up(row, found)?,
         "room" => room(row, found)?,
-        "flush" => flush(row, found)?,
         "sent_id" => sent_id(row, found)?,
-        "carry" => carry(row, found)?,
         _ => return Ok(false),
     }
     Ok(true)
@@ -456,29 +432,6 @@ fn room(row: &mut Row<'_>, found: &mut String) -> Result<(), Fault> {
     say_number(found, writer.output().len() as u64)
 }
 
-/// `flush STEP FAIL ROOM PAYLOAD..`: what a clear writer of these payloads answers when it is flushed into a sink that
-/// takes so many bytes a call, whose call of this number fails, with room for so many bytes; its answer to a second
-/// flush; what the sink holds, how often it failed, and what the writer still has.
-fn flush(row: &mut Row<'_>, found: &mut String) -> Result<(), Fault> {
-    let step = row.count()?;
-    let mut fails = Vec::new(row.alloc());
-    fails.push(row.number()?)?;
-    let mut sink = SlowSink {
-        sink: MemorySink::new(row.alloc(), fails, row.count()?)?,
-        step,
-    };
-    let mut writer = PacketWriter::clear(row.alloc());
-    for _ in 0..row.left() {
-        let payload = row.bytes()?;
-        writer.packet_raw(&mut Words::of(&[]), payload.as_slice())?;
-    }
-    say_shown(found, &writer.flush_into(&mut sink))?;
-    say_shown(found, &writer.flush_into(&mut sink))?;
-    say_bytes(found, sink.sink.held())?;
-    say_number(found, sink.sink.faults())?;
-    say_bytes(found, writer.output())
-}
-
 /// `sent_id TEXT`: what a buffer holds behind a version line of this text, number and count.
 fn sent_id(row: &mut Row<'_>, found: &mut String) -> Result<(), Fault> {
     let text = String::from_str(row.alloc(), row.word()?)?;
@@ -487,28 +440,4 @@ fn sent_id(row: &mut Row<'_>, found: &mut String) -> Result<(), Fault> {
     say_bytes(found, buffer.buffer.as_slice())?;
     say_number(found, u64::from(buffer.seqn))?;
     say_number(found, buffer.bytes as u64)
-}
-
-/// `carry KEY NONCE A B C`: three payloads sealed under `aes256-gcm@openssh.com`, and opened.
-fn carry(row: &mut Row<'_>, found: &mut String) -> Result<(), Fault> {
-    let key = array::<32>(row)?;
-    let nonce = array::<12>(row)?;
-    let (a, b, c) = (row.bytes()?, row.bytes()?, row.bytes()?);
-    if a.is_empty() || b.is_empty() || c.is_empty() {
-        return Err(Fault::Malformed);
-    }
-    let words = words_of(row.alloc(), key.as_slice())?;
-    let mut rng = Words::of(words.as_slice());
-    let carried = carry_three(
-        row.alloc(),
-        &mut rng,
-        &key,
-        &nonce,
-        a.as_slice(),
-        b.as_slice(),
-        c.as_slice(),
-    )?;
-    say_bytes(found, carried.0.as_slice())?;
-    say_bytes(found, carried.1.as_slice())?;
-    say_bytes(found, carried.2.as_slice())
 }

@@ -1,11 +1,11 @@
 //! What a side prefers, its keys and certificates, and the fields of a KEXINIT, as a row gives them.
 
-use crate::row::{Fault, Row};
 use ssh_mac::mac;
 use ssh_negotiate::{AsName, HostCertificate, HostKey, HostName, Preferred, kex};
 use ssh_packet::{cipher, compression};
 use ssh_wire::{Algorithm, Blob, NameList, put_string, put_u8, put_u32};
 use std::alloc::Global;
+use vector_rows::{Fault, Row};
 
 /// A name that a row can give.
 pub(crate) trait Named: AsName + Copy + Drop {

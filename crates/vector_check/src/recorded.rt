@@ -1,12 +1,12 @@
 //! Rows of recorded connections. Each direction is opened whole and byte by byte, and sealed again.
 
 use crate::ciphers::say_other;
-use crate::keys::{Material, Words, words_of};
+use crate::keys::Material;
 use crate::lines::hear;
-use crate::row::{Fault, Row, say, say_bytes, say_number, say_shown};
 use ssh_packet::{OpenKey, PacketReader, PacketWriter, clear};
 use ssh_wire::{IdProgress, ReadSshIdBuffer};
 use std::alloc::Global;
+use vector_rows::{Fault, Row, Words, say, say_bytes, say_number, say_shown, words_of};
 
 /// A direction of a connection.
 #[derive(Drop)]

@@ -2,7 +2,6 @@
 
 use crate::ciphers::say_other;
 use crate::forms::byte;
-use crate::row::{Fault, Row, say, say_bytes, say_number, say_shown};
 use ssh_packet::OpenError;
 use ssh_wire::{
     Algorithm, AlgorithmKind, Blob, ChannelOpenFailure, ChannelOpenHandleInner, ConfigFault,
@@ -10,6 +9,7 @@ use ssh_wire::{
     SendError, Sig, is_kex_msg, validate_client_msg_strict_kex, validate_server_msg_strict_kex,
 };
 use std::alloc::Global;
+use vector_rows::{Fault, Row, say, say_bytes, say_number, say_shown};
 
 /// Answers a row of one of these kinds. False where the kind is another.
 pub(crate) fn answer(kind: &str, row: &mut Row<'_>, found: &mut String) -> Result<bool, Fault> {

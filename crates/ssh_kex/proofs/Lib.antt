@@ -1,0 +1,11 @@
+pub mod Signatures
+pub mod Presenting
+pub mod Taking
+pub mod KeyBytes
+pub mod Stretching
+pub mod Sizes
+pub mod BitSizes
+pub mod Parting
+pub mod Secrets
+pub mod Meeting
+pub mod Lemmas

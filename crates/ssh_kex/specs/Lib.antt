@@ -1,0 +1,11 @@
+pub mod Exchange
+pub mod Hashing
+pub mod Signature
+pub mod Messages
+pub mod Parts
+pub mod Setting
+pub mod Stages
+pub mod Refusals
+pub mod Stepping
+pub mod Agreeing
+pub mod Laws

@@ -1,0 +1,73 @@
+-- What is said of the handed-in parts.
+use Rattle.std.specs.Prelude.{◌≡◌, ℕ, ◌+◌, ◌^◌, ◌<◌, ◌≤◌, Bool, List, length, Some, Result, Ok, Err}
+use Rattle.ssh_negotiate.specs.declared.kex.Name as kexes
+use Rattle.ssh_negotiate.specs.declared.preferred.HostKey.{HostKey}
+use Rattle.ssh_wire.specs.Outside.{Rose}
+use Rattle.ssh_wire.specs.declared.algorithm.Algorithm.{Algorithm}
+use Rattle.ssh_kex.specs.Messages.{presented}
+use Rattle.ssh_kex.specs.declared.config.Config.{Config}
+use Rattle.ssh_kex.specs.declared.exchange.ServerHost.{ServerHost}
+use Rattle.ssh_kex.specs.declared.group.DhGroup.{DhGroup}
+use Rattle.ssh_kex.specs.declared.group.GexParams.{GexParams}
+use Rattle.ssh_kex.specs.declared.parts.Refusal.{Refusal}
+use Rattle.ssh_kex.specs.declared.parts.Refusal.TheVariants.{Refused, Memory}
+
+-- the two sides that the parts are handed to
+pub record Setup : Type 0 where
+  pub client : Config
+  pub server : Config
+
+-- the answer is a refusal
+abbrev pub IsRefused : {T : Type 0} → Result T Refusal → Type 0
+IsRefused (Ok x) = ⊥
+IsRefused (Err Refused) = Unit {0}
+IsRefused (Err Memory) = ⊥
+
+-- refused only where the count of refusals rose; no call counts for more than one
+pub record Counted {T : Type 0} (refusals refusals' calls calls' : ℕ) (result : Result T Refusal) : Type 0 where
+  pub cause : IsRefused result → Rose refusals refusals'
+  pub calls_one : calls' ≤ calls + 1
+
+-- what every answered byte string keeps
+abbrev pub IsValue : List ℕ → Type 0
+IsValue bytes = length bytes < 2 ^ 31
+
+-- and what that of a lawful part keeps
+abbrev pub IsSmall : List ℕ → Type 0
+IsSmall bytes = length bytes ≤ 65536
+
+-- what each call of an agreement keeps: no count falls
+pub record KeepsAgreement {A : Type 0} (lawful obliging : A → Setup → Type 0) (offered : A → kexes.Name
+    → Bool) (refusals calls : A → ℕ) (old new : A) : Type 0 where
+  pub refusals_later : refusals old ≤ refusals new
+  pub calls_later : calls old ≤ calls new
+  pub lawful_kept : (s : Setup) → lawful old s → lawful new s
+  pub obliging_kept : (s : Setup) → obliging old s → obliging new s
+  pub offered_kept : offered new ≡ offered old
+
+-- what each call of host keys keeps
+pub record KeepsHosts {H : Type 0} (lawful obliging : H → Setup → Type 0) (accepts : H → ServerHost → List ℕ → List ℕ
+    → Bool) (trusts : H → ServerHost → Bool) (refused_sign refused_verify refused_check calls : H
+    → ℕ) (old new : H) : Type 0 where
+  pub sign_later : refused_sign old ≤ refused_sign new
+  pub verify_later : refused_verify old ≤ refused_verify new
+  pub check_later : refused_check old ≤ refused_check new
+  pub calls_later : calls old ≤ calls new
+  pub lawful_kept : (s : Setup) → lawful old s → lawful new s
+  pub obliging_kept : (s : Setup) → obliging old s → obliging new s
+  pub accepts_kept : accepts new ≡ accepts old
+  pub trusts_kept : trusts new ≡ trusts old
+
+-- what each call of a lookup keeps
+pub record KeepsGroups {G : Type 0} (lawful obliging : G → Setup → Type 0) (group : G → GexParams
+    → DhGroup) (refusals calls : G → ℕ) (old new : G) : Type 0 where
+  pub refusals_later : refusals old ≤ refusals new
+  pub calls_later : calls old ≤ calls new
+  pub lawful_kept : (s : Setup) → lawful old s → lawful new s
+  pub obliging_kept : (s : Setup) → obliging old s → obliging new s
+  pub group_kept : group new ≡ group old
+
+-- a host that a server presents, whose key signs under this algorithm
+pub record Presents (server : Config) (host : ServerHost) (key : HostKey) (algorithm : Algorithm) : Type 0 where
+  pub shown : presented server.host host.is_certificate host.algorithm ≡ Some (record { signer = key; blob = host.blob })
+  pub same : host.algorithm ≡ algorithm

@@ -1,0 +1,201 @@
+-- What a step of a machine answers, writes and asks.
+use Rattle.std.specs.Prelude.{◌≡◌, ℕ, if◌then◌else◌, Bool, true, false, List, [], ◌∷◌, length, Option, Some, None, Result, Ok, Err, ◌⊎◌}
+use Rattle.rand_core.specs.Stream.{Stream}
+use Rattle.ssh_negotiate.specs.declared.kex.Name as kexes
+use Rattle.ssh_packet.specs.Keys.{sealing_of, opening_of}
+use Rattle.ssh_packet.specs.Sealing.{IsAdmissible, item_of, padding_length}
+use Rattle.ssh_packet.specs.Writing.{Writer, Sends, SameButRoom}
+use Rattle.ssh_packet.specs.declared.reader.Incoming.{Incoming}
+use Rattle.ssh_wire.specs.Outside.{Rose}
+use Rattle.ssh_wire.specs.Sides.{other_side}
+use Rattle.ssh_wire.specs.declared.error.Error.{Error}
+use Rattle.ssh_wire.specs.declared.error.Error.TheVariants as errors
+use Rattle.ssh_wire.specs.declared.side.Side.{Side}
+use Rattle.ssh_wire.specs.declared.side.Side.TheVariants.{Client, Server}
+use Rattle.ssh_kex.specs.Exchange.{sealing_after}
+use Rattle.ssh_kex.specs.Messages.{IsCanonical, is_gex, reply_message}
+use Rattle.ssh_kex.specs.Parts.{IsSmall, Setup}
+use Rattle.ssh_kex.specs.Refusals.{Denies, RefusesMessage}
+use Rattle.ssh_kex.specs.Setting.{Says, Opened}
+use Rattle.ssh_kex.specs.Stages.{Stage, Created, AwaitsGroup, AwaitsReply, AwaitsRequest, AwaitsValue, AwaitsNewkeys, Machine, Takes, Finishes, Skips, drops_guess, guess_dropped, resets}
+use Rattle.ssh_kex.specs.declared.config.Config.{Config}
+use Rattle.ssh_kex.specs.declared.exchange.Exchange.{Exchange}
+use Rattle.ssh_kex.specs.declared.exchange.FinishedExchange.{FinishedExchange}
+use Rattle.ssh_kex.specs.declared.exchange.GexChosen.{GexChosen}
+use Rattle.ssh_kex.specs.declared.exchange.NewKeys.{NewKeys}
+use Rattle.ssh_kex.specs.declared.exchange.ServerHost.{ServerHost}
+use Rattle.ssh_kex.specs.declared.group.DhGroup.{DhGroup}
+use Rattle.ssh_kex.specs.declared.group.GexParams.{GexParams}
+use Rattle.ssh_kex.specs.declared.progress.KexProgress.{KexProgress}
+use Rattle.ssh_kex.specs.declared.progress.KexProgress.TheVariants.{NeedsReply, Done}
+
+-- ---- what the parts say
+
+-- What parts say, from the members of their traits: what is lawful says so under any setup that it is lawful under.
+abbrev pub says_of : {A H G : Type 0} (lawful : A → Setup → Type 0) (offered : A → kexes.Name → Bool)
+    (client_makes : kexes.Name → Option DhGroup → List ℕ → List ℕ → Type 0) (server_makes : kexes.Name
+    → Option DhGroup → List ℕ → Type 0) (agrees : kexes.Name → Option DhGroup → List ℕ → List ℕ → List ℕ → Type 0)
+    (lawful_hosts obliging : H → Setup → Type 0) (accepts : H → ServerHost → List ℕ → List ℕ → Bool) (trusts : H
+    → ServerHost → Bool) (makes : Config → ServerHost → List ℕ → List ℕ → Type 0)
+    (lawful_groups : G → Setup → Type 0) (group : G → GexParams → DhGroup)
+    → Config → A → H → G → Says
+says_of lawful offered client_makes server_makes agrees lawful_hosts obliging accepts trusts makes lawful_groups group
+    config a h g = record {
+      agrees = λ name q c v x. (s : Setup) → lawful a s → agrees name q c v x;
+      client_makes = λ name q l c. (s : Setup) → lawful a s → client_makes name q l c;
+      server_makes = λ name q v. (s : Setup) → lawful a s → server_makes name q v;
+      finds = λ sizes q. (s : Setup) → lawful_groups g s → (q ≡ group g sizes) × IsCanonical q;
+      signs = λ host hash signature. (s : Setup) → s.server ≡ config → obliging h s → makes config host hash signature;
+      accepts = λ host hash signature. accepts h host hash signature ≡ true;
+      trusts = λ host. trusts h host ≡ true;
+      offers = λ name. offered a name ≡ true;
+      value_small = λ v. (s : Setup) → lawful a s → IsSmall v;
+      signature_small = λ v. (s : Setup) → lawful_hosts h s → IsSmall v;
+    }
+
+-- What it means that a part refused between two states.
+abbrev pub denies_of : {A H G : Type 0} (obliging : A → Setup → Type 0) (offered : A → kexes.Name → Bool)
+    (client_makes : kexes.Name → Option DhGroup → List ℕ → List ℕ → Type 0) (server_makes : kexes.Name
+    → Option DhGroup → List ℕ → Type 0) (refusals : A → ℕ)
+    (obliging_hosts : H → Setup → Type 0) (accepts : H → ServerHost → List ℕ → List ℕ
+    → Bool) (refused_sign refused_verify : H → ℕ)
+    (obliging_groups : G → Setup → Type 0) (refused_lookup : G → ℕ)
+    → A → A → H → H → G → G → Denies
+denies_of obliging offered client_makes server_makes refusals obliging_hosts accepts refused_sign refused_verify
+    obliging_groups refused_lookup a a' h h' g g' = record {
+      start = λ name q. Rose (refusals a) (refusals a') × ((s : Setup) → obliging a s → offered a name ≡ true → ⊥);
+      value = λ name q c. Rose (refusals a) (refusals a')
+          × ((s : Setup) (l : List ℕ) → obliging a s → offered a name ≡ true → client_makes name q l c → ⊥);
+      reply = λ name q l v. Rose (refusals a) (refusals a')
+          × ((s : Setup) (c : List ℕ) → obliging a s → offered a name ≡ true → client_makes name q l c
+          → server_makes name q v → ⊥);
+      lookup = λ sizes. Rose (refused_lookup g) (refused_lookup g') × ((s : Setup) → obliging_groups g s → ⊥);
+      sign = Rose (refused_sign h) (refused_sign h') × ((s : Setup) → obliging_hosts h s → ⊥);
+      verify = λ host hash signature. Rose (refused_verify h) (refused_verify h')
+          × ((s : Setup) → obliging_hosts h s → accepts h host hash signature ≡ true → ⊥);
+    }
+
+-- ---- how often they are asked
+
+-- a client's agreement is asked at the KEXINIT, but in a group exchange at the group
+abbrev pub awaits_group : Stage → Bool
+awaits_group (Created own) = false
+awaits_group (AwaitsGroup o) = true
+awaits_group (AwaitsReply o gex local public) = false
+awaits_group (AwaitsRequest o) = false
+awaits_group (AwaitsValue o gex) = false
+awaits_group (AwaitsNewkeys exchange made host) = false
+
+abbrev pub at_kexinit : Side → Option Stage → ℕ
+at_kexinit Client None = 1
+at_kexinit Client (Some next) = if awaits_group next then 0 else 1
+at_kexinit Server next = 0
+
+abbrev pub asks_agreement : Side → Stage → Option Stage → ℕ
+asks_agreement side (Created own) next = at_kexinit side next
+asks_agreement side (AwaitsGroup o) next = 1
+asks_agreement side (AwaitsReply o gex local public) next = 1
+asks_agreement side (AwaitsRequest o) next = 0
+asks_agreement side (AwaitsValue o gex) next = 1
+asks_agreement side (AwaitsNewkeys exchange made host) next = 0
+
+-- a client's host keys are asked for the reply, a server's for its own
+abbrev pub asks_hosts : Stage → ℕ
+asks_hosts (Created own) = 0
+asks_hosts (AwaitsGroup o) = 0
+asks_hosts (AwaitsReply o gex local public) = 1
+asks_hosts (AwaitsRequest o) = 0
+asks_hosts (AwaitsValue o gex) = 1
+asks_hosts (AwaitsNewkeys exchange made host) = 0
+
+abbrev pub asks_groups : Stage → ℕ
+asks_groups (Created own) = 0
+asks_groups (AwaitsGroup o) = 0
+asks_groups (AwaitsReply o gex local public) = 0
+asks_groups (AwaitsRequest o) = 1
+asks_groups (AwaitsValue o gex) = 0
+asks_groups (AwaitsNewkeys exchange made host) = 0
+
+-- the stage that a step leads to
+abbrev pub next_of : Result (KexProgress Machine) Error → Option Stage
+next_of (Ok (NeedsReply kex reset)) = Some kex.stage
+next_of (Ok (Done host newkeys)) = None
+next_of (Err error) = None
+
+-- ---- what is written
+
+-- one packet of the payload went behind the output
+pub record Puts (old : Writer) (payload : List ℕ) (new : Writer) : Type 0 where
+  pub stream : Stream
+  pub sends : Sends old payload stream new
+  pub admissible : IsAdmissible old.sealing (item_of old.sealing payload stream)
+  pub padded : length (item_of old.sealing payload stream).padding ≡ padding_length old.sealing (length payload)
+
+-- these payloads went behind the output, in order
+abbrev pub PutsAll : Writer → List (List ℕ) → Writer → Type 0
+PutsAll old [] new = SameButRoom old new
+PutsAll old (p ∷ payloads) new = (mid : Writer) × Puts old p mid × PutsAll mid payloads new
+
+-- ---- what is answered
+
+-- a machine after a wrong guess, of which nothing is written
+pub record DropsGuess (m : Machine) (old : Writer) (kex : Machine) (reset : Bool) (new : Writer) : Type 0 where
+  pub drops : drops_guess m.stage ≡ true
+  pub kex_is : kex ≡ record m { stage = guess_dropped m.setting.side m.stage }
+  pub reset_is : reset ≡ false
+  pub same : SameButRoom old new
+
+-- a machine after a message that it took
+pub record TakesOne (says : Says) (m : Machine) (i : Incoming) (old : Writer) (kex : Machine) (reset : Bool)
+    (new : Writer) : Type 0 where
+  pub kept : drops_guess m.stage ≡ false
+  pub written : List (List ℕ)
+  pub takes : Takes says m.setting m.stage i.seqn i.payload.now written kex.stage
+  pub setting_is : kex.setting ≡ m.setting
+  pub reset_is : reset ≡ resets m.setting.cause kex.stage
+  pub puts : PutsAll old written new
+
+-- the keys of an exchange, with what seals and opens under them
+pub record IsNewKeys (side : Side) (x : Exchange) (made : FinishedExchange) (k : NewKeys) : Type 0 where
+  pub exchange_is : k.exchange ≡ x
+  pub names_is : k.names ≡ made.names
+  pub hash_is : k.hash ≡ made.hash
+  pub session_is : k.session_id ≡ made.session_id
+  pub keys_is : k.keys ≡ made.keys
+  pub seals : sealing_of k.cipher.local_to_remote ≡ sealing_after side made.names made.keys
+  pub opens : opening_of k.cipher.remote_to_local ≡ sealing_after (other_side side) made.names made.keys
+
+-- the end of an exchange: at the peer's NEWKEYS, or at once where no exchange of values was chosen
+pub record IsDone (m : Machine) (i : Incoming) (old : Writer) (host : Option ServerHost) (k : NewKeys) (new : Writer) : Type 0 where
+  pub exchange : Exchange
+  pub made : FinishedExchange
+  pub written : List (List ℕ)
+  pub ends : (Finishes m.stage i.payload.now exchange made host × (written ≡ []))
+      ⊎ Skips m.setting m.stage i.seqn i.payload.now written exchange made host
+  pub newkeys : IsNewKeys m.setting.side exchange made k
+  pub puts : PutsAll old written new
+
+abbrev pub Progresses : Says → Machine → Option Incoming → Writer → KexProgress Machine → Writer → Type 0
+Progresses says m None old p new = ⊥
+Progresses says m (Some i) old (NeedsReply kex reset) new = DropsGuess m old kex reset new
+    ⊎ TakesOne says m i old kex reset new
+Progresses says m (Some i) old (Done host k) new = IsDone m i old host k new
+
+-- why a step is refused: without a message with KexInit
+abbrev pub RefusesStep : Says → Denies → Machine → Option Incoming → Error → Type 0
+RefusesStep says denies m None error = (error ≡ errors.KexInit) ⊎ (error ≡ errors.Memory)
+RefusesStep says denies m (Some i) error = RefusesMessage says denies m.setting m.stage i.seqn i.payload.now error
+
+-- the reply was written, and memory was wanting for NEWKEYS
+pub record PutsReply (stage : Stage) (old new : Writer) : Type 0 where
+  pub o : Opened
+  pub gex : Option GexChosen
+  pub waits : stage ≡ AwaitsValue o gex
+  pub host : List ℕ
+  pub value : List ℕ
+  pub signature : List ℕ
+  pub puts : Puts old (reply_message (is_gex o.names.kex) host value signature) new
+
+-- what a refused step has written: nothing, or a reply
+abbrev pub PutsFront : Stage → Writer → Writer → Type 0
+PutsFront stage old new = SameButRoom old new ⊎ PutsReply stage old new

@@ -1,0 +1,26 @@
+//! Key exchange (RFC 4253 sections 7 and 8, RFC 4419, RFC 5656): what is handed in, the exchange hash, the keys, and one
+//! exchange's group, values and secret.
+#![tactic(auto)]
+
+mod algorithm;
+mod config;
+mod exchange;
+mod group;
+mod hashing;
+mod keys;
+mod laws;
+mod parts;
+mod progress;
+mod signature;
+
+pub use crate::algorithm::KexAlgorithm;
+pub use crate::config::Config;
+pub use crate::exchange::{
+    Exchange, FinishedExchange, GexChosen, Keys, NewCiphers, NewKeys, ServerHost, SharedSecret,
+};
+pub use crate::group::{DhGroup, GexParams};
+pub use crate::keys::compute_keys;
+pub use crate::laws::{canonical_once, ciphers_meet, keys_are_well};
+pub use crate::parts::{Agreed, Agreement, GroupLookup, HostKeys, Parts, Refusal, Started};
+pub use crate::progress::KexProgress;
+pub use crate::signature::canonicalize_ecdsa_signature;

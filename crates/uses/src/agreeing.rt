@@ -1,0 +1,87 @@
+//! A client and a server that agree on a secret, whatever the types of their parts are.
+
+ghost use Rattle.std.specs.Prelude.{◌≡◌, ◌≤◌, true, IfOk, OnOk};
+ghost use Rattle.ssh_kex.specs.Messages.{bit_size};
+ghost use Rattle.ssh_kex.specs.Parts.{IsRefused, Presents, Setup};
+ghost use Rattle.ssh_negotiate.specs.declared.preferred.HostKey.{HostKey};
+
+use rand_core::Rng;
+use ssh_kex::{Agreement, DhGroup, GexParams, GroupLookup, HostKeys, Parts, Refusal, ServerHost};
+use ssh_negotiate::kex;
+use ssh_wire::Blob;
+use std::alloc::Global;
+
+/// The secrets that a client and a server hold.
+#[derive(Debug, Drop)]
+pub struct Secrets {
+    pub client: Blob,
+    pub server: Blob,
+}
+
+/// Makes a value on each side, and the secret on each side. They are one where both agreements are lawful under some
+/// setup. Nothing is refused where both are obliging and offer the name.
+pub fn agree<A: Agreement, R: Rng>(
+    alloc: Global,
+    client: &mut A,
+    server: &mut A,
+    name: kex::Name,
+    group: Option<&DhGroup>,
+    client_rng: &mut R,
+    server_rng: &mut R,
+) -> Result<Secrets, Refusal>
+    ensures one { (s : Setup) → A.lawful client.old s → A.lawful server.old s
+        → IfOk result (λ v. v.client ≡ v.server) }
+    ensures never { (s : Setup) → A.obliging client.old s → A.obliging server.old s
+        → A.offered client.old name ≡ true → A.offered server.old name ≡ true → IsRefused result → ⊥ }
+{
+    let started = client.client_start(alloc, name, group, client_rng)?;
+    let agreed = server.server_agree(alloc, name, group, started.public.as_slice(), server_rng)?;
+    let secret = client.client_agree(
+        alloc,
+        name,
+        group,
+        started.local.as_slice(),
+        agreed.public.as_slice(),
+    )?;
+    Ok(Secrets {
+        client: secret,
+        server: agreed.secret,
+    })
+}
+
+/// Looks up a group on the server's side, judges the host on the client's, and agrees in that group. Where both
+/// agreements are lawful under some setup the secrets are one. Where all parts are obliging under a setup whose server
+/// presents the host, nothing is refused; where the sizes are its client's the group is within them.
+pub fn agree_in_group<A: Agreement, H: HostKeys, G: GroupLookup, R: Rng>(
+    alloc: Global,
+    client: &mut Parts<A, H, G, R>,
+    server: &mut Parts<A, H, G, R>,
+    name: kex::Name,
+    sizes: &GexParams,
+    host: &ServerHost,
+) -> Result<(DhGroup, Secrets), Refusal>
+    ensures one { (s : Setup) → A.lawful client.old.agreement s → A.lawful server.old.agreement s
+        → IfOk result (λ v. v.1.client ≡ v.1.server) }
+    ensures trusted { OnOk result (H.trusts client.old.hosts host.now ≡ true) }
+    ensures fitting { (s : Setup) → G.obliging server.old.groups s → s.client.gex ≡ sizes.now
+        → IfOk result (λ v. (sizes.now.min_group_size ≤ bit_size v.0.prime)
+        × (bit_size v.0.prime ≤ sizes.now.max_group_size)) }
+    ensures never { (s : Setup) (key : HostKey)
+        → A.obliging client.old.agreement s → A.obliging server.old.agreement s
+        → H.obliging client.old.hosts s → G.obliging server.old.groups s
+        → A.offered client.old.agreement name ≡ true → A.offered server.old.agreement name ≡ true
+        → Presents s.server host.now key host.now.algorithm → IsRefused result → ⊥ }
+{
+    let group = server.groups.lookup_dh_gex_group(alloc, sizes)?;
+    client.hosts.check(alloc, host)?;
+    let secrets = agree(
+        alloc,
+        &mut client.agreement,
+        &mut server.agreement,
+        name,
+        Some(&group),
+        &mut client.rng,
+        &mut server.rng,
+    )?;
+    Ok((group, secrets))
+}

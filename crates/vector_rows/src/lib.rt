@@ -1,0 +1,11 @@
+//! What the programs share that compare rows of values with what the crates' public calls answer: the loop over the rows,
+//! a row's words, what is found by them, and a generator that hands out given bytes.
+#![tactic(auto)]
+
+mod row;
+mod suite;
+mod words;
+
+pub use crate::row::{Fault, Row, say, say_bytes, say_number, say_shown};
+pub use crate::suite::{Answers, check};
+pub use crate::words::{Words, words_of};
