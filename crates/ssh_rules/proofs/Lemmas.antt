@@ -1,0 +1,39 @@
+-- What crates above cite: the lemmas of the laws, lemmas on events one after the other, and what one turn and one step of a
+-- link do. Declares nothing.
+pub use Rattle.ssh_rules.proofs.Made.{makes_one_record}
+pub use Rattle.ssh_rules.proofs.Resets.{resets_is}
+pub use Rattle.ssh_rules.proofs.Ran.{steps_join, sent_join, read_join, recorded_is}
+pub use Rattle.ssh_rules.proofs.Whole.{handled_more, written_more, recorded_more, whole_is_handled, written_so_far}
+pub use Rattle.ssh_rules.proofs.LinkBounded.{causes_more, HaveLimits}
+pub use Rattle.ssh_rules.proofs.Moved.{submitted_more, delivered_more, turn_sent, turn_submitted, on_time}
+pub use Rattle.ssh_rules.proofs.Payloads.{delivers, submits}
+pub use Rattle.ssh_rules.proofs.Places.{written_reads, handled_reads}
+pub use Rattle.ssh_rules.proofs.Guessing.{part_ends, fault_ends, read_by_guesses}
+pub use Rattle.ssh_rules.proofs.Discharged.{reads_alike, kept_is, legal, none_early}
+pub use Rattle.ssh_rules.proofs.RunSays.{run_says}
+pub use Rattle.ssh_rules.proofs.Attacked.{run_keyed, run_signed, run_wire}
+pub use Rattle.ssh_rules.proofs.Tags.{prefix_of_sides}
+pub use Rattle.ssh_rules.proofs.Freshness.{run_fresh}
+pub use Rattle.ssh_rules.proofs.CallsRun.{Counts, Pays, calls_in, calls_join, calls_steps, calls_run, agreement_counts, hosts_counts, lookups_counts, agreement_pays, hosts_pays, lookups_pays}
+pub use Rattle.ssh_rules.proofs.Left.{begun_steps, left_steps, settle_turn, settle_measure}
+pub use Rattle.ssh_rules.proofs.Joint.{honest_carrier, first_same}
+pub use Rattle.ssh_rules.proofs.Turns.{AreFit, client_held, server_held, held_in_step, turns_in_step}
+pub use Rattle.ssh_rules.proofs.Valid.{are_fit, have_limits, is_within, small_limits, write_limit}
+pub use Rattle.ssh_rules.proofs.OneKind.{of_kind}
+pub use Rattle.ssh_rules.proofs.KindRead.{reads_kind}
+pub use Rattle.ssh_rules.proofs.Starts.{start_is_snapshot, rests_again, reading_stays}
+pub use Rattle.ssh_rules.proofs.Moments.{held_by}
+pub use Rattle.ssh_rules.proofs.LinkFew.{link_bounded, most_begun}
+pub use Rattle.ssh_rules.proofs.LinkIs.{link_is, submitted_last, asked_last}
+pub use Rattle.ssh_rules.proofs.Next.{next_is, next_accepted}
+pub use Rattle.ssh_rules.proofs.Forms.{readable}
+pub use Rattle.ssh_rules.proofs.Early.{early_run, awaited_passes}
+pub use Rattle.ssh_rules.proofs.IdLines.{any_id, any_none, all_left, cut_line, part_is_none, whole_is_id}
+pub use Rattle.ssh_rules.proofs.CallTurns.{input_turn, submit_turn, rekey_turn, took_bytes}
+pub use Rattle.ssh_rules.proofs.SnapshotTurns.{IsKnown, is_known, new_stands, client_snapshot, server_snapshot, client_turned, server_turned, client_leads, server_leads, leads_stay, leads_join, settle_turns}
+pub use Rattle.ssh_rules.proofs.StrictOrder.{reads_early, reads_messages, next_early, no_violation, steps_cut}
+pub use Rattle.ssh_rules.proofs.ReadAgain.{value_again, group_again, sizes_again, front_again}
+pub use Rattle.ssh_rules.proofs.OnlyParts.{PartsRefuse, ReadsWell, only_parts_refuse, readable_type, reads_names, refused_by_parts}
+pub use Rattle.ssh_rules.proofs.RunHandled.{behind_handled, handled_place, run_handled, run_faulted}
+pub use Rattle.ssh_rules.proofs.Numbers.{few_run}
+pub use Rattle.ssh_rules.proofs.Moved.{same_mark}

@@ -1,0 +1,102 @@
+// Steps, marks and reports.
+
+use ssh_kex::FinishedExchange;
+use ssh_wire::{Blob, Error, PayloadList, Side};
+use std::marker::Model;
+
+#[derive(Drop)]
+pub enum Step {
+    Submit(Side, Blob),
+    Deliver(Side, u64),
+    Rekey(Side),
+    Settle,
+}
+
+#[derive(Clone, Copy, Debug, Drop)]
+pub struct SideMark {
+    pub sent: u64,
+    pub taken: u64,
+    pub delivered: u64,
+    pub finished: u64,
+    pub inside: bool,
+    pub submitted: u64,
+}
+
+#[derive(Clone, Copy, Debug, Drop)]
+pub struct Mark {
+    pub client: SideMark,
+    pub server: SideMark,
+}
+
+#[derive(Drop)]
+pub struct MarkList {
+    items: Vec<Mark>,
+}
+
+impl Model for MarkList {
+    ghost use Rattle.std.specs.Prelude.{List};
+    ghost use Rattle.ssh_rules.specs.declared.link.Mark.{Mark};
+
+    ghost Value = { List Mark };
+
+    ghost view = { λ l. l.items.items };
+}
+
+#[derive(Drop)]
+pub struct ExchangeList {
+    items: Vec<FinishedExchange>,
+}
+
+impl Model for ExchangeList {
+    ghost use Rattle.std.specs.Prelude.{List};
+    ghost use Rattle.ssh_kex.specs.declared.exchange.FinishedExchange.{FinishedExchange};
+
+    ghost Value = { List FinishedExchange };
+
+    ghost view = { λ l. l.items.items };
+}
+
+#[derive(Drop)]
+pub struct SideReport {
+    pub wire: Blob,
+    pub taken: u64,
+    pub delivered: PayloadList,
+    pub exchanges: ExchangeList,
+}
+
+#[derive(Drop)]
+pub struct LinkReport {
+    pub client: SideReport,
+    pub server: SideReport,
+    pub marks: MarkList,
+}
+
+/// A step of an attacked link.
+#[derive(Drop)]
+pub enum AttackStep {
+    Submit(Side, Blob),
+    Feed(Side, Blob),
+    Rekey(Side),
+}
+
+/// What each step was answered.
+#[derive(Drop)]
+pub struct AnswerList {
+    items: Vec<Result<(), Error>>,
+}
+
+impl Model for AnswerList {
+    ghost use Rattle.std.specs.Prelude.{List, Result};
+    ghost use Rattle.ssh_wire.specs.declared.error.Error.{Error};
+
+    ghost Value = { List (Result (Unit {0}) Error) };
+
+    ghost view = { λ l. l.items.items };
+}
+
+#[derive(Drop)]
+pub struct AttackReport {
+    pub client: SideReport,
+    pub server: SideReport,
+    pub answers: AnswerList,
+}
