@@ -34,6 +34,10 @@ pub use Rattle.ssh_rules.proofs.SnapshotTurns.{IsKnown, is_known, new_stands, cl
 pub use Rattle.ssh_rules.proofs.StrictOrder.{reads_early, reads_messages, next_early, no_violation, steps_cut}
 pub use Rattle.ssh_rules.proofs.ReadAgain.{value_again, group_again, sizes_again, front_again}
 pub use Rattle.ssh_rules.proofs.OnlyParts.{PartsRefuse, ReadsWell, only_parts_refuse, readable_type, reads_names, refused_by_parts}
+pub use Rattle.ssh_rules.proofs.NextWhole.{next_whole}
+pub use Rattle.ssh_rules.proofs.Facing.{IsFaced, is_faced}
+pub use Rattle.ssh_rules.proofs.NoneRefused.{AreMet, host_presented, nothing_refused, parts_decide}
+pub use Rattle.ssh_rules.proofs.Owed.{PartLaws, duties_of, small_of}
 pub use Rattle.ssh_rules.proofs.RunHandled.{behind_handled, handled_place, run_handled, run_faulted}
 pub use Rattle.ssh_rules.proofs.Numbers.{few_run}
 pub use Rattle.ssh_rules.proofs.Moved.{same_mark}

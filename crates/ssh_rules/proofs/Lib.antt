@@ -85,4 +85,11 @@ pub mod ReadAgain
 pub mod OnlyParts
 pub mod SnapshotTurns
 pub mod StrictOrder
+pub mod MadeNext
+pub mod Obliged
+pub mod Facing
+pub mod NextWhole
+pub mod HostShown
+pub mod NoneRefused
+pub mod Owed
 pub mod Lemmas

@@ -34,7 +34,7 @@ same_exchange a b e1 e2 e3 e4 e5 e6 e7 =
     ∙ (ap (λ x. record a { client_id = b.client_id; server_id = b.server_id; client_kex_init = b.client_kex_init; server_kex_init = b.server_kex_init; client_ephemeral = b.client_ephemeral; server_ephemeral = x }) e6
     ∙ ap (λ x. record b { gex = x }) e7)))))
 
-made_alike : (c s : KexCause) (n m : Names) (d e : Exchange) (h i k l : List ℕ) → c ≡ s → n ≡ m → d ≡ e → h ≡ i → k ≡ l → made_of c n d h (Some k) ≡ made_of s m e i (Some l)
+pub made_alike : (c s : KexCause) (n m : Names) (d e : Exchange) (h i k l : List ℕ) → c ≡ s → n ≡ m → d ≡ e → h ≡ i → k ≡ l → made_of c n d h (Some k) ≡ made_of s m e i (Some l)
 made_alike c s n m d e h i k l ec en ed eh ek =
     ap (λ x. made_of x n d h (Some k)) ec
     ∙ (ap (λ x. made_of s x d h (Some k)) en

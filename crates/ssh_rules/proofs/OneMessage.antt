@@ -53,7 +53,7 @@ mpint_short p h l = subst (λ t. length (unsigned t) < 2 ^ 32) (sym h) (omega (a
 same_group : (p q r s : List ℕ) → p ≡ q → r ≡ s → (let t : DhGroup = record { prime = p; generator = r } in t) ≡ record { prime = q; generator = s }
 same_group p q r s e f = ap (λ x. let t : DhGroup = record { prime = x; generator = r } in t) e ∙ ap (λ x. let t : DhGroup = record { prime = q; generator = x } in t) f
 
-group_one : (g h : DhGroup) → IsCanonical g → IsCanonical h → length g.prime < 2 ^ 31 → length g.generator < 2 ^ 31 → length h.prime < 2 ^ 31 → length h.generator < 2 ^ 31 → group_message g ≡ group_message h → g ≡ h
+pub group_one : (g h : DhGroup) → IsCanonical g → IsCanonical h → length g.prime < 2 ^ 31 → length g.generator < 2 ^ 31 → length h.prime < 2 ^ 31 → length h.generator < 2 ^ 31 → group_message g ≡ group_message h → g ≡ h
 group_one g h cg ch gp gg hp hg e =
     let bodies : mpint g.prime ++ mpint g.generator ≡ mpint h.prime ++ mpint h.generator = cc in
     let first = string_cut (unsigned (magnitude g.prime)) (unsigned (magnitude h.prime)) (mpint g.generator) (mpint h.generator) (mpint_short g.prime cg.prime gp) (mpint_short h.prime ch.prime hp) bodies in
@@ -67,7 +67,7 @@ same_sizes a b c d e f p q r =
     ∙ (ap (λ x. let t : GexParams = record { min_group_size = b; preferred_group_size = x; max_group_size = e } in t) q
     ∙ ap (λ x. let t : GexParams = record { min_group_size = b; preferred_group_size = d; max_group_size = x } in t) r)
 
-sizes_one : (g h : GexChosen) → IsShortGroup g → IsShortGroup h → request_message g.params ≡ request_message h.params → g.params ≡ h.params
+pub sizes_one : (g h : GexChosen) → IsShortGroup g → IsShortGroup h → request_message g.params ≡ request_message h.params → g.params ≡ h.params
 sizes_one g h sg sh m =
     let bodies : u32be g.params.min_group_size ++ (u32be g.params.preferred_group_size ++ u32be g.params.max_group_size) ≡ u32be h.params.min_group_size ++ (u32be h.params.preferred_group_size ++ u32be h.params.max_group_size) = cc in
     let one = u32_cut g.params.min_group_size h.params.min_group_size (u32be g.params.preferred_group_size ++ u32be g.params.max_group_size) (u32be h.params.preferred_group_size ++ u32be h.params.max_group_size) sg.least sh.least bodies in
@@ -75,7 +75,7 @@ sizes_one g h sg sh m =
     let last = u32_cut g.params.max_group_size h.params.max_group_size [] [] sg.most sh.most (ap (λ t. t ++ []) next.1) in
     same_sizes _ _ _ _ _ _ one.0 next.0 last.0
 
-reply_one : (kind : Bool) (a b c d e f : List ℕ) → length a < 2 ^ 32 → length b < 2 ^ 32 → length c < 2 ^ 32 → length d < 2 ^ 32 → length e < 2 ^ 32 → length f < 2 ^ 32 → reply_message kind a b c ≡ reply_message kind d e f → (a ≡ d) × (b ≡ e) × (c ≡ f)
+pub reply_one : (kind : Bool) (a b c d e f : List ℕ) → length a < 2 ^ 32 → length b < 2 ^ 32 → length c < 2 ^ 32 → length d < 2 ^ 32 → length e < 2 ^ 32 → length f < 2 ^ 32 → reply_message kind a b c ≡ reply_message kind d e f → (a ≡ d) × (b ≡ e) × (c ≡ f)
 reply_one kind a b c d e f ha hb hc hd he hf m =
     let bodies = body kind m in
     let one = string_cut a d (string b ++ string c) (string e ++ string f) ha hd bodies in
@@ -86,7 +86,7 @@ reply_one kind a b c d e f ha hb hc hd he hf m =
     body true m = cc
     body false m = cc
 
-value_one : (kind : Bool) (a b : List ℕ) → length a < 2 ^ 32 → length b < 2 ^ 32 → value_message kind a ≡ value_message kind b → a ≡ b
+pub value_one : (kind : Bool) (a b : List ℕ) → length a < 2 ^ 32 → length b < 2 ^ 32 → value_message kind a ≡ value_message kind b → a ≡ b
 value_one true a b ha hb m = string_one a b ha hb (tails m) where
   tails : 32 ∷ string a ≡ 32 ∷ string b → string a ≡ string b
   tails e = cc
@@ -119,7 +119,7 @@ three_of a b c d e f h = let p : a ≡ d = cc in let q : b ≡ e = cc in let r :
 three_four : (a b c d e f g : List ℕ) → a ∷ b ∷ c ∷ [] ≡ d ∷ e ∷ f ∷ g ∷ [] → ⊥
 three_four a b c d e f g h = cc
 
-same_gex : (a b : GexParams) (c d : DhGroup) → a ≡ b → c ≡ d → (let t : GexChosen = record { params = a; group = c } in t) ≡ record { params = b; group = d }
+pub same_gex : (a b : GexParams) (c d : DhGroup) → a ≡ b → c ≡ d → (let t : GexChosen = record { params = a; group = c } in t) ≡ record { params = b; group = d }
 same_gex a b c d e f = ap (λ x. let t : GexChosen = record { params = x; group = c } in t) e ∙ ap (λ x. let t : GexChosen = record { params = b; group = x } in t) f
 
 pub talk_one : (g h : Option GexChosen) (c d s t u v i j w x y z : List ℕ)

@@ -91,16 +91,16 @@ names_differ r n fault h k = let q : Ok n ≡ Err fault = sym h ∙ k in cc
 same_front : (r : Result ReplyFront EncodingFault) (x y : ReplyFront) → r ≡ Ok x → r ≡ Ok y → x ≡ y
 same_front r x y h k = let q : Ok x ≡ Ok y = sym h ∙ k in cc
 
-value_fields : (kind : Bool) (v : List ℕ) → fields (value_message kind v) ≡ string v
+pub value_fields : (kind : Bool) (v : List ℕ) → fields (value_message kind v) ≡ string v
 value_fields true v = refl
 value_fields false v = refl
 
-reply_fields : (kind : Bool) (h v s : List ℕ) → fields (reply_message kind h v s) ≡ string h ++ (string v ++ string s)
+pub reply_fields : (kind : Bool) (h v s : List ℕ) → fields (reply_message kind h v s) ≡ string h ++ (string v ++ string s)
 reply_fields true h v s = refl
 reply_fields false h v s = refl
 
 -- a number is no longer than its form
-form_length : (s : List ℕ) → length (unsigned (magnitude s)) + 4 ≡ length (mpint s)
+pub form_length : (s : List ℕ) → length (unsigned (magnitude s)) + 4 ≡ length (mpint s)
 form_length s = let e = length-append (Rattle.ssh_wire.specs.Forms.u32be (length (unsigned (magnitude s)))) (unsigned (magnitude s)) in omega (arith, e)
 
 -- a group within a payload has numbers of a length that four bytes can say
@@ -190,7 +190,7 @@ magnitude_twice : (s : List ℕ) → magnitude (magnitude s) ≡ magnitude s
 magnitude_twice s = sym (magnitude_of (magnitude s)) ∙ magnitude_unsigned (magnitude s) (magnitude_front s)
 
 -- a group is sent as its canonical form, and within a payload that has short numbers
-short_group : (g : DhGroup) (payload : List ℕ) → length payload ≤ longest_payload → payload ≡ group_message g → (h : DhGroup) × (payload ≡ group_message h) × HasShortGroup h
+short_group : (g : DhGroup) (payload : List ℕ) → length payload < 2 ^ 32 → payload ≡ group_message g → (h : DhGroup) × (payload ≡ group_message h) × HasShortGroup h
 short_group g payload l e =
     let h : DhGroup = record { prime = magnitude g.prime; generator = magnitude g.generator } in
     let same : group_message g ≡ group_message h = ap (λ p. 31 ∷ (string (unsigned p) ++ mpint g.generator)) (sym (magnitude_twice g.prime)) ∙ ap (λ p. 31 ∷ (mpint (magnitude g.prime) ++ string (unsigned p))) (sym (magnitude_twice g.generator)) in
@@ -200,7 +200,7 @@ short_group g payload l e =
     let c = longer (magnitude g.prime) in let d = longer (magnitude g.generator) in
     (h, e ∙ same, record { prime = omega (arith, l, whole, parts, a, c); generator = omega (arith, l, whole, parts, b, d) })
 
-groups_short : (writer : Side) (peer : Config) (stage : Stage) (payload : List ℕ) → length payload ≤ longest_payload → IsReadable writer peer stage payload → GroupsShort writer peer stage payload
+pub groups_short : (writer : Side) (peer : Config) (stage : Stage) (payload : List ℕ) → length payload < 2 ^ 32 → IsReadable writer peer stage payload → GroupsShort writer peer stage payload
 groups_short writer peer (Created own) payload l r = tt
 groups_short writer peer (AwaitsGroup o) payload l r = short_group r.0 payload l r.1
 groups_short writer peer (AwaitsReply o gex local public) payload l r = tt
@@ -217,7 +217,7 @@ first_by : (xs : List FinishedExchange) (strict : Bool) (seqn : ℕ) → (xs ≡
 first_by [] strict seqn f = λ s. f refl
 first_by (x ∷ xs) strict seqn f = tt
 
-at_setting : (side : Side) (config : Config) (own_id : List ℕ) (st : SideState) (payload : List ℕ) (n : Names) → names_read side (offers_of side config) (was_strict (cause_of st.records)) payload ≡ Ok n → kexinit_read (setting side config own_id st) payload ≡ Ok n
+pub at_setting : (side : Side) (config : Config) (own_id : List ℕ) (st : SideState) (payload : List ℕ) (n : Names) → names_read side (offers_of side config) (was_strict (cause_of st.records)) payload ≡ Ok n → kexinit_read (setting side config own_id st) payload ≡ Ok n
 at_setting Client config own_id st payload n e = e
 at_setting Server config own_id st payload n e = e
 
@@ -225,7 +225,7 @@ cause_at : (side : Side) (config : Config) (own_id : List ℕ) (st : SideState) 
 cause_at Client config own_id st = refl
 cause_at Server config own_id st = refl
 
-reads_well : (config : Side → Config) (side : Side) (own_id : List ℕ) (m : Names) (st : SideState) (stage : Stage) (seqn : ℕ) (payload : List ℕ) → IsWithin (offers_of Client (config Client)) → IsWithin (offers_of Server (config Server)) → chosen_by (config Client) (config Server) ≡ Ok m → ((k : List ℕ) → stage ≡ Created k → st.records ≡ [] → seqn ≡ 1) → IsReadable (other_side side) (config (other_side side)) stage payload → ReadsWell (setting side (config side) own_id st) stage seqn payload
+pub reads_well : (config : Side → Config) (side : Side) (own_id : List ℕ) (m : Names) (st : SideState) (stage : Stage) (seqn : ℕ) (payload : List ℕ) → IsWithin (offers_of Client (config Client)) → IsWithin (offers_of Server (config Server)) → chosen_by (config Client) (config Server) ≡ Ok m → ((k : List ℕ) → stage ≡ Created k → st.records ≡ [] → seqn ≡ 1) → IsReadable (other_side side) (config (other_side side)) stage payload → ReadsWell (setting side (config side) own_id st) stage seqn payload
 reads_well config side own_id m st (Created own) seqn payload c s e f r =
     let still = was_strict (cause_of st.records) in (
       kept_strict still m,
@@ -244,4 +244,4 @@ pub refused_by_parts : (says : Says) (denies : Denies) (config : Side → Config
     → ((k : List ℕ) → stage ≡ Created k → st.records ≡ [] → next_number st.reading.number ≡ 1)
     → RefusesMessage says denies (setting side (config side) own_id st) stage (next_number st.reading.number) payload e → PartsRefuse says denies (setting side (config side) own_id st) stage (next_number st.reading.number) payload e
 refused_by_parts says denies config side own_id m st stage payload e c s sizes chosen l r f h =
-    only_parts_refuse says denies (setting side (config side) own_id st) stage (next_number st.reading.number) payload (other_side side) (config (other_side side)) e sizes r (groups_short (other_side side) (config (other_side side)) stage payload l r) (reads_well config side own_id m st stage (next_number st.reading.number) payload c s chosen f r) h
+    only_parts_refuse says denies (setting side (config side) own_id st) stage (next_number st.reading.number) payload (other_side side) (config (other_side side)) e sizes r (groups_short (other_side side) (config (other_side side)) stage payload (omega (arith, l)) r) (reads_well config side own_id m st stage (next_number st.reading.number) payload c s chosen f r) h

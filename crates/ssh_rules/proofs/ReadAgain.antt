@@ -1,10 +1,8 @@
 -- The messages of an exchange, read again by their fields.
-use Rattle.std.proofs.Common.{◌≡◌, ℕ, ◌-◌, ◌<◌, ◌≤◌, ◌^◌, Bool, true, false, nat_lt, List, [], ◌∷◌, ◌++◌, length, Ok, Err, if◌then◌else◌, refl, sym, ◌∙◌, ap, arith, append-nil}
-use Rattle.std.proofs.lemmas.Bool.Decides.{nat_tests}
+use Rattle.std.proofs.Common.{◌≡◌, ℕ, ◌-◌, ◌<◌, ◌^◌, List, [], ◌++◌, length, Ok, sym, ◌∙◌, ap, append-nil}
 use Rattle.ssh_wire.proofs.Lemmas.{mpint_again, string_again, u32_again}
-use Rattle.ssh_wire.specs.Fields.{◌>>=◌, is_shortest, mpint_at, string_at, u32_at}
-use Rattle.ssh_wire.specs.Forms.{magnitude, mpint, string, u32be, unsigned}
-use Rattle.ssh_wire.specs.declared.error.EncodingFault.TheVariants.{MpintEncoding}
+use Rattle.ssh_wire.specs.Fields.{◌>>=◌, mpint_at, string_at, u32_at}
+use Rattle.ssh_wire.specs.Forms.{magnitude, mpint, string, u32be}
 use Rattle.ssh_kex.specs.Refusals.{at_end, group_in, reply_front, sizes_front, sizes_in, value_in}
 use Rattle.ssh_kex.specs.declared.group.DhGroup.{DhGroup}
 use Rattle.ssh_kex.specs.declared.group.GexParams.{GexParams}

@@ -36,14 +36,14 @@ use Rattle.ssh_rules.proofs.Ledgers.{has_newkeys}
 use Rattle.ssh_rules.proofs.Whole.{recorded_more}
 use Rattle.ssh_rules.specs.RunLaws.{IsEarlyLink}
 
-through : (a b c : List ℕ) → HasFront a b → HasFront b c → HasFront a c
+pub through : (a b c : List ℕ) → HasFront a b → HasFront b c → HasFront a c
 through a b c s r = (r.0 ++ s.0, sym (append_assoc c r.0 s.0) ∙ (ap (λ q. q ++ s.0) r.1 ∙ s.1))
 
 nil_front : (a b : List FinishedExchange) → a ++ b ≡ [] → a ≡ []
 nil_front [] b e = refl
 nil_front (x ∷ a) b e = cc
 
-other_twice : (side : Side) → other_side (other_side side) ≡ side
+pub other_twice : (side : Side) → other_side (other_side side) ≡ side
 other_twice Client = refl
 other_twice Server = refl
 
@@ -110,7 +110,7 @@ follows_of : (config : Side → Config) (side o : Side) → o ≡ other_side sid
 follows_of config side o e c v = subst (λ d. FollowsNone side (config side) (config d)) (sym e) (reads_no_guess side (config side) (config (other_side side)) (within_of config (other_side side) c v))
 
 -- each first message that was read is a KEXINIT of the other
-heads_of : (says : Says) (config : Side → Config) (side o : Side) (peer_id : List ℕ) (plog : List Event) (pst : SideState) (r : List Item) → o ≡ other_side side → HasSizes (config o) → Steps says o (config o) peer_id first_state plog pst → HasFront (wrote plog) r → HeadsAre side config r
+pub heads_of : (says : Says) (config : Side → Config) (side o : Side) (peer_id : List ℕ) (plog : List Event) (pst : SideState) (r : List Item) → o ≡ other_side side → HasSizes (config o) → Steps says o (config o) peer_id first_state plog pst → HasFront (wrote plog) r → HeadsAre side config r
 heads_of says config side o peer_id plog pst r is sizes p front = λ k q ms e.
     let b = block_head k r front.0 q ms e in
     subst (λ d. (cookie : List ℕ) × (length cookie ≡ 16) × (q ≡ kexinit (offers_of d (config d)) cookie)) is

@@ -76,7 +76,7 @@ limits_good config = is_good_limit config.limits.rekey_write_limit && is_good_li
 abbrev sizes_good : Config → Bool
 sizes_good config = nat_le config.gex.min_group_size config.gex.preferred_group_size && nat_le config.gex.preferred_group_size config.gex.max_group_size
 
-tests : (side : Side) (config : Config) → config_fault side config ≡ None → (not (is_good_id config.id) ≡ false) × (not (limits_good config) ≡ false) × (not (sizes_good config) ≡ false) × (list_any is_no_kex config.preferred.kex ≡ false) × (some_list_long (offers_of side config) ≡ false) × (some_blob_long config ≡ false)
+pub tests : (side : Side) (config : Config) → config_fault side config ≡ None → (not (is_good_id config.id) ≡ false) × (not (limits_good config) ≡ false) × (not (sizes_good config) ≡ false) × (list_any is_no_kex config.preferred.kex ≡ false) × (some_list_long (offers_of side config) ≡ false) × (some_blob_long config ≡ false)
 unfolding config_fault
 tests side config h = none_of (not (is_good_id config.id)) (not (limits_good config)) (not (sizes_good config)) (list_any is_no_kex config.preferred.kex) (some_list_long (offers_of side config)) (some_blob_long config) faults.Id faults.Limit faults.GroupSizes faults.KexNone faults.NameList faults.HostBlob h
 

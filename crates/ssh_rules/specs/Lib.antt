@@ -23,3 +23,4 @@ pub mod Attacked
 pub mod Standing
 pub mod Snapshots
 pub mod RunLaws
+pub mod Refused

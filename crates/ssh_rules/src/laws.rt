@@ -1,7 +1,9 @@
 //! Laws of the rules, for proofs above to cite. Each holds of what the handed-in parts say by their members.
 
-ghost use Rattle.ssh_kex.specs.Stepping.{says_of};
+ghost use Rattle.ssh_kex.specs.Parts.{KeepsAgreement, KeepsGroups, KeepsHosts};
+ghost use Rattle.ssh_kex.specs.Stepping.{denies_of, says_of};
 ghost use Rattle.ssh_rules.specs.Laws.{RecordsAgree};
+ghost use Rattle.ssh_rules.specs.Refused.{HostTrusted, NothingRefused, PartsRefuseAlone};
 ghost use Rattle.ssh_rules.specs.RunLaws.{EachRun, HonestLink, KeyedRun, NoViolation, RestedRun, SignedRun};
 
 use ssh_kex::{Agreement, GroupLookup, HostKeys};
@@ -42,4 +44,34 @@ pub fn honest_link<A: Agreement, H: HostKeys, G: GroupLookup>()
 /// Over an honest carrier a reader without a record never meets a violation of the strict order, whatever the parts are.
 pub fn no_violation<A: Agreement, H: HostKeys, G: GroupLookup>()
     ensures { NoViolation (says_of A.lawful A.offered A.client_makes A.server_makes A.agrees H.lawful H.obliging H.accepts H.trusts H.makes G.lawful G.group) }
+{}
+
+/// Where the parts of both sides are lawful, what they decide is all that is refused of the next message of an honest
+/// peer, and want of memory.
+pub fn parts_refuse_alone<A: Agreement, H: HostKeys, G: GroupLookup>()
+    ensures { PartsRefuseAlone A.lawful H.lawful G.lawful
+        (says_of A.lawful A.offered A.client_makes A.server_makes A.agrees H.lawful H.obliging H.accepts H.trusts
+        H.makes G.lawful G.group)
+        (denies_of A.obliging A.offered A.client_makes A.server_makes A.refusals H.obliging H.accepts H.refused_sign
+        H.refused_verify G.obliging G.refusals) }
+{}
+
+/// Where they are obliging, and offer the name that is chosen, nothing is refused of it but for want of memory.
+pub fn nothing_refused<A: Agreement, H: HostKeys, G: GroupLookup>()
+    ensures { NothingRefused A.obliging H.obliging G.obliging A.offered
+        (KeepsAgreement A.lawful A.obliging A.offered A.refusals A.calls)
+        (KeepsHosts H.lawful H.obliging H.accepts H.trusts H.refused_sign H.refused_verify H.refused_check H.calls)
+        (KeepsGroups G.lawful G.obliging G.group G.refusals G.calls)
+        (says_of A.lawful A.offered A.client_makes A.server_makes A.agrees H.lawful H.obliging H.accepts H.trusts
+        H.makes G.lawful G.group)
+        (denies_of A.obliging A.offered A.client_makes A.server_makes A.refusals H.obliging H.accepts H.refused_sign
+        H.refused_verify G.obliging G.refusals) }
+{}
+
+/// When the last message of an exchange comes, the host that the client has accepted is one that the server presents,
+/// and obliging host keys trust it.
+pub fn host_trusted<A: Agreement, H: HostKeys, G: GroupLookup>()
+    ensures { HostTrusted A.lawful G.lawful H.obliging H.trusts
+        (says_of A.lawful A.offered A.client_makes A.server_makes A.agrees H.lawful H.obliging H.accepts H.trusts
+        H.makes G.lawful G.group) }
 {}
