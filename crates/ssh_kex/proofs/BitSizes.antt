@@ -1,5 +1,5 @@
 -- How many binary digits a byte has.
-use Rattle.std.proofs.Common.{◌≡◌, ℕ, List, [], ◌∷◌, length, zero, suc, ◌+◌, ◌*◌, ◌-◌, ◌^◌, ◌≤◌, ◌<◌, refl, sym, ap, subst, ◌∙◌, arith}
+use Rattle.std.proofs.Common.{◌≡◌, ℕ, List, [], ◌∷◌, length, zero, suc, ◌+◌, ◌*◌, ◌-◌, ◌^◌, ◌≤◌, ◌<◌, ap, ◌∙◌, arith}
 use Rattle.std.specs.Prelude.{take, drop, get_or, min}
 use Rattle.std.proofs.lemmas.List.{take_all}
 use Rattle.ssh_wire.proofs.Lemmas.{magnitude_length}

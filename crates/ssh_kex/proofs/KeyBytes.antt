@@ -1,6 +1,6 @@
 -- Digests are bytes, and so are keys; a key has the length that is asked for.
-use Rattle.std.proofs.Common.{◌≡◌, ℕ, zero, suc, ◌+◌, ◌/◌, ◌%◌, ◌≤◌, ◌<◌, List, [], ◌∷◌, ◌++◌, length, take, refl, sym, ap, subst, ◌∙◌, arith, length-append, length-take-le, take-append-drop}
-use Rattle.std.specs.Prelude.{drop, slice_index}
+use Rattle.std.proofs.Common.{◌≡◌, ℕ, zero, suc, ◌+◌, ◌/◌, ◌%◌, ◌≤◌, List, [], ◌∷◌, ◌++◌, length, take, arith, length-append, length-take-le}
+use Rattle.std.specs.Prelude.{slice_index}
 use Rattle.std.specs.Int.{w32, w64, to_be_bytes}
 use Rattle.sha1.specs.Sha1 as one
 use Rattle.sha2.specs.Sha256 as small

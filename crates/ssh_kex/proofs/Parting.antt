@@ -1,5 +1,5 @@
 -- The canonical form by the two strings that a signature is.
-use Rattle.std.proofs.Common.{◌≡◌, ℕ, ◌+◌, ◌≤◌, ◌<◌, ◌^◌, List, [], ◌∷◌, ◌++◌, length, length-append, append-nil, refl, sym, ap, subst, ◌∙◌, arith, Option, Some, None, Bool, true, false, if◌then◌else◌, Ok, Err, Result}
+use Rattle.std.proofs.Common.{◌≡◌, ℕ, ◌+◌, ◌≤◌, ◌<◌, ◌^◌, List, [], ◌∷◌, ◌++◌, length, length-append, refl, ap, ◌∙◌, arith, Option, Some, None, Bool, true, false, if◌then◌else◌, Ok, Err, Result}
 use Rattle.ssh_wire.specs.Fields.{string_at, answer_of}
 use Rattle.ssh_wire.specs.Forms.{u32be, string, magnitude, mpint, unsigned}
 use Rattle.ssh_wire.proofs.Lemmas.{magnitude_length, unsigned_length}

@@ -1,11 +1,11 @@
 -- The hash over the secret that is held.
-use Rattle.std.proofs.Common.{◌≡◌, ℕ, List, [], refl, sym, ap, subst, ◌∙◌, Option, Some, None, Bool, true, false, if◌then◌else◌}
+use Rattle.std.proofs.Common.{◌≡◌, ℕ, List, [], refl, sym, ap, ◌∙◌, Option, Some, None, true, false, if◌then◌else◌}
 use Rattle.ssh_mac.specs.Digests.{digest_of}
 use Rattle.ssh_negotiate.specs.Tables.{shape_of}
 use Rattle.ssh_negotiate.specs.declared.kex.Name as kexes
 use Rattle.ssh_kex.specs.Agreeing.{Agreeing, HoldsSecret, held_secret}
 use Rattle.ssh_negotiate.specs.declared.kex.KexShape.{KexShape}
-use Rattle.ssh_kex.specs.Exchange.{exchange_hash, formed, hashed_text, secret_of, secret_text}
+use Rattle.ssh_kex.specs.Exchange.{exchange_hash, hashed_text, secret_of, secret_text}
 use Rattle.ssh_kex.specs.declared.exchange.Exchange.{Exchange}
 use Rattle.ssh_kex.specs.declared.exchange.SharedSecret.{SharedSecret}
 use Rattle.ssh_kex.specs.declared.group.DhGroup.{DhGroup}

@@ -1,15 +1,12 @@
 -- Three sizes at the front of bytes.
-use Rattle.std.proofs.Common.{◌≡◌, ℕ, ◌+◌, ◌-◌, ◌≤◌, ◌<◌, List, [], ◌∷◌, ◌++◌, length, take, drop, refl, sym, ap, subst, ◌∙◌, arith, Ok, Err, Result}
+use Rattle.std.proofs.Common.{◌≡◌, ℕ, ◌+◌, ◌≤◌, ◌<◌, List, ◌++◌, length, take, drop, refl, ap, arith, Ok, Err}
 use Rattle.std.proofs.lemmas.Bool.Decides.{nat_tests}
-use Rattle.std.proofs.lemmas.List.{length-drop}
-use Rattle.ssh_wire.specs.Fields.{u32_at, answer_of, TakesForm}
+use Rattle.ssh_wire.specs.Fields.{u32_at, TakesForm}
 use Rattle.ssh_wire.specs.Forms.{u32be}
 use Rattle.ssh_wire.specs.declared.error.Error.{Error}
-use Rattle.ssh_wire.specs.declared.error.EncodingFault.{EncodingFault}
 use Rattle.ssh_wire.specs.declared.error.EncodingFault.TheVariants.{Length}
 use Rattle.std.specs.Int.{w32, from_be_bytes}
 use Rattle.ssh_kex.specs.Refusals.{sizes_front}
-use Rattle.ssh_kex.specs.declared.group.GexParams.{GexParams}
 
 long_u32 : (bytes : List ℕ) → 4 ≤ length bytes → u32_at bytes ≡ Ok (from_be_bytes w32 (take 4 bytes), drop 4 bytes)
 unfolding u32_at

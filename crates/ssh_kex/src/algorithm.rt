@@ -10,7 +10,7 @@ ghost use Rattle.ssh_negotiate.specs.Tables.{shape_of};
 ghost use Rattle.ssh_kex.specs.Agreeing.{Agreeing, ClientAgrees, ClientStarts, IsGexOrMemory, HoldsOne, IsWhole, ServerAgrees, bytes_of, error_of};
 ghost use Rattle.ssh_kex.specs.Exchange.{exchange_hash, keys_of, sealing_after, secret_of, secret_text, side_if};
 ghost use Rattle.ssh_kex.specs.Messages.{is_gex, request_message, value_message};
-ghost use Rattle.ssh_kex.specs.Parts.{KeepsAgreement, Setup};
+ghost use Rattle.ssh_kex.specs.Parts.{IsSmall, KeepsAgreement, Setup};
 
 use crate::exchange::{Exchange, NewCiphers, SharedSecret};
 use crate::group::{DhGroup, GexParams};
@@ -146,7 +146,7 @@ impl KexAlgorithm {
         ensures calls { A.calls agreement.new ≤ A.calls agreement.old + (if (shape_of self.old.name).skip then 0 else 1) }
         ensures agrees { OnOk result (ServerAgrees (shape_of self.old.name).skip (λ v x. (s : Setup)
             → A.lawful agreement.old s → A.server_makes self.old.name self.old.group v
-            × A.agrees self.old.name self.old.group exchange.old.client_ephemeral v x) self.old self.new exchange.old exchange.new) }
+            × A.agrees self.old.name self.old.group exchange.old.client_ephemeral v x × IsSmall v) self.old self.new exchange.old exchange.new) }
         ensures unchanged { OnErr result ((self.new ≡ self.old) × (exchange.new ≡ exchange.old)) }
         ensures causes { IfErr result (λ e. (e ≡ Kex) ⊎ (e ≡ Memory)) }
         ensures rose { result ≡ Err Kex → Rose (A.refusals agreement.old) (A.refusals agreement.new) }
@@ -191,6 +191,8 @@ impl KexAlgorithm {
             ++ value_message (is_gex self.old.name) v) self.old self.new client_ephemeral.old client_ephemeral.new out.old.items out.new.items) }
         ensures unchanged { OnErr result ((self.new ≡ self.old) × (client_ephemeral.new ≡ client_ephemeral.old)
             × (out.new.items ≡ out.old.items)) }
+        ensures small { OnOk result ((shape_of self.old.name).skip ≡ false → (s : Setup) → A.lawful agreement.old s
+            → IsSmall client_ephemeral.new) }
         ensures causes { IfErr result (λ e. (e ≡ Kex) ⊎ (e ≡ Memory)) }
         ensures rose { result ≡ Err Kex → Rose (A.refusals agreement.old) (A.refusals agreement.new) }
         ensures owed { result ≡ Err Kex → (s : Setup) → A.obliging agreement.old s

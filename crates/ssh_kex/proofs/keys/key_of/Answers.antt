@@ -1,5 +1,5 @@
 -- Three blocks more behind the first, each only where bytes are wanted.
-use Rattle.std.proofs.Common.{◌≡◌, ◌∙◌, ap, arith}
+use Rattle.std.proofs.Common.{◌∙◌, ap}
 use Rattle.std.specs.Prelude.{◌++◌, take, length}
 use Rattle.ssh_kex.specs.Exchange.{key_by}
 use Rattle.ssh_kex.proofs.KeyBytes.{key_length}

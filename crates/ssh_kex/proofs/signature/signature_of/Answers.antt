@@ -1,5 +1,5 @@
-use Rattle.std.proofs.Common.{◌∙◌, ap, sym, subst}
-use Rattle.std.specs.Prelude.{◌<◌, ◌^◌, ◌++◌, length}
+use Rattle.std.proofs.Common.{◌∙◌, ap}
+use Rattle.std.specs.Prelude.{◌++◌}
 use Rattle.ssh_wire.specs.Forms.{mpint}
 use Rattle.ssh_kex.proofs.Parting.{scalars_short}
 use Rattle.ssh_kex.proofs.signature.signature_of.Goals as goal

@@ -1,6 +1,5 @@
 -- What is read first and second, and what is left.
-use Rattle.std.proofs.Common.{◌≡◌, ◌∙◌, ap, arith, sym}
-use Rattle.std.specs.Prelude.{[], length}
+use Rattle.std.proofs.Common.{◌∙◌, ap, arith, sym}
 use Rattle.ssh_kex.specs.Signature.{two_strings}
 use Rattle.ssh_kex.proofs.Parting.{both_there, none_left, no_first, no_second, not_at_end}
 use Rattle.ssh_kex.proofs.signature.two_strings.Goals as goal

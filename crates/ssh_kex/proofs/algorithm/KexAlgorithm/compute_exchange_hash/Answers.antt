@@ -1,4 +1,4 @@
-use Rattle.std.proofs.Common.{◌∙◌, ap, sym}
+use Rattle.std.proofs.Common.{◌∙◌, sym}
 use Rattle.ssh_kex.proofs.Secrets.{hash_skipped, hash_held}
 use Rattle.ssh_kex.proofs.algorithm.KexAlgorithm.compute_exchange_hash.Goals as goal
 

@@ -1,4 +1,4 @@
-use Rattle.std.proofs.Common.{◌∙◌, ap, refl, sym, arith}
+use Rattle.std.proofs.Common.{ap, refl, arith}
 use Rattle.ssh_wire.specs.Fields.{answer_of}
 use Rattle.ssh_kex.proofs.Sizes.{left_behind, not_refused, sizes_read, sizes_short}
 use Rattle.ssh_kex.proofs.group.GexParams.decode.Goals as goal

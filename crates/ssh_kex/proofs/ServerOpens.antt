@@ -1,0 +1,159 @@
+-- A client's KEXINIT and its NEWKEYS are rows of a server's machine.
+use Rattle.std.proofs.Common.{◌≡◌, ℕ, ◌<◌, ◌^◌, List, [], ◌∷◌, length, refl, sym, ap, subst, ◌∙◌, true, false, Option, Some, None, is_some, Result, Ok, Err, inr}
+use Rattle.std.specs.Prelude.{IfOk, IfSome}
+use Rattle.ssh_negotiate.specs.Causes.{was_strict}
+use Rattle.ssh_negotiate.specs.Tables.{shape_of}
+use Rattle.ssh_negotiate.specs.declared.kex.KexCause.{KexCause}
+use Rattle.ssh_negotiate.specs.declared.negotiation.Names.{Names}
+use Rattle.ssh_packet.specs.Writing.{Writer}
+use Rattle.ssh_packet.specs.declared.keys.CipherPair.{CipherPair}
+use Rattle.ssh_packet.specs.declared.reader.Incoming.{Incoming}
+use Rattle.ssh_wire.specs.declared.error.Error.{Error}
+use Rattle.ssh_wire.specs.declared.side.Side.TheVariants.{Server}
+use Rattle.ssh_kex.specs.Views.{EndsAtOnce, HasKeys, Lasts}
+use Rattle.ssh_kex.specs.Messages.{is_gex, newkeys}
+use Rattle.ssh_kex.specs.ServerRows.{CanAnswer, OpensServer}
+use Rattle.ssh_kex.specs.ServerViews.{CanAsk, IsFresh, server_machine, server_opened}
+use Rattle.ssh_kex.specs.Setting.{Says, Setting, Opened, kept_of}
+use Rattle.ssh_kex.specs.Stages.{Machine, AwaitsRequest, AwaitsValue, OpensBy}
+use Rattle.ssh_kex.specs.Stepping.{Progresses}
+use Rattle.ssh_kex.specs.declared.config.Config.{Config}
+use Rattle.ssh_kex.specs.declared.exchange.Exchange.{Exchange}
+use Rattle.ssh_kex.specs.declared.exchange.FinishedExchange.{FinishedExchange}
+use Rattle.ssh_kex.specs.declared.exchange.GexChosen.{GexChosen}
+use Rattle.ssh_kex.specs.declared.progress.KexProgress.{KexProgress}
+use Rattle.ssh_kex.specs.declared.progress.KexProgress.TheVariants.{NeedsReply}
+use Rattle.ssh_kex.specs.declared.server_kex.ServerState.{ServerState}
+use Rattle.ssh_kex.specs.declared.server_kex.ServerState.TheVariants as states
+use Rattle.ssh_kex.proofs.Ended.{last_done}
+use Rattle.ssh_kex.proofs.Presenting.{is_presented}
+use Rattle.ssh_kex.proofs.Refused.{reads_kexinit}
+
+-- a machine that is at its beginning
+starts : (config : Config) (cause : KexCause) (x : Exchange) (state : ServerState) (m : Machine) → server_machine config cause x state ≡ m → state ≡ states.Created → server_machine config cause x states.Created ≡ m
+starts config cause x state m v s = ap (server_machine config cause x) (sym s) ∙ v
+
+abbrev setting_with : Config → KexCause → Exchange → Setting
+setting_with config cause w = record { side = Server; config = config; client_id = w.client_id; server_id = w.server_id; cause = cause }
+
+abbrev opened_by : Exchange → List ℕ → Names → Opened
+opened_by x payload n = record { names = n; own_kexinit = x.server_kex_init; peer_kexinit = payload }
+
+-- ---- values are to be exchanged
+
+opens_value : (says : Says) (config : Config) (cause : KexCause) (x y : Exchange) (n : Names) (i : Incoming) (w : Writer) → IsFresh config x → OpensServer says.offers config cause x y i.seqn i.payload.now n → (shape_of n.kex).skip ≡ false → is_gex n.kex ≡ false → Progresses says (server_machine config cause x states.Created) (Some i) w (NeedsReply (server_machine config cause y (states.AwaitsValue n)) false) w
+opens_value says config cause x y n i w f o skip gex =
+    inr (record {
+      kept = refl;
+      written = [];
+      takes = record {
+        names = n;
+        reads = reads_kexinit (server_machine config cause x states.Created).setting i.seqn i.payload.now n o.reads;
+        exchanges = skip;
+        offered = o.offered skip;
+        opens = subst (λ b. OpensBy Server b says (server_machine config cause x states.Created).setting (opened_by x i.payload.now n) [] (AwaitsValue (server_opened y n) y.gex)) (sym gex)
+            (record { written_is = refl; next_is = ap (λ (z : Exchange). AwaitsValue (server_opened z n) z.gex) o.exchange_is ∙ ap (AwaitsValue (opened_by x i.payload.now n)) f.gex });
+      };
+      setting_is = ap (setting_with config cause) o.exchange_is;
+      reset_is = refl;
+      puts = refl;
+    })
+
+opens_request : (says : Says) (config : Config) (cause : KexCause) (x y : Exchange) (n : Names) (i : Incoming) (w : Writer) → IsFresh config x → OpensServer says.offers config cause x y i.seqn i.payload.now n → (shape_of n.kex).skip ≡ false → is_gex n.kex ≡ true → Progresses says (server_machine config cause x states.Created) (Some i) w (NeedsReply (server_machine config cause y (states.AwaitsRequest n)) false) w
+opens_request says config cause x y n i w f o skip gex =
+    inr (record {
+      kept = refl;
+      written = [];
+      takes = record {
+        names = n;
+        reads = reads_kexinit (server_machine config cause x states.Created).setting i.seqn i.payload.now n o.reads;
+        exchanges = skip;
+        offered = o.offered skip;
+        opens = subst (λ b. OpensBy Server b says (server_machine config cause x states.Created).setting (opened_by x i.payload.now n) [] (AwaitsRequest (server_opened y n))) (sym gex)
+            (record { written_is = refl; next_is = ap (λ (z : Exchange). AwaitsRequest (server_opened z n)) o.exchange_is });
+      };
+      setting_is = ap (setting_with config cause) o.exchange_is;
+      reset_is = refl;
+      puts = refl;
+    })
+
+pub opened_value : (says : Says) (config : Config) (cause : KexCause) (x y : Exchange) (state : ServerState) (m : Machine) (n : Names) (i : Incoming) (w : Writer) → server_machine config cause x state ≡ m → state ≡ states.Created → IsFresh config x → OpensServer says.offers config cause x y i.seqn i.payload.now n → (shape_of n.kex).skip ≡ false → is_gex n.kex ≡ false → Progresses says m (Some i) w (NeedsReply (server_machine config cause y (states.AwaitsValue n)) false) w
+opened_value says config cause x y state m n i w v s f o skip gex =
+    subst (λ k. Progresses says k (Some i) w (NeedsReply (server_machine config cause y (states.AwaitsValue n)) false) w) (starts config cause x state m v s) (opens_value says config cause x y n i w f o skip gex)
+
+pub opened_request : (says : Says) (config : Config) (cause : KexCause) (x y : Exchange) (state : ServerState) (m : Machine) (n : Names) (i : Incoming) (w : Writer) → server_machine config cause x state ≡ m → state ≡ states.Created → IsFresh config x → OpensServer says.offers config cause x y i.seqn i.payload.now n → (shape_of n.kex).skip ≡ false → is_gex n.kex ≡ true → Progresses says m (Some i) w (NeedsReply (server_machine config cause y (states.AwaitsRequest n)) false) w
+opened_request says config cause x y state m n i w v s f o skip gex =
+    subst (λ k. Progresses says k (Some i) w (NeedsReply (server_machine config cause y (states.AwaitsRequest n)) false) w) (starts config cause x state m v s) (opens_request says config cause x y n i w f o skip gex)
+
+pub keeps_value : (Offered : _) (config : Config) (cause : KexCause) (x y : Exchange) (n : Names) (seqn : ℕ) (payload : List ℕ) → IsFresh config x → OpensServer Offered config cause x y seqn payload n → length payload < 2 ^ 31 → (shape_of n.kex).skip ≡ false → is_gex n.kex ≡ false → CanAnswer config n y
+keeps_value Offered config cause x y n seqn payload f o short skip gex =
+    let shown = is_presented config.preferred config.host (was_strict cause) payload n o.reads.read in
+    subst (CanAnswer config n) (sym o.exchange_is)
+    (record {
+      blobs = f.blobs;
+      client_id = f.client_id;
+      server_id = f.server_id;
+      client_kex_init = short;
+      server_kex_init = f.server_kex_init;
+      group = subst (λ (g : Option GexChosen). IfSome g (λ (g : GexChosen). (length g.group.prime < 2 ^ 31) × (length g.group.generator < 2 ^ 31))) (sym f.gex) tt;
+      kind = ap is_some f.gex ∙ sym gex;
+      exchanges = skip;
+      shown = shown.0;
+      presents = shown.1;
+    })
+
+pub keeps_request : (Offered : _) (config : Config) (cause : KexCause) (x y : Exchange) (n : Names) (seqn : ℕ) (payload : List ℕ) → IsFresh config x → OpensServer Offered config cause x y seqn payload n → length payload < 2 ^ 31 → (shape_of n.kex).skip ≡ false → is_gex n.kex ≡ true → CanAsk config n y
+keeps_request Offered config cause x y n seqn payload f o short skip gex =
+    let shown = is_presented config.preferred config.host (was_strict cause) payload n o.reads.read in
+    subst (CanAsk config n) (sym o.exchange_is)
+    (record {
+      blobs = f.blobs;
+      client_id = f.client_id;
+      server_id = f.server_id;
+      client_kex_init = short;
+      server_kex_init = f.server_kex_init;
+      kind = gex;
+      exchanges = skip;
+      shown = shown.0;
+      presents = shown.1;
+    })
+
+-- ---- no values are
+
+empty_values : (config : Config) (x y : Exchange) (payload : List ℕ) → IsFresh config x → y ≡ record x { client_kex_init = payload } → y ≡ record { client_id = x.client_id; server_id = x.server_id; client_kex_init = payload; server_kex_init = x.server_kex_init; client_ephemeral = []; server_ephemeral = []; gex = None }
+empty_values config x y payload f e =
+    e ∙ ap (λ v. with_values v x.server_ephemeral x.gex) f.client_ephemeral ∙ ap (λ v. with_values [] v x.gex) f.server_ephemeral ∙ ap (λ g. with_values [] [] g) f.gex
+  where
+    with_values : List ℕ → List ℕ → Option GexChosen → Exchange
+    with_values a b g = record { client_id = x.client_id; server_id = x.server_id; client_kex_init = payload; server_kex_init = x.server_kex_init; client_ephemeral = a; server_ephemeral = b; gex = g }
+
+skips : (says : Says) (config : Config) (cause : KexCause) (x y : Exchange) (n : Names) (i : Incoming) (old new : Writer) (p : KexProgress Machine) → IsFresh config x → OpensServer says.offers config cause x y i.seqn i.payload.now n → (shape_of n.kex).skip ≡ true → EndsAtOnce Server cause y n p old new → Progresses says (server_machine config cause x states.Created) (Some i) old p new
+skips says config cause x y n i old new p f o skip h =
+    subst (λ q. Progresses says (server_machine config cause x states.Created) (Some i) old q new) (sym h.done)
+    (record {
+      exchange = y;
+      made = kept_of cause n None [];
+      written = newkeys ∷ [];
+      ends = inr (record {
+        names = n;
+        reads = reads_kexinit (server_machine config cause x states.Created).setting i.seqn i.payload.now n o.reads;
+        skips = skip;
+        written_is = refl;
+        exchange_is = empty_values config x y i.payload.now f o.exchange_is;
+        made_is = refl;
+        host_is = refl;
+      });
+      newkeys = record { exchange_is = refl; names_is = refl; hash_is = refl; session_is = refl; keys_is = refl; seals = h.keys.seals; opens = h.keys.opens };
+      puts = (new, h.puts, refl);
+    })
+
+pub skipped : (says : Says) (config : Config) (cause : KexCause) (x y : Exchange) (state : ServerState) (m : Machine) (n : Names) (i : Incoming) (old new : Writer) (r : Result (KexProgress Machine) Error) → server_machine config cause x state ≡ m → state ≡ states.Created → IsFresh config x → OpensServer says.offers config cause x y i.seqn i.payload.now n → (shape_of n.kex).skip ≡ true → IfOk r (λ p. EndsAtOnce Server cause y n p old new) → IfOk r (λ p. Progresses says m (Some i) old p new)
+skipped says config cause x y state m n i old new (Ok p) v s f o skip h = subst (λ k. Progresses says k (Some i) old p new) (starts config cause x state m v s) (skips says config cause x y n i old new p f o skip h)
+skipped says config cause x y state m n i old new (Err e) v s f o skip h = tt
+
+-- ---- NEWKEYS
+
+pub ended : (says : Says) (config : Config) (cause : KexCause) (x : Exchange) (state : ServerState) (m : Machine) (made : FinishedExchange) (cipher : CipherPair) (i : Incoming) (w : Writer) (r : Result (KexProgress Machine) Error) → server_machine config cause x state ≡ m → state ≡ states.AwaitsNewkeys made cipher → HasKeys Server made cipher → Lasts x None made cipher i.payload.now r → IfOk r (λ p. Progresses says m (Some i) w p w)
+ended says config cause x state m made cipher i w r v s keys h =
+    let same = ap (server_machine config cause x) (sym s) ∙ v in
+    last_done says Server m i w x None made cipher r (ap (λ (k : Machine). k.stage) (sym same)) (ap (λ (k : Machine). k.setting.side) (sym same)) keys h

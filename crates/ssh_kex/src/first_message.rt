@@ -1,0 +1,56 @@
+//! The peer's KEXINIT.
+
+ghost use Rattle.std.specs.Prelude.{IfOk, IfErr};
+ghost use Rattle.ssh_wire.specs.declared.side.Side.TheVariants.{Client as client_side};
+ghost use Rattle.ssh_kex.specs.Opening.{IsLateWhere, Reads, RefusesNames};
+ghost use Rattle.ssh_kex.specs.Setting.{offers_of};
+
+use crate::config::Config;
+use crate::message::has_type;
+use ssh_negotiate::{Client, KexCause, Names, Select};
+use ssh_packet::Incoming;
+use ssh_wire::Error;
+use std::alloc::Global;
+
+/// Whether a KEXINIT comes too late: under strict key exchange the first is the first packet.
+pub(crate) fn is_late(cause: &KexCause, is_strict: bool, seqn: u32) -> bool
+    ensures { IsLateWhere result cause.now is_strict seqn }
+{
+    match cause {
+        KexCause::Initial => is_strict && seqn != 1,
+        KexCause::Rekey { .. } => false,
+    }
+}
+
+/// The names that a client takes from the peer's KEXINIT.
+pub(crate) fn client_names(
+    alloc: Global,
+    config: &Config,
+    cause: &KexCause,
+    incoming: &Incoming<'_>,
+) -> Result<Names, Error>
+    ensures ok { IfOk result (λ n. Reads client_side (offers_of client_side config.now) cause.now incoming.now.seqn incoming.now.payload.now n) }
+    ensures err { IfErr result (λ e. RefusesNames client_side (offers_of client_side config.now) cause.now incoming.now.seqn incoming.now.payload.now e) }
+{
+    if !has_type(incoming.payload, 20) {
+        return Err(Error::KexInit);
+    }
+    let names = match Client::read_kex(
+        alloc,
+        incoming.payload,
+        &config.preferred,
+        None,
+        None,
+        cause,
+    ) {
+        Ok(names) => names,
+        Err(error) => return Err(error),
+    };
+    if is_late(cause, names.strict_kex, incoming.seqn) {
+        return Err(Error::StrictKeyExchangeViolation {
+            message_type: 20,
+            sequence_number: incoming.seqn.wrapping_sub(1) as usize,
+        });
+    }
+    Ok(names)
+}

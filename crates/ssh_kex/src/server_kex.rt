@@ -1,0 +1,324 @@
+//! A server's side of an exchange, step by step.
+
+ghost use Rattle.std.specs.Prelude.{◌≡◌, ◌≤◌, ◌+◌, ◌<◌, ◌^◌, ◌||◌, true, List, [], ℕ, length, is_some, Option, Some, None, Ok, Err, IfOk, IfErr, OnOk, OnErr, IfSome};
+ghost use Rattle.ssh_negotiate.specs.Causes.{was_strict};
+ghost use Rattle.ssh_negotiate.specs.Laws.{AreShort};
+ghost use Rattle.ssh_negotiate.specs.Reading.{behind_cookie, cookie_from, kexinit_drawn};
+ghost use Rattle.ssh_packet.specs.Sealing.{IsAdmissible, IsPadded, item_of, stream_after};
+ghost use Rattle.ssh_packet.specs.Writing.{SameButRoom, Sends};
+ghost use Rattle.ssh_wire.specs.Forms.{AreBytes};
+ghost use Rattle.ssh_kex.specs.Refusals.{IsCreated};
+ghost use Rattle.ssh_wire.specs.Lines.{id_text};
+ghost use Rattle.ssh_wire.specs.declared.error.Error.TheVariants.{Memory};
+ghost use Rattle.ssh_wire.specs.declared.side.Side.TheVariants.{Server as server_side};
+ghost use Rattle.ssh_kex.specs.Parts.{KeepsAgreement, KeepsGroups, KeepsHosts};
+ghost use Rattle.ssh_kex.specs.ServerRows.{AreShortBlobs};
+ghost use Rattle.ssh_kex.specs.ServerViews.{ServerKeeps, server_machine};
+ghost use Rattle.ssh_kex.specs.Setting.{behind_guess, offers_of};
+ghost use Rattle.ssh_kex.specs.Stages.{Created as created_stage, has_ignored, is_strict, names_of};
+ghost use Rattle.ssh_kex.specs.declared.progress.KexProgress.TheVariants.{NeedsReply};
+ghost use Rattle.ssh_kex.specs.Stepping.{asks_agreement, asks_hosts, asks_groups, next_of, says_of, denies_of, Progresses, RefusesStep, PutsFront};
+
+use crate::algorithm::KexAlgorithm;
+use crate::config::Config;
+use crate::exchange::{Exchange, FinishedExchange};
+use crate::kexinit_message::send_kexinit;
+use crate::last_message::{end_at_once, last};
+use crate::opening::open;
+use crate::parts::{Agreement, GroupLookup, HostKeys, Parts};
+use crate::progress::KexProgress;
+use crate::request::answer_request;
+use crate::value::answer_value;
+use rand_core::Rng;
+use ssh_negotiate::{KexCause, Names};
+use ssh_packet::{CipherPair, Incoming, PacketWriter};
+use ssh_wire::{Blob, Error, SshId};
+use std::alloc::Global;
+use std::marker::Model;
+
+#[derive(Debug, Drop)]
+enum ServerState {
+    Created,
+    AwaitsRequest {
+        names: Names,
+    },
+    AwaitsValue {
+        names: Names,
+    },
+    AwaitsNewkeys {
+        made: FinishedExchange,
+        cipher: CipherPair,
+    },
+}
+
+/// A server's side of an exchange.
+#[derive(Debug, Drop)]
+pub struct ServerKex<'c> {
+    config: &'c Config,
+    cause: KexCause,
+    exchange: Exchange,
+    state: ServerState,
+    alloc: Global,
+}
+
+impl<'c> Model for ServerKex<'c> {
+    ghost use Rattle.ssh_kex.specs.Stages.{Machine};
+    ghost use Rattle.ssh_kex.specs.ServerViews.{ServerKeeps, server_machine};
+
+    ghost Value = { Machine };
+
+    ghost view = { λ k. server_machine k.config.now k.cause k.exchange k.state };
+
+    ghost invariant = { λ k. ServerKeeps k.config.now k.exchange k.state };
+}
+
+impl<'c> ServerKex<'c> {
+    /// A server's side of the exchange that the cause begins, before its KEXINIT. Memory.
+    pub fn new(
+        alloc: Global,
+        config: &'c Config,
+        client_sshid: &[u8],
+        server_sshid: &SshId,
+        cause: KexCause,
+    ) -> Result<ServerKex<'c>, Error>
+        requires client_id { length client_sshid.now < 2 ^ 31 }
+        requires server_id { length (id_text server_sshid.now) < 2 ^ 31 }
+        requires lists { AreShort (offers_of server_side config.now) }
+        requires blobs { AreShortBlobs config.now.host }
+        ensures ok { IfOk result (λ k. k ≡ record {
+          setting = record {
+            side = server_side;
+            config = config.now;
+            client_id = client_sshid.now;
+            server_id = id_text server_sshid.now;
+            cause = cause;
+          };
+          stage = created_stage [];
+        }) }
+        ensures err { IfErr result (λ e. e ≡ Memory) }
+    {
+        Ok(ServerKex {
+            config,
+            cause,
+            exchange: Exchange::new(alloc, client_sshid, server_sshid.as_kex_hash_bytes())?,
+            state: ServerState::Created,
+            alloc,
+        })
+    }
+
+    /// Sends the own KEXINIT, with 16 drawn bytes as cookie, and keeps it. It is for a machine before the client's. Memory, and
+    /// then machine and writer are as they were.
+    pub fn kexinit<R: Rng>(&mut self, rng: &mut R, output: &mut PacketWriter) -> Result<(), Error>
+        requires { IsCreated self.old.stage }
+        ensures ok { OnOk result (self.new ≡ record self.old { stage = created_stage (kexinit_drawn self.old.setting.config.preferred (Some self.old.setting.config.host) (R.stream rng.old)) }) }
+        ensures sent { OnOk result (Sends output.old (kexinit_drawn self.old.setting.config.preferred (Some self.old.setting.config.host) (R.stream rng.old)) (behind_cookie (R.stream rng.old)) output.new) }
+        ensures stream { OnOk result (R.stream rng.new ≡ stream_after output.old.sealing (kexinit_drawn self.old.setting.config.preferred (Some self.old.setting.config.host) (R.stream rng.old)) (behind_cookie (R.stream rng.old))) }
+        ensures admissible { OnOk result (IsAdmissible output.old.sealing (item_of output.old.sealing (kexinit_drawn self.old.setting.config.preferred (Some self.old.setting.config.host) (R.stream rng.old)) (behind_cookie (R.stream rng.old)))) }
+        ensures padded { OnOk result (IsPadded output.old.sealing (item_of output.old.sealing (kexinit_drawn self.old.setting.config.preferred (Some self.old.setting.config.host) (R.stream rng.old)) (behind_cookie (R.stream rng.old)))) }
+        ensures cookie { OnOk result (length (cookie_from (R.stream rng.old)) ≡ 16) }
+        ensures bytes { OnOk result (AreBytes (cookie_from (R.stream rng.old))) }
+        ensures unchanged { OnErr result ((self.new ≡ self.old) × SameButRoom output.old output.new) }
+        ensures err { IfErr result (λ e. e ≡ Memory) }
+    {
+        let kexinit = send_kexinit(
+            self.alloc,
+            &self.config.preferred,
+            Some(&self.config.host),
+            rng,
+            output,
+        )?;
+        self.exchange.server_kex_init = kexinit;
+        Ok(())
+    }
+
+    /// Whether the client's KEXINIT was read.
+    pub fn peer_kexinit_received(&self) -> bool
+        ensures { result ≡ is_some (names_of self.now.stage) }
+    {
+        self.names().is_some()
+    }
+
+    /// Whether the names are strict; not before the client's KEXINIT was read.
+    pub fn strict_kex(&self) -> bool
+        ensures { result ≡ is_strict (names_of self.now.stage) }
+    {
+        match self.names() {
+            Some(names) => names.strict_kex,
+            None => false,
+        }
+    }
+
+    /// Whether a wrong guess of the client was dropped.
+    pub fn guess_ignored(&self) -> bool
+        ensures { result ≡ has_ignored (names_of self.now.stage) }
+    {
+        match self.names() {
+            Some(names) => names.guessed_ignored,
+            None => false,
+        }
+    }
+
+    /// One message of the client. A wrong guess is dropped. A refusal leaves no machine, and it has written nothing, but where
+    /// memory is wanting behind a reply that was written.
+    pub fn step<A: Agreement, H: HostKeys, G: GroupLookup, R: Rng>(
+        self,
+        parts: &mut Parts<A, H, G, R>,
+        input: Option<Incoming<'_>>,
+        output: &mut PacketWriter,
+    ) -> Result<KexProgress<ServerKex<'c>>, Error>
+        requires { IfSome input (λ i. length i.payload.now < 2 ^ 31) }
+        ensures agreement { KeepsAgreement A.lawful A.obliging A.offered A.refusals A.calls parts.old.agreement parts.new.agreement }
+        ensures hosts { KeepsHosts H.lawful H.obliging H.accepts H.trusts H.refused_sign H.refused_verify H.refused_check H.calls parts.old.hosts parts.new.hosts }
+        ensures groups { KeepsGroups G.lawful G.obliging G.group G.refusals G.calls parts.old.groups parts.new.groups }
+        ensures agreement_calls { A.calls parts.new.agreement ≤ A.calls parts.old.agreement + asks_agreement self.entry.setting.side self.entry.stage (next_of result) }
+        ensures hosts_calls { H.calls parts.new.hosts ≤ H.calls parts.old.hosts + asks_hosts self.entry.stage }
+        ensures groups_calls { G.calls parts.new.groups ≤ G.calls parts.old.groups + asks_groups self.entry.stage }
+        ensures goes { IfOk result (λ p. Progresses (says_of A.lawful A.offered A.client_makes A.server_makes A.agrees H.lawful H.obliging H.accepts H.trusts H.makes G.lawful G.group self.entry.setting.config parts.old.agreement parts.old.hosts parts.old.groups) self.entry input.entry output.old p output.new) }
+        ensures causes { IfErr result (λ e. RefusesStep (says_of A.lawful A.offered A.client_makes A.server_makes A.agrees H.lawful H.obliging H.accepts H.trusts H.makes G.lawful G.group self.entry.setting.config parts.old.agreement parts.old.hosts parts.old.groups) (denies_of A.obliging A.offered A.client_makes A.server_makes A.refusals H.obliging H.accepts H.refused_sign H.refused_verify G.obliging G.refusals parts.old.agreement parts.new.agreement parts.old.hosts parts.new.hosts parts.old.groups parts.new.groups) self.entry input.entry e) }
+        ensures front { OnErr result (PutsFront self.entry.stage output.old output.new) }
+        ensures unchanged { IfErr result (λ e. (e ≡ Memory → ⊥) → SameButRoom output.old output.new) }
+    {
+        let Some(incoming) = input else {
+            return Err(Error::KexInit);
+        };
+        let ServerKex {
+            config,
+            cause,
+            mut exchange,
+            state,
+            alloc,
+        } = self;
+        match state {
+            ServerState::Created => {
+                let names = match open(
+                    alloc,
+                    config,
+                    &cause,
+                    &parts.agreement,
+                    &mut exchange,
+                    &incoming,
+                ) {
+                    Ok(names) => names,
+                    Err(error) => return Err(error),
+                };
+                let algorithm = KexAlgorithm::new(alloc, names.kex);
+                if algorithm.skip_exchange() {
+                    return end_at_once(
+                        &algorithm,
+                        &cause,
+                        exchange,
+                        names,
+                        true,
+                        &mut parts.rng,
+                        output,
+                    );
+                }
+                if algorithm.is_dh_gex() {
+                    let state = ServerState::AwaitsRequest { names };
+                    return Ok(waits(alloc, config, cause, exchange, state, false));
+                }
+                let state = ServerState::AwaitsValue { names };
+                Ok(waits(alloc, config, cause, exchange, state, false))
+            }
+            ServerState::AwaitsRequest { names } => {
+                match answer_request(
+                    alloc,
+                    &mut parts.groups,
+                    &mut parts.rng,
+                    incoming.payload,
+                    output,
+                ) {
+                    Ok(gex) => {
+                        exchange.gex = Some(gex);
+                        let state = ServerState::AwaitsValue { names };
+                        Ok(waits(alloc, config, cause, exchange, state, false))
+                    }
+                    Err(error) => Err(error),
+                }
+            }
+            ServerState::AwaitsValue { names } => {
+                if names.ignore_guessed {
+                    let state = ServerState::AwaitsValue {
+                        names: behind_guess(names),
+                    };
+                    return Ok(waits(alloc, config, cause, exchange, state, false));
+                }
+                match answer_value(
+                    alloc,
+                    config,
+                    &cause,
+                    &names,
+                    parts,
+                    &mut exchange,
+                    incoming.payload,
+                    output,
+                ) {
+                    Ok((made, cipher)) => {
+                        let is_strict = begins_again(&made, &cause);
+                        let state = ServerState::AwaitsNewkeys { made, cipher };
+                        Ok(waits(alloc, config, cause, exchange, state, is_strict))
+                    }
+                    Err(error) => Err(error),
+                }
+            }
+            ServerState::AwaitsNewkeys { made, cipher } => {
+                last(exchange, None, made, cipher, incoming.payload)
+            }
+        }
+    }
+
+    /// The names, once the client's KEXINIT was read.
+    fn names(&self) -> Option<Names>
+        ensures { result ≡ names_of self.now.stage }
+    {
+        match &self.state {
+            ServerState::Created => None,
+            ServerState::AwaitsRequest { names } | ServerState::AwaitsValue { names } => Some(
+                *names,
+            ),
+            ServerState::AwaitsNewkeys { made, .. } => Some(made.names),
+        }
+    }
+}
+
+/// A machine that waits for the next message.
+fn waits<'c>(
+    alloc: Global,
+    config: &'c Config,
+    cause: KexCause,
+    exchange: Exchange,
+    state: ServerState,
+    reset_seqn: bool,
+) -> KexProgress<ServerKex<'c>>
+    requires { ServerKeeps config.now exchange state }
+    ensures { result ≡ NeedsReply (server_machine config.now cause exchange state) reset_seqn }
+{
+    KexProgress::NeedsReply {
+        kex: ServerKex {
+            config,
+            cause,
+            exchange,
+            state,
+            alloc,
+        },
+        reset_seqn,
+    }
+}
+
+/// Whether the numbers of the own packets begin again behind NEWKEYS.
+fn begins_again(made: &FinishedExchange, cause: &KexCause) -> bool
+    ensures { result ≡ (made.now.names.strict_kex || was_strict cause.now) }
+{
+    made.names.strict_kex || cause.is_strict_rekey()
+}
+
+/// The names behind a wrong guess.
+fn behind_guess(names: Names) -> Names
+    ensures { result ≡ behind_guess server_side names }
+{
+    Names {
+        ignore_guessed: false,
+        guessed_ignored: true,
+        ..names
+    }
+}
