@@ -3,7 +3,7 @@
 # Runs the program on each case of the folder, or, if none is given, on those of cases/ and on the examples, and
 # compares what it writes and its exit status. A case is a folder with `args` (one word a line), `stdin`, `stdout` and
 # `status`; in place of `stdin` a line `COUNT TEXT` in `repeat` stands for so many lines of the text. An example is a
-# script NAME.txt of the command `clear`, with NAME.stdout and NAME.status beside it.
+# script NAME.txt of the command `clear`, or of `run` where its name begins so, with NAME.stdout and NAME.status beside it.
 set -u
 cd "$(dirname "$0")/.." || exit 1
 agree=0
@@ -36,7 +36,11 @@ while read -r args; do
 done < <(find "${1:-cases}" -name args | sort)
 if [ "$#" = 0 ]; then
   for script in examples/*.txt; do
-    ./sshlink clear <"$script" >"$written"
+    case $(basename "$script") in
+    run*) word=run ;;
+    *) word=clear ;;
+    esac
+    ./sshlink "$word" <"$script" >"$written"
     judge "$script" "$?" "${script%.txt}.stdout" "${script%.txt}.status"
   done
 fi

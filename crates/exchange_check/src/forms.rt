@@ -1,15 +1,14 @@
 //! Rows on the exchange's forms: sizes, groups, secrets, canonical signatures, lengths of keys, and calls out of turn.
 
-use crate::given::Given;
 use ssh_kex::{
-    DhGroup, GexParams, KexAlgorithm, Keys, SharedSecret, canonicalize_ecdsa_signature,
-    compute_keys,
+    DhGroup, GexParams, KexAlgorithm, SharedSecret, canonicalize_ecdsa_signature, compute_keys,
 };
 use ssh_mac::{HashValue, mac};
 use ssh_negotiate::{Names, kex};
 use ssh_packet::cipher;
 use ssh_packet::compression::Compression;
 use ssh_wire::{Algorithm, Blob, Error, Reader};
+use uses::GivenAgreement;
 use vector_rows::{Fault, Row, Words, say, say_bytes, say_number, say_shown};
 
 /// Answers a row of one of these kinds. False where the kind is another.
@@ -39,7 +38,7 @@ fn mac_of(row: &mut Row<'_>) -> Result<mac::Name, Fault> {
 }
 
 /// The next words, KEX CIPHER MAC MAC, as names that were agreed on.
-pub(crate) fn names_of(row: &mut Row<'_>) -> Result<Names, Fault> {
+fn names_of(row: &mut Row<'_>) -> Result<Names, Fault> {
     Ok(Names {
         kex: kex_of(row)?,
         key: Algorithm::Ed25519,
@@ -53,26 +52,6 @@ pub(crate) fn names_of(row: &mut Row<'_>) -> Result<Names, Fault> {
         host_key_is_certificate: false,
         strict_kex: false,
     })
-}
-
-/// Appends six keys, in the order of their letters.
-pub(crate) fn say_keys(found: &mut String, keys: &Keys) -> Result<(), Fault> {
-    say_bytes(found, keys.iv_c2s.as_bytes())?;
-    say_bytes(found, keys.iv_s2c.as_bytes())?;
-    say_bytes(found, keys.key_c2s.as_bytes())?;
-    say_bytes(found, keys.key_s2c.as_bytes())?;
-    say_bytes(found, keys.mac_c2s.as_bytes())?;
-    say_bytes(found, keys.mac_s2c.as_bytes())
-}
-
-/// Whether six keys are six others.
-pub(crate) fn are_same(keys: &Keys, others: &Keys) -> bool {
-    keys.iv_c2s == others.iv_c2s
-        && keys.iv_s2c == others.iv_s2c
-        && keys.key_c2s == others.key_c2s
-        && keys.key_s2c == others.key_s2c
-        && keys.mac_c2s == others.mac_c2s
-        && keys.mac_s2c == others.mac_s2c
 }
 
 /// The next words as three sizes.
@@ -185,14 +164,14 @@ fn request(row: &mut Row<'_>, found: &mut String) -> Result<(), Fault> {
 /// `unstarted KEX`: what `compute_shared_secret` answers before `client_dh`.
 fn unstarted(row: &mut Row<'_>, found: &mut String) -> Result<(), Fault> {
     let mut algorithm = KexAlgorithm::new(row.alloc(), kex_of(row)?);
-    let mut given = Given::of(Vec::new(row.alloc()), Vec::new(row.alloc()));
+    let mut given = GivenAgreement::new(row.alloc());
     say_shown(found, &algorithm.compute_shared_secret(&mut given, b""))
 }
 
 /// `used KEX PUBLIC SECRET`: what `client_dh` writes, and what `compute_shared_secret` answers twice behind it.
 fn used(row: &mut Row<'_>, found: &mut String) -> Result<(), Fault> {
     let mut algorithm = KexAlgorithm::new(row.alloc(), kex_of(row)?);
-    let mut given = Given::of(row.bytes()?, row.bytes()?);
+    let mut given = GivenAgreement::of(row.alloc(), row.bytes()?, row.bytes()?)?;
     let mut own = Blob::new(Vec::new(row.alloc()));
     let mut out = Vec::new(row.alloc());
     algorithm.client_dh(&mut given, &mut Words::of(&[]), &mut own, &mut out)?;

@@ -1,5 +1,7 @@
 -- What crates above cite: the lemmas of the laws, and what a server presents. Declares nothing.
+pub use Rattle.ssh_kex.proofs.Excluding.{rows_exclude}
 pub use Rattle.ssh_kex.proofs.Meeting.{ciphers_meet}
 pub use Rattle.ssh_kex.proofs.KeyBytes.{digest_bytes_are, key_bytes, keys_are_well}
 pub use Rattle.ssh_kex.proofs.Presenting.{is_presented}
 pub use Rattle.ssh_kex.proofs.Signatures.{canonical_once}
+pub use Rattle.ssh_kex.proofs.Uncounted.{AnswersSmall, DeniesNone, memory_alone}

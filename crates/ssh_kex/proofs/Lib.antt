@@ -22,3 +22,7 @@ mod Replied
 mod Sent
 pub mod Lemmas
 pub mod ClientLists
+mod ReadAgain
+mod Excluding
+mod Uncounted
+mod ServerRefusals

@@ -1,19 +1,21 @@
 -- A client's KEXINIT and its NEWKEYS are rows of a server's machine.
-use Rattle.std.proofs.Common.{◌≡◌, ℕ, ◌<◌, ◌^◌, List, [], ◌∷◌, length, refl, sym, ap, subst, ◌∙◌, true, false, Option, Some, None, is_some, Result, Ok, Err, inr}
-use Rattle.std.specs.Prelude.{IfOk, IfSome}
+use Rattle.std.proofs.Common.{◌≡◌, ℕ, ◌<◌, ◌^◌, List, [], ◌∷◌, length, refl, sym, ap, subst, ◌∙◌, Bool, true, false, Option, Some, None, is_some, Result, Ok, Err, inl, inr}
+use Rattle.std.specs.Prelude.{IfErr, IfOk, IfSome}
 use Rattle.ssh_negotiate.specs.Causes.{was_strict}
 use Rattle.ssh_negotiate.specs.Tables.{shape_of}
 use Rattle.ssh_negotiate.specs.declared.kex.KexCause.{KexCause}
 use Rattle.ssh_negotiate.specs.declared.negotiation.Names.{Names}
-use Rattle.ssh_packet.specs.Writing.{Writer}
+use Rattle.ssh_packet.specs.Writing.{SameButRoom, Writer}
 use Rattle.ssh_packet.specs.declared.keys.CipherPair.{CipherPair}
 use Rattle.ssh_packet.specs.declared.reader.Incoming.{Incoming}
 use Rattle.ssh_wire.specs.declared.error.Error.{Error}
+use Rattle.ssh_wire.specs.declared.error.Error.TheVariants.{Memory}
 use Rattle.ssh_wire.specs.declared.side.Side.TheVariants.{Server}
 use Rattle.ssh_kex.specs.Views.{EndsAtOnce, HasKeys, Lasts}
 use Rattle.ssh_kex.specs.Messages.{is_gex, newkeys}
+use Rattle.ssh_kex.specs.ServerAnswers.{AnswersOpening, RefusesKexinit}
 use Rattle.ssh_kex.specs.ServerRows.{CanAnswer, OpensServer}
-use Rattle.ssh_kex.specs.ServerViews.{CanAsk, IsFresh, server_machine, server_opened}
+use Rattle.ssh_kex.specs.ServerViews.{Begins, CanAsk, CanBegin, IsFresh, server_machine, server_opened}
 use Rattle.ssh_kex.specs.Setting.{Says, Setting, Opened, kept_of}
 use Rattle.ssh_kex.specs.Stages.{Machine, AwaitsRequest, AwaitsValue, OpensBy}
 use Rattle.ssh_kex.specs.Stepping.{Progresses}
@@ -41,8 +43,8 @@ opened_by x payload n = record { names = n; own_kexinit = x.server_kex_init; pee
 
 -- ---- values are to be exchanged
 
-opens_value : (says : Says) (config : Config) (cause : KexCause) (x y : Exchange) (n : Names) (i : Incoming) (w : Writer) → IsFresh config x → OpensServer says.offers config cause x y i.seqn i.payload.now n → (shape_of n.kex).skip ≡ false → is_gex n.kex ≡ false → Progresses says (server_machine config cause x states.Created) (Some i) w (NeedsReply (server_machine config cause y (states.AwaitsValue n)) false) w
-opens_value says config cause x y n i w f o skip gex =
+opens_value : (says : Says) (config : Config) (cause : KexCause) (x y : Exchange) (n : Names) (i : Incoming) (w w' : Writer) → SameButRoom w w' → IsFresh config x → OpensServer says.offers config cause x y i.seqn i.payload.now n → (shape_of n.kex).skip ≡ false → is_gex n.kex ≡ false → Progresses says (server_machine config cause x states.Created) (Some i) w (NeedsReply (server_machine config cause y (states.AwaitsValue n)) false) w'
+opens_value says config cause x y n i w w' same f o skip gex =
     inr (record {
       kept = refl;
       written = [];
@@ -56,11 +58,11 @@ opens_value says config cause x y n i w f o skip gex =
       };
       setting_is = ap (setting_with config cause) o.exchange_is;
       reset_is = refl;
-      puts = refl;
+      puts = same;
     })
 
-opens_request : (says : Says) (config : Config) (cause : KexCause) (x y : Exchange) (n : Names) (i : Incoming) (w : Writer) → IsFresh config x → OpensServer says.offers config cause x y i.seqn i.payload.now n → (shape_of n.kex).skip ≡ false → is_gex n.kex ≡ true → Progresses says (server_machine config cause x states.Created) (Some i) w (NeedsReply (server_machine config cause y (states.AwaitsRequest n)) false) w
-opens_request says config cause x y n i w f o skip gex =
+opens_request : (says : Says) (config : Config) (cause : KexCause) (x y : Exchange) (n : Names) (i : Incoming) (w w' : Writer) → SameButRoom w w' → IsFresh config x → OpensServer says.offers config cause x y i.seqn i.payload.now n → (shape_of n.kex).skip ≡ false → is_gex n.kex ≡ true → Progresses says (server_machine config cause x states.Created) (Some i) w (NeedsReply (server_machine config cause y (states.AwaitsRequest n)) false) w'
+opens_request says config cause x y n i w w' same f o skip gex =
     inr (record {
       kept = refl;
       written = [];
@@ -74,18 +76,10 @@ opens_request says config cause x y n i w f o skip gex =
       };
       setting_is = ap (setting_with config cause) o.exchange_is;
       reset_is = refl;
-      puts = refl;
+      puts = same;
     })
 
-pub opened_value : (says : Says) (config : Config) (cause : KexCause) (x y : Exchange) (state : ServerState) (m : Machine) (n : Names) (i : Incoming) (w : Writer) → server_machine config cause x state ≡ m → state ≡ states.Created → IsFresh config x → OpensServer says.offers config cause x y i.seqn i.payload.now n → (shape_of n.kex).skip ≡ false → is_gex n.kex ≡ false → Progresses says m (Some i) w (NeedsReply (server_machine config cause y (states.AwaitsValue n)) false) w
-opened_value says config cause x y state m n i w v s f o skip gex =
-    subst (λ k. Progresses says k (Some i) w (NeedsReply (server_machine config cause y (states.AwaitsValue n)) false) w) (starts config cause x state m v s) (opens_value says config cause x y n i w f o skip gex)
-
-pub opened_request : (says : Says) (config : Config) (cause : KexCause) (x y : Exchange) (state : ServerState) (m : Machine) (n : Names) (i : Incoming) (w : Writer) → server_machine config cause x state ≡ m → state ≡ states.Created → IsFresh config x → OpensServer says.offers config cause x y i.seqn i.payload.now n → (shape_of n.kex).skip ≡ false → is_gex n.kex ≡ true → Progresses says m (Some i) w (NeedsReply (server_machine config cause y (states.AwaitsRequest n)) false) w
-opened_request says config cause x y state m n i w v s f o skip gex =
-    subst (λ k. Progresses says k (Some i) w (NeedsReply (server_machine config cause y (states.AwaitsRequest n)) false) w) (starts config cause x state m v s) (opens_request says config cause x y n i w f o skip gex)
-
-pub keeps_value : (Offered : _) (config : Config) (cause : KexCause) (x y : Exchange) (n : Names) (seqn : ℕ) (payload : List ℕ) → IsFresh config x → OpensServer Offered config cause x y seqn payload n → length payload < 2 ^ 31 → (shape_of n.kex).skip ≡ false → is_gex n.kex ≡ false → CanAnswer config n y
+keeps_value : (Offered : _) (config : Config) (cause : KexCause) (x y : Exchange) (n : Names) (seqn : ℕ) (payload : List ℕ) → IsFresh config x → OpensServer Offered config cause x y seqn payload n → length payload < 2 ^ 31 → (shape_of n.kex).skip ≡ false → is_gex n.kex ≡ false → CanAnswer config n y
 keeps_value Offered config cause x y n seqn payload f o short skip gex =
     let shown = is_presented config.preferred config.host (was_strict cause) payload n o.reads.read in
     subst (CanAnswer config n) (sym o.exchange_is)
@@ -102,7 +96,7 @@ keeps_value Offered config cause x y n seqn payload f o short skip gex =
       presents = shown.1;
     })
 
-pub keeps_request : (Offered : _) (config : Config) (cause : KexCause) (x y : Exchange) (n : Names) (seqn : ℕ) (payload : List ℕ) → IsFresh config x → OpensServer Offered config cause x y seqn payload n → length payload < 2 ^ 31 → (shape_of n.kex).skip ≡ false → is_gex n.kex ≡ true → CanAsk config n y
+keeps_request : (Offered : _) (config : Config) (cause : KexCause) (x y : Exchange) (n : Names) (seqn : ℕ) (payload : List ℕ) → IsFresh config x → OpensServer Offered config cause x y seqn payload n → length payload < 2 ^ 31 → (shape_of n.kex).skip ≡ false → is_gex n.kex ≡ true → CanAsk config n y
 keeps_request Offered config cause x y n seqn payload f o short skip gex =
     let shown = is_presented config.preferred config.host (was_strict cause) payload n o.reads.read in
     subst (CanAsk config n) (sym o.exchange_is)
@@ -147,9 +141,50 @@ skips says config cause x y n i old new p f o skip h =
       puts = (new, h.puts, refl);
     })
 
-pub skipped : (says : Says) (config : Config) (cause : KexCause) (x y : Exchange) (state : ServerState) (m : Machine) (n : Names) (i : Incoming) (old new : Writer) (r : Result (KexProgress Machine) Error) → server_machine config cause x state ≡ m → state ≡ states.Created → IsFresh config x → OpensServer says.offers config cause x y i.seqn i.payload.now n → (shape_of n.kex).skip ≡ true → IfOk r (λ p. EndsAtOnce Server cause y n p old new) → IfOk r (λ p. Progresses says m (Some i) old p new)
-skipped says config cause x y state m n i old new (Ok p) v s f o skip h = subst (λ k. Progresses says k (Some i) old p new) (starts config cause x state m v s) (skips says config cause x y n i old new p f o skip h)
-skipped says config cause x y state m n i old new (Err e) v s f o skip h = tt
+-- ---- what follows the names
+
+pub keeps_names : (Offered : _) (config : Config) (cause : KexCause) (x y : Exchange) (n : Names) (seqn : ℕ) (payload : List ℕ) → IsFresh config x → OpensServer Offered config cause x y seqn payload n → length payload < 2 ^ 31 → (shape_of n.kex).skip ≡ false → CanBegin (is_gex n.kex) config n y
+keeps_names Offered config cause x y n seqn payload f o short skip = by (is_gex n.kex) refl where
+  by : (b : Bool) → is_gex n.kex ≡ b → CanBegin b config n y
+  by true e = keeps_request Offered config cause x y n seqn payload f o short skip e
+  by false e = keeps_value Offered config cause x y n seqn payload f o short skip e
+
+begins : (says : Says) (config : Config) (cause : KexCause) (x y : Exchange) (n : Names) (i : Incoming) (old new : Writer) (p : KexProgress Machine) → IsFresh config x → OpensServer says.offers config cause x y i.seqn i.payload.now n → (b c : Bool) → (shape_of n.kex).skip ≡ b → is_gex n.kex ≡ c → Begins b c config cause y n p old new → Progresses says (server_machine config cause x states.Created) (Some i) old p new
+begins says config cause x y n i old new p f o true c s e h = skips says config cause x y n i old new p f o s h
+begins says config cause x y n i old new p f o false true s e h =
+    subst (λ q. Progresses says (server_machine config cause x states.Created) (Some i) old q new) (sym h.0) (opens_request says config cause x y n i old new h.1 f o s e)
+begins says config cause x y n i old new p f o false false s e h =
+    subst (λ q. Progresses says (server_machine config cause x states.Created) (Some i) old q new) (sym h.0) (opens_value says config cause x y n i old new h.1 f o s e)
+
+pub opening_progresses : (says : Says) (config : Config) (cause : KexCause) (x : Exchange) (state : ServerState) (m : Machine) (i : Incoming) (old new : Writer) (r : Result (KexProgress Machine) Error) → server_machine config cause x state ≡ m → state ≡ states.Created → IsFresh config x → IfOk r (λ p. AnswersOpening says.offers config cause x i p old new) → IfOk r (λ p. Progresses says m (Some i) old p new)
+opening_progresses says config cause x state m i old new (Err e) v s f h = tt
+opening_progresses says config cause x state m i old new (Ok p) v s f h =
+    subst (λ k. Progresses says k (Some i) old p new) (starts config cause x state m v s)
+    (begins says config cause x h.exchange h.names i old new p f h.opens (shape_of h.names.kex).skip (is_gex h.names.kex) refl refl h.begins)
+
+-- what is answered to names that were read
+pub opening_answered : (Offered : _) (config : Config) (cause : KexCause) (x y : Exchange) (n : Names) (i : Incoming) (old new : Writer) (r : Result (KexProgress Machine) Error) → OpensServer Offered config cause x y i.seqn i.payload.now n → IfOk r (λ p. Begins (shape_of n.kex).skip (is_gex n.kex) config cause y n p old new) → IfOk r (λ p. AnswersOpening Offered config cause x i p old new)
+opening_answered Offered config cause x y n i old new (Ok p) o h = record { names = n; exchange = y; opens = o; begins = h }
+opening_answered Offered config cause x y n i old new (Err e) o h = tt
+
+pub opening_wants : (Offered : _) (config : Config) (cause : KexCause) (i : Incoming) (r : Result (KexProgress Machine) Error) → IfErr r (λ e. e ≡ Memory) → IfErr r (RefusesKexinit Offered config cause i)
+opening_wants Offered config cause i (Ok p) h = tt
+opening_wants Offered config cause i (Err e) h = inl h
+
+-- the same from the two tests
+pub begins_end : (b c : Bool) (config : Config) (cause : KexCause) (x : Exchange) (n : Names) (old new : Writer) (r : Result (KexProgress Machine) Error) → b ≡ true → IfOk r (λ p. EndsAtOnce Server cause x n p old new) → IfOk r (λ p. Begins b c config cause x n p old new)
+begins_end true c config cause x n old new r e h = h
+begins_end false c config cause x n old new r e h = cc
+
+pub begins_request : (b c : Bool) (config : Config) (cause : KexCause) (x : Exchange) (n : Names) (w : Writer) → b ≡ false → c ≡ true → Begins b c config cause x n (NeedsReply (server_machine config cause x (states.AwaitsRequest n)) false) w w
+begins_request true c config cause x n w s e = cc
+begins_request false true config cause x n w s e = (refl, refl)
+begins_request false false config cause x n w s e = cc
+
+pub begins_value : (b c : Bool) (config : Config) (cause : KexCause) (x : Exchange) (n : Names) (w : Writer) → b ≡ false → c ≡ false → Begins b c config cause x n (NeedsReply (server_machine config cause x (states.AwaitsValue n)) false) w w
+begins_value true c config cause x n w s e = cc
+begins_value false true config cause x n w s e = cc
+begins_value false false config cause x n w s e = (refl, refl)
 
 -- ---- NEWKEYS
 

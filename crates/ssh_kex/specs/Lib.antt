@@ -17,3 +17,4 @@ pub mod Sessions
 pub mod Laws
 pub mod ServerRows
 pub mod ServerViews
+pub mod ServerAnswers

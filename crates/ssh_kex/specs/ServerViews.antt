@@ -1,17 +1,20 @@
 -- What the fields of a server's machine stand for, and what they keep.
-use Rattle.std.specs.Prelude.{◌≡◌, ◌<◌, ◌^◌, true, false, [], length, Some, None}
+use Rattle.std.specs.Prelude.{◌≡◌, ◌<◌, ◌^◌, Bool, true, false, [], length, Some, None}
 use Rattle.ssh_negotiate.specs.Laws.{AreShort}
 use Rattle.ssh_negotiate.specs.Tables.{shape_of}
 use Rattle.ssh_negotiate.specs.declared.kex.KexCause.{KexCause}
 use Rattle.ssh_negotiate.specs.declared.negotiation.Names.{Names}
 use Rattle.ssh_wire.specs.declared.side.Side.TheVariants.{Server}
-use Rattle.ssh_kex.specs.Views.{HasKeys}
+use Rattle.ssh_packet.specs.Writing.{SameButRoom, Writer}
+use Rattle.ssh_kex.specs.Views.{EndsAtOnce, HasKeys}
 use Rattle.ssh_kex.specs.Messages.{Presented, is_gex, presented}
 use Rattle.ssh_kex.specs.ServerRows.{AreShortBlobs, CanAnswer}
 use Rattle.ssh_kex.specs.Setting.{Opened, offers_of}
 use Rattle.ssh_kex.specs.Stages.{Machine, Stage, Created, AwaitsRequest, AwaitsValue, AwaitsNewkeys}
 use Rattle.ssh_kex.specs.declared.config.Config.{Config}
 use Rattle.ssh_kex.specs.declared.exchange.Exchange.{Exchange}
+use Rattle.ssh_kex.specs.declared.progress.KexProgress.{KexProgress}
+use Rattle.ssh_kex.specs.declared.progress.KexProgress.TheVariants.{NeedsReply}
 use Rattle.ssh_kex.specs.declared.server_kex.ServerState.{ServerState}
 use Rattle.ssh_kex.specs.declared.server_kex.ServerState.TheVariants as states
 
@@ -58,3 +61,16 @@ ServerKeeps config x states.Created = IsFresh config x
 ServerKeeps config x (states.AwaitsRequest names) = CanAsk config names x
 ServerKeeps config x (states.AwaitsValue names) = CanAnswer config names x
 ServerKeeps config x (states.AwaitsNewkeys made cipher) = HasKeys Server made cipher
+
+-- what is needed behind the client's KEXINIT, in a group exchange and outside one
+abbrev pub CanBegin : Bool → Config → Names → Exchange → Type 0
+CanBegin true config n x = CanAsk config n x
+CanBegin false config n x = CanAnswer config n x
+
+-- what follows the names: the end at once, or the wait for the sizes of a group or for a value
+abbrev pub Begins : Bool → Bool → Config → KexCause → Exchange → Names → KexProgress Machine → Writer → Writer → Type 0
+Begins true gex config cause x n p w w' = EndsAtOnce Server cause x n p w w'
+Begins false true config cause x n p w w' =
+    (p ≡ NeedsReply (server_machine config cause x (states.AwaitsRequest n)) false) × SameButRoom w w'
+Begins false false config cause x n p w w' =
+    (p ≡ NeedsReply (server_machine config cause x (states.AwaitsValue n)) false) × SameButRoom w w'

@@ -1,56 +1,50 @@
 //! A client's side of an exchange, step by step.
 
-ghost use Rattle.std.specs.Prelude.{◌≡◌, ◌⊎◌, ◌+◌, ◌≤◌, ◌^◌, ◌<◌, [], true, false, length, is_some, List, ℕ, Option, None, Some, Err, IfOk, IfErr, OnOk, OnErr, IfSome};
-ghost use Rattle.std.specs.Option.{option_copied};
+ghost use Rattle.std.specs.Prelude.{◌≡◌, ◌+◌, ◌≤◌, ◌^◌, ◌<◌, [], true, false, length, is_some, Option, None, Some, Err, IfOk, IfErr, OnOk, OnErr, IfSome};
 ghost use Rattle.ssh_negotiate.specs.Laws.{AreShort};
 ghost use Rattle.ssh_negotiate.specs.Reading.{behind_cookie, cookie_from, kexinit_drawn};
 ghost use Rattle.ssh_packet.specs.Sealing.{IsAdmissible, IsPadded, item_of, stream_after};
 ghost use Rattle.ssh_wire.specs.Forms.{AreBytes};
 ghost use Rattle.ssh_kex.specs.Refusals.{IsCreated};
 ghost use Rattle.ssh_negotiate.specs.Tables.{shape_of};
-ghost use Rattle.ssh_packet.specs.Stream.{message_type as message_type_of};
 ghost use Rattle.ssh_packet.specs.Writing.{SameButRoom, Sends};
-ghost use Rattle.ssh_wire.specs.Fields.{answer_of};
 ghost use Rattle.ssh_wire.specs.Lines.{id_text};
 ghost use Rattle.ssh_wire.specs.Outside.{Rose};
-ghost use Rattle.ssh_wire.specs.declared.error.Error.TheVariants.{Memory, WrongServerSig};
+ghost use Rattle.ssh_wire.specs.declared.error.Error.TheVariants.{Memory};
 ghost use Rattle.ssh_wire.specs.declared.side.Side.TheVariants.{Client as client_side};
-ghost use Rattle.ssh_kex.specs.ClientRows.{AcceptsReply, AgreesOnReply, AnswersGroup, AnswersKexinit, AnswersOrDrops, made_with, RefusesReply, RefusesToAgree, OpensWithValue, SendsOfGroup, RefusesGroup, RefusesKexinit, RefusesValue, SendsValue};
-ghost use Rattle.ssh_kex.specs.ClientViews.{client_machine, local_of, ClientHolds, HasNoValues, HasValue};
+ghost use Rattle.ssh_kex.specs.ClientRows.{AnswersGroup, AnswersKexinit, OpensWithValue, SendsOfGroup, RefusesGroup, RefusesKexinit, RefusesValue, SendsValue};
+ghost use Rattle.ssh_kex.specs.ClientViews.{client_machine, ClientHolds, HasNoValues};
 ghost use Rattle.ssh_kex.specs.declared.client_kex.ClientState.TheVariants.{AwaitsGroup as awaits_group};
 ghost use Rattle.ssh_kex.specs.declared.progress.KexProgress.TheVariants.{NeedsReply};
-ghost use Rattle.ssh_kex.specs.Agreeing.{IsWhole};
-ghost use Rattle.ssh_kex.specs.Signature.{judged, or_same};
-ghost use Rattle.ssh_kex.specs.Messages.{host_with, is_gex, reply_message, request_message};
+ghost use Rattle.ssh_kex.specs.Messages.{is_gex, request_message};
 ghost use Rattle.ssh_kex.specs.Parts.{IsSmall, KeepsAgreement, KeepsGroups, KeepsHosts, Setup};
-ghost use Rattle.ssh_kex.specs.Refusals.{IsInside, IsOutside, fields, group_in};
-ghost use Rattle.ssh_kex.specs.Setting.{kept_of, offers_of};
+ghost use Rattle.ssh_kex.specs.Refusals.{IsInside, IsOutside};
+ghost use Rattle.ssh_kex.specs.Setting.{offers_of};
 ghost use Rattle.ssh_kex.specs.Stages.{Created as created, names_of, is_strict};
 ghost use Rattle.ssh_kex.specs.Stepping.{at_kexinit, asks_agreement, asks_hosts, asks_groups, next_of, says_of, denies_of, Progresses, RefusesStep, Puts, PutsFront};
-ghost use Rattle.ssh_kex.specs.Views.{HasKeys, HasShortSides};
+ghost use Rattle.ssh_kex.specs.Views.{HasShortSides};
 
 use crate::algorithm::KexAlgorithm;
+use crate::client_reply::take_reply;
 use crate::config::Config;
 use crate::exchange::{Exchange, FinishedExchange, GexChosen, ServerHost};
-use crate::fields::{fields_of, front_of, group_of, value_of};
+use crate::fields::{fields_of, group_of};
 use crate::first_message::client_names;
-use crate::group::{DhGroup, GexParams};
+use crate::group::{DhGroup, GexParams, copy_of_group};
 use crate::kexinit_message::send_kexinit;
-use crate::last_message::{end_at_once, finish, last};
+use crate::last_message::{end_at_once, last};
 use crate::message::{has_type, put_message};
-use crate::parts::{Agreement, GroupLookup, HostKeys, Parts, Refusal};
+use crate::parts::{Agreement, GroupLookup, HostKeys, Parts};
 use crate::progress::KexProgress;
-use crate::signature::canonicalize_ecdsa_signature;
 use rand_core::Rng;
-use ssh_mac::HashValue;
 use ssh_negotiate::{KexCause, Names, kex};
 use ssh_packet::{CipherPair, Incoming, PacketWriter};
-use ssh_wire::{Blob, Error, Reader, SshId, msg};
+use ssh_wire::{Blob, Error, SshId, msg};
 use std::alloc::Global;
 use std::marker::Model;
 
 #[derive(Drop)]
-enum ClientState {
+pub(crate) enum ClientState {
     Created,
     AwaitsGroup {
         names: Names,
@@ -130,14 +124,24 @@ impl<'c> ClientKex<'c> {
         output: &mut PacketWriter,
     ) -> Result<KexProgress<ClientKex<'c>>, Error>
         requires { IfSome input (λ i. length i.payload.now < 2 ^ 31) }
-        ensures agreement { KeepsAgreement A.lawful A.obliging A.offered A.refusals A.calls parts.old.agreement parts.new.agreement }
-        ensures hosts { KeepsHosts H.lawful H.obliging H.accepts H.trusts H.refused_sign H.refused_verify H.refused_check H.calls parts.old.hosts parts.new.hosts }
+        ensures agreement { KeepsAgreement A.lawful A.obliging A.offered A.refusals A.calls parts.old.agreement
+            parts.new.agreement }
+        ensures hosts { KeepsHosts H.lawful H.obliging H.accepts H.trusts H.refused_sign H.refused_verify
+            H.refused_check H.calls parts.old.hosts parts.new.hosts }
         ensures groups { KeepsGroups G.lawful G.obliging G.group G.refusals G.calls parts.old.groups parts.new.groups }
-        ensures agreement_calls { A.calls parts.new.agreement ≤ A.calls parts.old.agreement + asks_agreement self.entry.setting.side self.entry.stage (next_of result) }
+        ensures agreement_calls { A.calls parts.new.agreement ≤ A.calls parts.old.agreement + asks_agreement
+            self.entry.setting.side self.entry.stage (next_of result) }
         ensures hosts_calls { H.calls parts.new.hosts ≤ H.calls parts.old.hosts + asks_hosts self.entry.stage }
         ensures groups_calls { G.calls parts.new.groups ≤ G.calls parts.old.groups + asks_groups self.entry.stage }
-        ensures goes { IfOk result (λ p. Progresses (says_of A.lawful A.offered A.client_makes A.server_makes A.agrees H.lawful H.obliging H.accepts H.trusts H.makes G.lawful G.group self.entry.setting.config parts.old.agreement parts.old.hosts parts.old.groups) self.entry input.entry output.old p output.new) }
-        ensures causes { IfErr result (λ e. RefusesStep (says_of A.lawful A.offered A.client_makes A.server_makes A.agrees H.lawful H.obliging H.accepts H.trusts H.makes G.lawful G.group self.entry.setting.config parts.old.agreement parts.old.hosts parts.old.groups) (denies_of A.obliging A.offered A.client_makes A.server_makes A.refusals H.obliging H.accepts H.refused_sign H.refused_verify G.obliging G.refusals parts.old.agreement parts.new.agreement parts.old.hosts parts.new.hosts parts.old.groups parts.new.groups) self.entry input.entry e) }
+        ensures goes { IfOk result (λ p. Progresses (says_of A.lawful A.offered A.client_makes A.server_makes A.agrees
+            H.lawful H.obliging H.accepts H.trusts H.makes G.lawful G.group self.entry.setting.config
+            parts.old.agreement parts.old.hosts parts.old.groups) self.entry input.entry output.old p output.new) }
+        ensures causes { IfErr result (λ e. RefusesStep (says_of A.lawful A.offered A.client_makes A.server_makes
+            A.agrees H.lawful H.obliging H.accepts H.trusts H.makes G.lawful G.group self.entry.setting.config
+            parts.old.agreement parts.old.hosts parts.old.groups)
+            (denies_of A.obliging A.offered A.client_makes A.server_makes A.refusals H.obliging H.accepts H.refused_sign
+            H.refused_verify G.obliging G.refusals parts.old.agreement parts.new.agreement parts.old.hosts
+            parts.new.hosts parts.old.groups parts.new.groups) self.entry input.entry e) }
         ensures front { OnErr result (PutsFront self.entry.stage output.old output.new) }
         ensures unchanged { IfErr result (λ e. (e ≡ Memory → ⊥) → SameButRoom output.old output.new) }
     {
@@ -197,11 +201,21 @@ impl<'c> ClientKex<'c> {
     /// then machine and writer are as they were.
     pub fn kexinit<R: Rng>(&mut self, rng: &mut R, output: &mut PacketWriter) -> Result<(), Error>
         requires { IsCreated self.old.stage }
-        ensures ok { OnOk result (self.new ≡ record self.old { stage = created (kexinit_drawn self.old.setting.config.preferred None (R.stream rng.old)) }) }
-        ensures sent { OnOk result (Sends output.old (kexinit_drawn self.old.setting.config.preferred None (R.stream rng.old)) (behind_cookie (R.stream rng.old)) output.new) }
-        ensures stream { OnOk result (R.stream rng.new ≡ stream_after output.old.sealing (kexinit_drawn self.old.setting.config.preferred None (R.stream rng.old)) (behind_cookie (R.stream rng.old))) }
-        ensures admissible { OnOk result (IsAdmissible output.old.sealing (item_of output.old.sealing (kexinit_drawn self.old.setting.config.preferred None (R.stream rng.old)) (behind_cookie (R.stream rng.old)))) }
-        ensures padded { OnOk result (IsPadded output.old.sealing (item_of output.old.sealing (kexinit_drawn self.old.setting.config.preferred None (R.stream rng.old)) (behind_cookie (R.stream rng.old)))) }
+        ensures ok { OnOk result (self.new ≡ record self.old {
+          stage = created
+              (kexinit_drawn self.old.setting.config.preferred None (R.stream rng.old));
+        }) }
+        ensures sent { OnOk result (Sends output.old (kexinit_drawn self.old.setting.config.preferred None
+            (R.stream rng.old)) (behind_cookie (R.stream rng.old)) output.new) }
+        ensures stream { OnOk result (R.stream rng.new ≡ stream_after output.old.sealing
+            (kexinit_drawn self.old.setting.config.preferred None (R.stream rng.old)) (behind_cookie
+            (R.stream rng.old))) }
+        ensures admissible { OnOk result (IsAdmissible output.old.sealing (item_of output.old.sealing
+            (kexinit_drawn self.old.setting.config.preferred None (R.stream rng.old)) (behind_cookie
+            (R.stream rng.old)))) }
+        ensures padded { OnOk result (IsPadded output.old.sealing (item_of output.old.sealing
+            (kexinit_drawn self.old.setting.config.preferred None (R.stream rng.old)) (behind_cookie
+            (R.stream rng.old)))) }
         ensures cookie { OnOk result (length (cookie_from (R.stream rng.old)) ≡ 16) }
         ensures bytes { OnOk result (AreBytes (cookie_from (R.stream rng.old))) }
         ensures unchanged { OnErr result ((self.new ≡ self.old) × SameButRoom output.old output.new) }
@@ -239,7 +253,7 @@ impl<'c> ClientKex<'c> {
 }
 
 /// A machine that awaits the peer's next message.
-fn waits<'c>(
+pub(crate) fn waits<'c>(
     alloc: Global,
     config: &'c Config,
     cause: KexCause,
@@ -276,7 +290,8 @@ fn send_value<A: Agreement, R: Rng>(
     ensures keeps { KeepsAgreement A.lawful A.obliging A.offered A.refusals A.calls agreement.old agreement.new }
     ensures calls { A.calls agreement.new ≤ A.calls agreement.old + 1 }
     ensures ok { OnOk result (SendsValue (λ l v. (s : Setup) → A.lawful agreement.old s
-        → A.client_makes algorithm.old.name algorithm.old.group l v) algorithm.old algorithm.new client_ephemeral.new output.old output.new) }
+        → A.client_makes algorithm.old.name algorithm.old.group l v) algorithm.old algorithm.new client_ephemeral.new
+        output.old output.new) }
     ensures err { IfErr result (RefusesValue (λ l v. (s : Setup) → A.lawful agreement.old s
         → A.client_makes algorithm.old.name algorithm.old.group l v) (λ v. (s : Setup) → A.lawful agreement.old s
         → IsSmall v) (Rose (A.refusals agreement.old) (A.refusals agreement.new)
@@ -313,7 +328,8 @@ fn ask_group<'c, R: Rng>(
     requires sides { HasShortSides exchange }
     requires exchanges { (shape_of names.kex).skip ≡ false }
     requires gex { is_gex names.kex ≡ true }
-    ensures ok { IfOk result (λ p. (p ≡ NeedsReply (client_machine config.now cause exchange (awaits_group names)) false) × Puts output.old (request_message config.now.gex) output.new) }
+    ensures ok { IfOk result (λ p. (p ≡ NeedsReply (client_machine config.now cause exchange
+        (awaits_group names)) false) × Puts output.old (request_message config.now.gex) output.new) }
     ensures err { IfErr result (λ e. e ≡ Memory) }
     ensures unchanged { OnErr result (SameButRoom output.old output.new) }
 {
@@ -404,7 +420,8 @@ fn take_kexinit<'c, A: Agreement, R: Rng>(
     ensures keeps { KeepsAgreement A.lawful A.obliging A.offered A.refusals A.calls agreement.old agreement.new }
     ensures calls { A.calls agreement.new ≤ A.calls agreement.old + at_kexinit client_side (next_of result) }
     ensures ok { IfOk result (λ p. AnswersKexinit (λ n. A.offered agreement.old n ≡ true) (λ n l v. (s : Setup)
-        → A.lawful agreement.old s → A.client_makes n None l v) config.now cause exchange incoming.entry p output.old output.new) }
+        → A.lawful agreement.old s → A.client_makes n None l v) config.now cause exchange incoming.entry p output.old
+        output.new) }
     ensures err { IfErr result (RefusesKexinit (λ n. A.offered agreement.old n ≡ true) (λ n l v. (s : Setup)
         → A.lawful agreement.old s → A.client_makes n None l v) (λ v. (s : Setup) → A.lawful agreement.old s
         → IsSmall v) (λ n. Rose (A.refusals agreement.old) (A.refusals agreement.new)
@@ -433,17 +450,6 @@ fn take_kexinit<'c, A: Agreement, R: Rng>(
     open_with_value(
         alloc, config, cause, exchange, names, agreement, rng, output,
     )
-}
-
-/// A group of the same numbers. Memory.
-fn copy_of_group(alloc: Global, group: &DhGroup) -> Result<DhGroup, Error>
-    ensures ok { IfOk result (λ g. g ≡ group.now) }
-    ensures err { IfErr result (λ e. e ≡ Memory) }
-{
-    Ok(DhGroup {
-        prime: Blob::copy_of(alloc, group.prime.as_slice())?,
-        generator: Blob::copy_of(alloc, group.generator.as_slice())?,
-    })
 }
 
 /// A key exchange that has a group. Memory.
@@ -558,211 +564,5 @@ fn take_group<'c, A: Agreement, R: Rng>(
     }
     answer_group(
         alloc, config, cause, exchange, names, group, agreement, rng, output,
-    )
-}
-
-/// The fields of a reply.
-#[derive(Clone, Copy)]
-struct Reply<'a> {
-    host: &'a [u8],
-    value: &'a [u8],
-    signature: &'a [u8],
-}
-
-/// The type of a reply.
-fn reply_type(is_gex: bool) -> u8
-    ensures { result ≡ message_type_of (reply_message is_gex [] [] []) }
-{
-    if is_gex {
-        msg::KEX_DH_GEX_REPLY
-    } else {
-        msg::KEX_ECDH_REPLY
-    }
-}
-
-/// Reads a reply, and agrees on the server's value before the signature is read. KexInit where it is another message;
-/// SshEncoding; Kex where the agreement refused; Memory.
-fn agree_on_reply<'a, A: Agreement>(
-    algorithm: &mut KexAlgorithm,
-    agreement: &mut A,
-    payload: &'a [u8],
-) -> Result<Reply<'a>, Error>
-    requires exchanges { (shape_of algorithm.old.name).skip ≡ false }
-    requires local { algorithm.old.local ≡ Some (local_of algorithm.old.local) }
-    ensures keeps { KeepsAgreement A.lawful A.obliging A.offered A.refusals A.calls agreement.old agreement.new }
-    ensures calls { A.calls agreement.new ≤ A.calls agreement.old + 1 }
-    ensures ok { IfOk result (λ r. AgreesOnReply (λ l v x. (s : Setup) (public : List ℕ) → A.lawful agreement.old s
-        → A.client_makes algorithm.old.name algorithm.old.group l public
-        → A.agrees algorithm.old.name algorithm.old.group public v x) algorithm.old algorithm.new payload.now r.host.now r.value.now r.signature.now) }
-    ensures err { IfErr result (RefusesToAgree (λ l v. Rose (A.refusals agreement.old) (A.refusals agreement.new)
-        × ((s : Setup) (public : List ℕ) → A.obliging agreement.old s
-        → A.offered agreement.old algorithm.old.name ≡ true
-        → A.client_makes algorithm.old.name algorithm.old.group l public
-        → A.server_makes algorithm.old.name algorithm.old.group v → ⊥)) (λ l v x. (s : Setup) (public : List ℕ)
-        → A.lawful agreement.old s → A.client_makes algorithm.old.name algorithm.old.group l public
-        → A.agrees algorithm.old.name algorithm.old.group public v x) algorithm.old payload.now) }
-{
-    if !has_type(payload, reply_type(algorithm.is_dh_gex())) {
-        return Err(Error::KexInit);
-    }
-    let mut reader = Reader::new(fields_of(payload));
-    let front = match front_of(&mut reader) {
-        Ok(front) => front,
-        Err(error) => return Err(error),
-    };
-    if let Err(error) = algorithm.compute_shared_secret(agreement, front.value) {
-        return Err(error);
-    }
-    match value_of(&mut reader) {
-        Ok(signature) => Ok(Reply {
-            host: front.host,
-            value: front.value,
-            signature,
-        }),
-        Err(error) => Err(error),
-    }
-}
-
-/// A signature as it is judged: its canonical form where there is one.
-fn judged_of<'a>(form: &'a Option<Blob>, signature: &'a [u8]) -> &'a [u8]
-    ensures { result.now ≡ or_same signature.now form.now }
-{
-    match form {
-        Some(form) => form.as_slice(),
-        None => signature,
-    }
-}
-
-/// Has the canonical form of a signature verified. WrongServerSig where it was refused; Memory.
-fn verify_signature<H: HostKeys>(
-    alloc: Global,
-    hosts: &mut H,
-    host: &ServerHost,
-    hash: &HashValue,
-    signature: &[u8],
-) -> Result<(), Error>
-    requires { length signature.now < 2 ^ 31 }
-    ensures keeps { KeepsHosts H.lawful H.obliging H.accepts H.trusts H.refused_sign H.refused_verify H.refused_check H.calls hosts.old hosts.new }
-    ensures calls { H.calls hosts.new ≤ H.calls hosts.old + 1 }
-    ensures ok { OnOk result (H.accepts hosts.old host.now hash.now (judged signature.now) ≡ true) }
-    ensures err { IfErr result (λ e. (e ≡ Memory) ⊎ ((e ≡ WrongServerSig)
-        × (Rose (H.refused_verify hosts.old) (H.refused_verify hosts.new)
-        × ((s : Setup) → H.obliging hosts.old s → H.accepts hosts.old host.now hash.now (judged signature.now) ≡ true
-        → ⊥)))) }
-{
-    let form = match canonicalize_ecdsa_signature(alloc, signature) {
-        Ok(form) => form,
-        Err(error) => return Err(error),
-    };
-    match hosts.verify(alloc, host, hash, judged_of(&form, signature)) {
-        Ok(()) => Ok(()),
-        Err(Refusal::Refused) => Err(Error::WrongServerSig),
-        Err(Refusal::Memory) => Err(Error::Memory),
-    }
-}
-
-/// A reply on whose value is agreed: its signature is verified, and NEWKEYS sent. WrongServerSig where the signature was
-/// refused; Memory. A refusal leaves the output as it was.
-fn accept_reply<'c, H: HostKeys, R: Rng>(
-    alloc: Global,
-    config: &'c Config,
-    cause: KexCause,
-    exchange: Exchange,
-    names: Names,
-    algorithm: KexAlgorithm,
-    hosts: &mut H,
-    rng: &mut R,
-    reply: Reply<'_>,
-    output: &mut PacketWriter,
-) -> Result<KexProgress<ClientKex<'c>>, Error>
-    requires name { algorithm.name ≡ names.kex }
-    requires whole { IsWhole algorithm.name reply.host.now (record exchange { server_ephemeral = reply.value.now }) }
-    requires signature { length reply.signature.now < 2 ^ 31 }
-    ensures keeps { KeepsHosts H.lawful H.obliging H.accepts H.trusts H.refused_sign H.refused_verify H.refused_check H.calls hosts.old hosts.new }
-    ensures calls { H.calls hosts.new ≤ H.calls hosts.old + 1 }
-    ensures ok { IfOk result (λ p. AcceptsReply (λ h d g. H.accepts hosts.old h d g ≡ true) config.now cause exchange names algorithm.secret reply.entry.host.now reply.entry.value.now reply.entry.signature.now p output.old output.new) }
-    ensures err { IfErr result (λ e. (e ≡ Memory) ⊎ ((e ≡ WrongServerSig)
-        × (Rose (H.refused_verify hosts.old) (H.refused_verify hosts.new)
-        × ((s : Setup) → H.obliging hosts.old s → H.accepts hosts.old (host_with names reply.entry.host.now) (made_with cause names exchange algorithm.secret reply.entry.host.now reply.entry.value.now).hash (judged reply.entry.signature.now) ≡ true → ⊥)))) }
-    ensures unchanged { OnErr result (SameButRoom output.old output.new) }
-{
-    let exchange = Exchange {
-        server_ephemeral: Blob::copy_of(alloc, reply.value)?,
-        ..exchange
-    };
-    let host = ServerHost {
-        algorithm: names.key,
-        is_certificate: names.host_key_is_certificate,
-        blob: Blob::copy_of(alloc, reply.host)?,
-    };
-    let hash = algorithm.compute_exchange_hash(reply.host, &exchange);
-    if let Err(error) = verify_signature(alloc, hosts, &host, &hash, reply.signature) {
-        return Err(error);
-    }
-    let (made, cipher) = finish(&algorithm, &cause, names, hash, false);
-    let reset_seqn = names.strict_kex || cause.is_strict_rekey();
-    match put_message(output, rng, &[msg::NEWKEYS]) {
-        Ok(()) => Ok(waits(
-            alloc,
-            config,
-            cause,
-            exchange,
-            ClientState::AwaitsNewkeys { host, made, cipher },
-            reset_seqn,
-        )),
-        Err(error) => Err(error),
-    }
-}
-
-/// The server's reply; a wrong guess is dropped. KexInit where it is another message; SshEncoding; Kex where the agreement
-/// refused; WrongServerSig; Memory. A refusal leaves the output as it was.
-fn take_reply<'c, A: Agreement, H: HostKeys, R: Rng>(
-    alloc: Global,
-    config: &'c Config,
-    cause: KexCause,
-    exchange: Exchange,
-    names: Names,
-    algorithm: KexAlgorithm,
-    agreement: &mut A,
-    hosts: &mut H,
-    rng: &mut R,
-    payload: &[u8],
-    output: &mut PacketWriter,
-) -> Result<KexProgress<ClientKex<'c>>, Error>
-    requires short { length payload.now < 2 ^ 31 }
-    requires sides { HasShortSides exchange }
-    requires value { HasValue exchange names algorithm }
-    ensures agreement { KeepsAgreement A.lawful A.obliging A.offered A.refusals A.calls agreement.old agreement.new }
-    ensures agreement_calls { A.calls agreement.new ≤ A.calls agreement.old + 1 }
-    ensures hosts { KeepsHosts H.lawful H.obliging H.accepts H.trusts H.refused_sign H.refused_verify H.refused_check H.calls hosts.old hosts.new }
-    ensures hosts_calls { H.calls hosts.new ≤ H.calls hosts.old + 1 }
-    ensures ok { IfOk result (λ p. AnswersOrDrops names.ignore_guessed (λ l v x. (s : Setup) (public : List ℕ)
-        → A.lawful agreement.old s → A.client_makes algorithm.name algorithm.group l public
-        → A.agrees algorithm.name algorithm.group public v x) (λ h d g. H.accepts hosts.old h d g ≡ true) config.now cause exchange names algorithm payload.now p output.old output.new) }
-    ensures err { IfErr result (RefusesReply names.ignore_guessed (λ l v. Rose (A.refusals agreement.old) (A.refusals agreement.new) × ((s : Setup) (public : List ℕ) → A.obliging agreement.old s → A.offered agreement.old algorithm.name ≡ true → A.client_makes algorithm.name algorithm.group l public → A.server_makes algorithm.name algorithm.group v → ⊥)) (λ l v x. (s : Setup) (public : List ℕ) → A.lawful agreement.old s → A.client_makes algorithm.name algorithm.group l public → A.agrees algorithm.name algorithm.group public v x) (λ h d g. Rose (H.refused_verify hosts.old) (H.refused_verify hosts.new) × ((s : Setup) → H.obliging hosts.old s → H.accepts hosts.old h d g ≡ true → ⊥)) cause exchange names algorithm payload.now) }
-    ensures unchanged { OnErr result (SameButRoom output.old output.new) }
-{
-    if names.ignore_guessed {
-        let names = Names {
-            ignore_guessed: false,
-            guessed_ignored: false,
-            ..names
-        };
-        return Ok(waits(
-            alloc,
-            config,
-            cause,
-            exchange,
-            ClientState::AwaitsReply { names, algorithm },
-            false,
-        ));
-    }
-    let mut algorithm = algorithm;
-    let reply = match agree_on_reply(&mut algorithm, agreement, payload) {
-        Ok(reply) => reply,
-        Err(error) => return Err(error),
-    };
-    accept_reply(
-        alloc, config, cause, exchange, names, algorithm, hosts, rng, reply, output,
     )
 }

@@ -29,8 +29,10 @@ pub(crate) fn client_names(
     cause: &KexCause,
     incoming: &Incoming<'_>,
 ) -> Result<Names, Error>
-    ensures ok { IfOk result (λ n. Reads client_side (offers_of client_side config.now) cause.now incoming.now.seqn incoming.now.payload.now n) }
-    ensures err { IfErr result (λ e. RefusesNames client_side (offers_of client_side config.now) cause.now incoming.now.seqn incoming.now.payload.now e) }
+    ensures ok { IfOk result (λ n. Reads client_side (offers_of client_side config.now) cause.now incoming.now.seqn
+        incoming.now.payload.now n) }
+    ensures err { IfErr result (λ e. RefusesNames client_side
+        (offers_of client_side config.now) cause.now incoming.now.seqn incoming.now.payload.now e) }
 {
     if !has_type(incoming.payload, 20) {
         return Err(Error::KexInit);

@@ -8,6 +8,7 @@ ghost use Rattle.ssh_kex.specs.Messages.{bit_size, byte_digits, sizes_text};
 ghost use Rattle.ssh_kex.specs.Refusals.{sizes_front};
 
 use ssh_wire::{Blob, ConfigFault, EncodingFault, Error, Reader, mpint_parts, put_u32};
+use std::alloc::Global;
 
 /// The length of three sizes, in bytes.
 const SIZES_LEN: usize = 12;
@@ -104,4 +105,15 @@ fn digits_of(byte: u8) -> u64
     ensures { result ≡ byte_digits byte }
 {
     u64::from(u8::BITS - byte.leading_zeros())
+}
+
+/// A group of the same numbers. Memory.
+pub(crate) fn copy_of_group(alloc: Global, group: &DhGroup) -> Result<DhGroup, Error>
+    ensures ok { IfOk result (λ g. g ≡ group.now) }
+    ensures err { IfErr result (λ e. e ≡ Memory) }
+{
+    Ok(DhGroup {
+        prime: Blob::copy_of(alloc, group.prime.as_slice())?,
+        generator: Blob::copy_of(alloc, group.generator.as_slice())?,
+    })
 }

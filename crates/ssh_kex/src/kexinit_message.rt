@@ -30,14 +30,18 @@ pub(crate) fn send_kexinit<R: Rng>(
     requires { AreShort (offered_by prefs.now (option_copied server_config)) }
     ensures ok { IfOk result (λ b. b ≡ kexinit_drawn prefs.now (option_copied server_config.entry) (R.stream rng.old)) }
     ensures short { IfOk result (λ b. length b < 2 ^ 31) }
-    ensures sent { OnOk result (Sends output.old (kexinit_drawn prefs.now (option_copied server_config.entry) (R.stream rng.old))
+    ensures sent { OnOk result (Sends output.old (kexinit_drawn prefs.now (option_copied server_config.entry)
+        (R.stream rng.old))
         (behind_cookie (R.stream rng.old)) output.new) }
     ensures stream { OnOk result (R.stream rng.new ≡ stream_after output.old.sealing
-        (kexinit_drawn prefs.now (option_copied server_config.entry) (R.stream rng.old)) (behind_cookie (R.stream rng.old))) }
+        (kexinit_drawn prefs.now (option_copied server_config.entry) (R.stream rng.old)) (behind_cookie
+        (R.stream rng.old))) }
     ensures admissible { OnOk result (IsAdmissible output.old.sealing (item_of output.old.sealing
-        (kexinit_drawn prefs.now (option_copied server_config.entry) (R.stream rng.old)) (behind_cookie (R.stream rng.old)))) }
+        (kexinit_drawn prefs.now (option_copied server_config.entry) (R.stream rng.old)) (behind_cookie
+        (R.stream rng.old)))) }
     ensures padded { OnOk result (IsPadded output.old.sealing (item_of output.old.sealing
-        (kexinit_drawn prefs.now (option_copied server_config.entry) (R.stream rng.old)) (behind_cookie (R.stream rng.old)))) }
+        (kexinit_drawn prefs.now (option_copied server_config.entry) (R.stream rng.old)) (behind_cookie
+        (R.stream rng.old)))) }
     ensures cookie { OnOk result (length (cookie_from (R.stream rng.old)) ≡ 16) }
     ensures bytes { OnOk result (AreBytes (cookie_from (R.stream rng.old))) }
     ensures unchanged { OnErr result (SameButRoom output.old output.new) }

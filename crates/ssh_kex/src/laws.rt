@@ -1,6 +1,9 @@
 //! Laws of an exchange, for proofs above to cite.
 
-ghost use Rattle.ssh_kex.specs.Laws.{CanonicalOnce, CiphersMeet, KeysAreWell};
+ghost use Rattle.ssh_kex.specs.Laws.{CanonicalOnce, CiphersMeet, KeysAreWell, MemoryAlone, NoneCounted, RowsExclude};
+ghost use Rattle.ssh_kex.specs.Stepping.{denies_of, says_of};
+
+use crate::parts::{Agreement, GroupLookup, HostKeys};
 
 /// Under the same names and keys each side opens with what the other seals under.
 #[tactic(auto, using(crate::proofs::Lemmas::ciphers_meet))]
@@ -17,4 +20,25 @@ pub fn keys_are_well()
 #[tactic(auto, using(crate::proofs::Lemmas::canonical_once))]
 pub fn canonical_once()
     ensures { CanonicalOnce }
+{}
+
+/// A row that takes a message and one that refuses it exclude each other, whatever the parts are, but where the parts
+/// decide or memory is wanting. That one of both holds is what the `step` of each machine answers.
+pub fn rows_exclude<A: Agreement, H: HostKeys, G: GroupLookup>()
+    ensures { RowsExclude
+        (says_of A.lawful A.offered A.client_makes A.server_makes A.agrees H.lawful H.obliging H.accepts H.trusts
+        H.makes G.lawful G.group)
+        (denies_of A.obliging A.offered A.client_makes A.server_makes A.refusals H.obliging H.accepts H.refused_sign
+        H.refused_verify G.obliging G.refusals) }
+{}
+
+/// Where agreement and host keys are lawful, no part counted a refusal, and the group or the host's blob that the answer
+/// carries has at most 65536 bytes a number, want of memory is all that could refuse a message which a row takes.
+pub fn memory_alone<A: Agreement, H: HostKeys, G: GroupLookup>()
+    ensures { MemoryAlone A.lawful H.lawful
+        (NoneCounted A.refusals H.refused_sign H.refused_verify G.refusals)
+        (says_of A.lawful A.offered A.client_makes A.server_makes A.agrees H.lawful H.obliging H.accepts H.trusts
+        H.makes G.lawful G.group)
+        (denies_of A.obliging A.offered A.client_makes A.server_makes A.refusals H.obliging H.accepts H.refused_sign
+        H.refused_verify G.obliging G.refusals) }
 {}

@@ -4,6 +4,7 @@
 
 mod algorithm;
 mod client_kex;
+mod client_reply;
 mod config;
 mod exchange;
 mod fields;
@@ -33,7 +34,7 @@ pub use crate::exchange::{
 };
 pub use crate::group::{DhGroup, GexParams};
 pub use crate::keys::compute_keys;
-pub use crate::laws::{canonical_once, ciphers_meet, keys_are_well};
+pub use crate::laws::{canonical_once, ciphers_meet, keys_are_well, memory_alone, rows_exclude};
 pub use crate::parts::{Agreed, Agreement, GroupLookup, HostKeys, Parts, Refusal, Started};
 pub use crate::progress::KexProgress;
 pub use crate::server_kex::ServerKex;

@@ -23,8 +23,10 @@ pub(crate) fn server_names(
     cause: &KexCause,
     incoming: &Incoming<'_>,
 ) -> Result<Names, Error>
-    ensures ok { IfOk result (λ n. Reads server_side (offers_of server_side config.now) cause.now incoming.now.seqn incoming.now.payload.now n) }
-    ensures err { IfErr result (λ e. RefusesNames server_side (offers_of server_side config.now) cause.now incoming.now.seqn incoming.now.payload.now e) }
+    ensures ok { IfOk result (λ n. Reads server_side (offers_of server_side config.now) cause.now incoming.now.seqn
+        incoming.now.payload.now n) }
+    ensures err { IfErr result (λ e. RefusesNames server_side
+        (offers_of server_side config.now) cause.now incoming.now.seqn incoming.now.payload.now e) }
 {
     if !has_type(incoming.payload, msg::KEXINIT) {
         return Err(Error::KexInit);
@@ -59,8 +61,10 @@ pub(crate) fn open<A: Agreement>(
     exchange: &mut Exchange,
     incoming: &Incoming<'_>,
 ) -> Result<Names, Error>
-    ensures ok { IfOk result (OpensServer (λ name. A.offered agreement.now name ≡ true) config.now cause.now exchange.old exchange.new incoming.now.seqn incoming.now.payload.now) }
-    ensures err { IfErr result (RefusesOpening (λ name. A.offered agreement.now name ≡ true) config.now cause.now incoming.now.seqn incoming.now.payload.now) }
+    ensures ok { IfOk result (OpensServer (λ name. A.offered agreement.now name ≡ true) config.now cause.now
+        exchange.old exchange.new incoming.now.seqn incoming.now.payload.now) }
+    ensures err { IfErr result (RefusesOpening (λ name. A.offered agreement.now name ≡ true) config.now cause.now
+        incoming.now.seqn incoming.now.payload.now) }
 {
     let names = server_names(alloc, config, cause, incoming)?;
     if !names.kex.shape().skip && !agreement.offers(names.kex) {

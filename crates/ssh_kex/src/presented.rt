@@ -73,7 +73,8 @@ fn fitting_certificate<'h>(
     keys: &[HostKey],
     algorithm: Algorithm,
 ) -> Option<&'h HostCertificate>
-    ensures { option_copied result ≡ find (λ (c : HostCertificate). fits c.algorithm algorithm && has_key keys.now c) certificates.now }
+    ensures { option_copied result ≡ find (λ (c : HostCertificate). fits c.algorithm algorithm && has_key keys.now c)
+        certificates.now }
 {
     certificates.iter().find(|certificate| {
         fits(certificate.algorithm, algorithm) && is_key_there(keys, certificate)

@@ -68,7 +68,8 @@ pub(crate) fn answer_request<G: GroupLookup, R: Rng>(
     ensures ok { IfOk result (AnswersRequest (λ sizes q. (s : Setup) → G.lawful groups.old s
         → (q ≡ G.group groups.old sizes) × IsCanonical q) payload.now output.old output.new) }
     ensures causes { IfErr result (RefusesRequest (λ sizes q. (s : Setup) → G.lawful groups.old s
-        → (q ≡ G.group groups.old sizes) × IsCanonical q) (λ sizes. Rose (G.refusals groups.old) (G.refusals groups.new) × ((s : Setup) → G.obliging groups.old s → ⊥)) payload.now) }
+        → (q ≡ G.group groups.old sizes) × IsCanonical q) (λ sizes. Rose (G.refusals groups.old) (G.refusals groups.new)
+        × ((s : Setup) → G.obliging groups.old s → ⊥)) payload.now) }
     ensures unchanged { OnErr result (SameButRoom output.old output.new) }
 {
     let params = read_request(payload)?;

@@ -1,7 +1,9 @@
 //! A server's side of an exchange, step by step.
 
-ghost use Rattle.std.specs.Prelude.{◌≡◌, ◌≤◌, ◌+◌, ◌<◌, ◌^◌, ◌||◌, true, List, [], ℕ, length, is_some, Option, Some, None, Ok, Err, IfOk, IfErr, OnOk, OnErr, IfSome};
+ghost use Rattle.std.specs.Prelude.{◌≡◌, ◌≤◌, ◌+◌, ◌<◌, ◌^◌, ◌||◌, true, false, List, [], ℕ, length, is_some, Option, Some, None, Ok, Err, IfOk, IfErr, OnOk, OnErr, IfSome};
 ghost use Rattle.ssh_negotiate.specs.Causes.{was_strict};
+ghost use Rattle.ssh_negotiate.specs.Tables.{shape_of};
+ghost use Rattle.ssh_kex.specs.Messages.{IsCanonical, is_gex};
 ghost use Rattle.ssh_negotiate.specs.Laws.{AreShort};
 ghost use Rattle.ssh_negotiate.specs.Reading.{behind_cookie, cookie_from, kexinit_drawn};
 ghost use Rattle.ssh_packet.specs.Sealing.{IsAdmissible, IsPadded, item_of, stream_after};
@@ -11,10 +13,12 @@ ghost use Rattle.ssh_kex.specs.Refusals.{IsCreated};
 ghost use Rattle.ssh_wire.specs.Lines.{id_text};
 ghost use Rattle.ssh_wire.specs.declared.error.Error.TheVariants.{Memory};
 ghost use Rattle.ssh_wire.specs.declared.side.Side.TheVariants.{Server as server_side};
-ghost use Rattle.ssh_kex.specs.Parts.{KeepsAgreement, KeepsGroups, KeepsHosts};
-ghost use Rattle.ssh_kex.specs.ServerRows.{AreShortBlobs};
-ghost use Rattle.ssh_kex.specs.ServerViews.{ServerKeeps, server_machine};
-ghost use Rattle.ssh_kex.specs.Setting.{behind_guess, offers_of};
+ghost use Rattle.ssh_kex.specs.Parts.{IsSmall, KeepsAgreement, KeepsGroups, KeepsHosts, Setup};
+ghost use Rattle.ssh_kex.specs.ServerRows.{AreShortBlobs, CanAnswer, IsLongAnswer, PutsAtMostReply, RefusesRequest};
+ghost use Rattle.ssh_kex.specs.ServerAnswers.{AnswersOpening, AnswersOrDrops, AnswersSizes, RefusesClient, RefusesKexinit};
+ghost use Rattle.ssh_wire.specs.Outside.{Rose};
+ghost use Rattle.ssh_kex.specs.ServerViews.{Begins, CanAsk, CanBegin, IsFresh, ServerKeeps, server_machine};
+ghost use Rattle.ssh_kex.specs.Setting.{behind_guess, group_of, offers_of};
 ghost use Rattle.ssh_kex.specs.Stages.{Created as created_stage, has_ignored, is_strict, names_of};
 ghost use Rattle.ssh_kex.specs.declared.progress.KexProgress.TheVariants.{NeedsReply};
 ghost use Rattle.ssh_kex.specs.Stepping.{asks_agreement, asks_hosts, asks_groups, next_of, says_of, denies_of, Progresses, RefusesStep, PutsFront};
@@ -63,7 +67,7 @@ pub struct ServerKex<'c> {
 
 impl<'c> Model for ServerKex<'c> {
     ghost use Rattle.ssh_kex.specs.Stages.{Machine};
-    ghost use Rattle.ssh_kex.specs.ServerViews.{ServerKeeps, server_machine};
+    ghost use Rattle.ssh_kex.specs.ServerViews.{Begins, CanAsk, CanBegin, IsFresh, ServerKeeps, server_machine};
 
     ghost Value = { Machine };
 
@@ -110,11 +114,22 @@ impl<'c> ServerKex<'c> {
     /// then machine and writer are as they were.
     pub fn kexinit<R: Rng>(&mut self, rng: &mut R, output: &mut PacketWriter) -> Result<(), Error>
         requires { IsCreated self.old.stage }
-        ensures ok { OnOk result (self.new ≡ record self.old { stage = created_stage (kexinit_drawn self.old.setting.config.preferred (Some self.old.setting.config.host) (R.stream rng.old)) }) }
-        ensures sent { OnOk result (Sends output.old (kexinit_drawn self.old.setting.config.preferred (Some self.old.setting.config.host) (R.stream rng.old)) (behind_cookie (R.stream rng.old)) output.new) }
-        ensures stream { OnOk result (R.stream rng.new ≡ stream_after output.old.sealing (kexinit_drawn self.old.setting.config.preferred (Some self.old.setting.config.host) (R.stream rng.old)) (behind_cookie (R.stream rng.old))) }
-        ensures admissible { OnOk result (IsAdmissible output.old.sealing (item_of output.old.sealing (kexinit_drawn self.old.setting.config.preferred (Some self.old.setting.config.host) (R.stream rng.old)) (behind_cookie (R.stream rng.old)))) }
-        ensures padded { OnOk result (IsPadded output.old.sealing (item_of output.old.sealing (kexinit_drawn self.old.setting.config.preferred (Some self.old.setting.config.host) (R.stream rng.old)) (behind_cookie (R.stream rng.old)))) }
+        ensures ok { OnOk result (self.new ≡ record self.old {
+          stage = created_stage
+              (kexinit_drawn self.old.setting.config.preferred (Some self.old.setting.config.host)
+              (R.stream rng.old));
+        }) }
+        ensures sent { OnOk result (Sends output.old (kexinit_drawn self.old.setting.config.preferred
+            (Some self.old.setting.config.host) (R.stream rng.old)) (behind_cookie (R.stream rng.old)) output.new) }
+        ensures stream { OnOk result (R.stream rng.new ≡ stream_after output.old.sealing
+            (kexinit_drawn self.old.setting.config.preferred (Some self.old.setting.config.host) (R.stream rng.old))
+            (behind_cookie (R.stream rng.old))) }
+        ensures admissible { OnOk result (IsAdmissible output.old.sealing (item_of output.old.sealing
+            (kexinit_drawn self.old.setting.config.preferred (Some self.old.setting.config.host) (R.stream rng.old))
+            (behind_cookie (R.stream rng.old)))) }
+        ensures padded { OnOk result (IsPadded output.old.sealing (item_of output.old.sealing
+            (kexinit_drawn self.old.setting.config.preferred (Some self.old.setting.config.host) (R.stream rng.old))
+            (behind_cookie (R.stream rng.old)))) }
         ensures cookie { OnOk result (length (cookie_from (R.stream rng.old)) ≡ 16) }
         ensures bytes { OnOk result (AreBytes (cookie_from (R.stream rng.old))) }
         ensures unchanged { OnErr result ((self.new ≡ self.old) × SameButRoom output.old output.new) }
@@ -167,14 +182,24 @@ impl<'c> ServerKex<'c> {
         output: &mut PacketWriter,
     ) -> Result<KexProgress<ServerKex<'c>>, Error>
         requires { IfSome input (λ i. length i.payload.now < 2 ^ 31) }
-        ensures agreement { KeepsAgreement A.lawful A.obliging A.offered A.refusals A.calls parts.old.agreement parts.new.agreement }
-        ensures hosts { KeepsHosts H.lawful H.obliging H.accepts H.trusts H.refused_sign H.refused_verify H.refused_check H.calls parts.old.hosts parts.new.hosts }
+        ensures agreement { KeepsAgreement A.lawful A.obliging A.offered A.refusals A.calls parts.old.agreement
+            parts.new.agreement }
+        ensures hosts { KeepsHosts H.lawful H.obliging H.accepts H.trusts H.refused_sign H.refused_verify
+            H.refused_check H.calls parts.old.hosts parts.new.hosts }
         ensures groups { KeepsGroups G.lawful G.obliging G.group G.refusals G.calls parts.old.groups parts.new.groups }
-        ensures agreement_calls { A.calls parts.new.agreement ≤ A.calls parts.old.agreement + asks_agreement self.entry.setting.side self.entry.stage (next_of result) }
+        ensures agreement_calls { A.calls parts.new.agreement ≤ A.calls parts.old.agreement + asks_agreement
+            self.entry.setting.side self.entry.stage (next_of result) }
         ensures hosts_calls { H.calls parts.new.hosts ≤ H.calls parts.old.hosts + asks_hosts self.entry.stage }
         ensures groups_calls { G.calls parts.new.groups ≤ G.calls parts.old.groups + asks_groups self.entry.stage }
-        ensures goes { IfOk result (λ p. Progresses (says_of A.lawful A.offered A.client_makes A.server_makes A.agrees H.lawful H.obliging H.accepts H.trusts H.makes G.lawful G.group self.entry.setting.config parts.old.agreement parts.old.hosts parts.old.groups) self.entry input.entry output.old p output.new) }
-        ensures causes { IfErr result (λ e. RefusesStep (says_of A.lawful A.offered A.client_makes A.server_makes A.agrees H.lawful H.obliging H.accepts H.trusts H.makes G.lawful G.group self.entry.setting.config parts.old.agreement parts.old.hosts parts.old.groups) (denies_of A.obliging A.offered A.client_makes A.server_makes A.refusals H.obliging H.accepts H.refused_sign H.refused_verify G.obliging G.refusals parts.old.agreement parts.new.agreement parts.old.hosts parts.new.hosts parts.old.groups parts.new.groups) self.entry input.entry e) }
+        ensures goes { IfOk result (λ p. Progresses (says_of A.lawful A.offered A.client_makes A.server_makes A.agrees
+            H.lawful H.obliging H.accepts H.trusts H.makes G.lawful G.group self.entry.setting.config
+            parts.old.agreement parts.old.hosts parts.old.groups) self.entry input.entry output.old p output.new) }
+        ensures causes { IfErr result (λ e. RefusesStep (says_of A.lawful A.offered A.client_makes A.server_makes
+            A.agrees H.lawful H.obliging H.accepts H.trusts H.makes G.lawful G.group self.entry.setting.config
+            parts.old.agreement parts.old.hosts parts.old.groups)
+            (denies_of A.obliging A.offered A.client_makes A.server_makes A.refusals H.obliging H.accepts H.refused_sign
+            H.refused_verify G.obliging G.refusals parts.old.agreement parts.new.agreement parts.old.hosts
+            parts.new.hosts parts.old.groups parts.new.groups) self.entry input.entry e) }
         ensures front { OnErr result (PutsFront self.entry.stage output.old output.new) }
         ensures unchanged { IfErr result (λ e. (e ≡ Memory → ⊥) → SameButRoom output.old output.new) }
     {
@@ -184,85 +209,40 @@ impl<'c> ServerKex<'c> {
         let ServerKex {
             config,
             cause,
-            mut exchange,
+            exchange,
             state,
             alloc,
         } = self;
+        let payload = incoming.payload;
         match state {
-            ServerState::Created => {
-                let names = match open(
-                    alloc,
-                    config,
-                    &cause,
-                    &parts.agreement,
-                    &mut exchange,
-                    &incoming,
-                ) {
-                    Ok(names) => names,
-                    Err(error) => return Err(error),
-                };
-                let algorithm = KexAlgorithm::new(alloc, names.kex);
-                if algorithm.skip_exchange() {
-                    return end_at_once(
-                        &algorithm,
-                        &cause,
-                        exchange,
-                        names,
-                        true,
-                        &mut parts.rng,
-                        output,
-                    );
-                }
-                if algorithm.is_dh_gex() {
-                    let state = ServerState::AwaitsRequest { names };
-                    return Ok(waits(alloc, config, cause, exchange, state, false));
-                }
-                let state = ServerState::AwaitsValue { names };
-                Ok(waits(alloc, config, cause, exchange, state, false))
-            }
-            ServerState::AwaitsRequest { names } => {
-                match answer_request(
-                    alloc,
-                    &mut parts.groups,
-                    &mut parts.rng,
-                    incoming.payload,
-                    output,
-                ) {
-                    Ok(gex) => {
-                        exchange.gex = Some(gex);
-                        let state = ServerState::AwaitsValue { names };
-                        Ok(waits(alloc, config, cause, exchange, state, false))
-                    }
-                    Err(error) => Err(error),
-                }
-            }
+            ServerState::Created => take_kexinit(
+                alloc,
+                config,
+                cause,
+                exchange,
+                &parts.agreement,
+                &mut parts.rng,
+                incoming,
+                output,
+            ),
+            ServerState::AwaitsRequest { names } => take_request(
+                alloc,
+                config,
+                cause,
+                exchange,
+                names,
+                &mut parts.groups,
+                &mut parts.rng,
+                payload,
+                output,
+            ),
             ServerState::AwaitsValue { names } => {
-                if names.ignore_guessed {
-                    let state = ServerState::AwaitsValue {
-                        names: behind_guess(names),
-                    };
-                    return Ok(waits(alloc, config, cause, exchange, state, false));
-                }
-                match answer_value(
-                    alloc,
-                    config,
-                    &cause,
-                    &names,
-                    parts,
-                    &mut exchange,
-                    incoming.payload,
-                    output,
-                ) {
-                    Ok((made, cipher)) => {
-                        let is_strict = begins_again(&made, &cause);
-                        let state = ServerState::AwaitsNewkeys { made, cipher };
-                        Ok(waits(alloc, config, cause, exchange, state, is_strict))
-                    }
-                    Err(error) => Err(error),
-                }
+                take_value(
+                    alloc, config, cause, exchange, names, parts, payload, output,
+                )
             }
             ServerState::AwaitsNewkeys { made, cipher } => {
-                last(exchange, None, made, cipher, incoming.payload)
+                last(exchange, None, made, cipher, payload)
             }
         }
     }
@@ -303,6 +283,162 @@ fn waits<'c>(
         },
         reset_seqn,
     }
+}
+
+/// The client's KEXINIT, and what follows its names. As `open`; Memory. A refusal leaves the output as it was.
+fn take_kexinit<'c, A: Agreement, R: Rng>(
+    alloc: Global,
+    config: &'c Config,
+    cause: KexCause,
+    exchange: Exchange,
+    agreement: &A,
+    rng: &mut R,
+    incoming: Incoming<'_>,
+    output: &mut PacketWriter,
+) -> Result<KexProgress<ServerKex<'c>>, Error>
+    requires short { length incoming.payload.now < 2 ^ 31 }
+    requires fresh { IsFresh config.now exchange }
+    ensures ok { IfOk result (λ p. AnswersOpening (λ name. A.offered agreement.now name ≡ true) config.now cause
+        exchange incoming.entry p output.old output.new) }
+    ensures err { IfErr result (RefusesKexinit (λ name. A.offered agreement.now name ≡ true) config.now cause
+        incoming.entry) }
+    ensures unchanged { OnErr result (SameButRoom output.old output.new) }
+{
+    let mut exchange = exchange;
+    let names = match open(alloc, config, &cause, agreement, &mut exchange, &incoming) {
+        Ok(names) => names,
+        Err(error) => return Err(error),
+    };
+    begin(alloc, config, cause, exchange, names, rng, output)
+}
+
+/// The sizes that a client asks for. As `answer_request`.
+fn take_request<'c, G: GroupLookup, R: Rng>(
+    alloc: Global,
+    config: &'c Config,
+    cause: KexCause,
+    exchange: Exchange,
+    names: Names,
+    groups: &mut G,
+    rng: &mut R,
+    payload: &[u8],
+    output: &mut PacketWriter,
+) -> Result<KexProgress<ServerKex<'c>>, Error>
+    requires { CanAsk config.now names exchange }
+    ensures keeps { KeepsGroups G.lawful G.obliging G.group G.refusals G.calls groups.old groups.new }
+    ensures calls { G.calls groups.new ≤ G.calls groups.old + 1 }
+    ensures ok { IfOk result (λ p. AnswersSizes (λ sizes q. (s : Setup) → G.lawful groups.old s
+        → (q ≡ G.group groups.old sizes) × IsCanonical q) config.now cause exchange names payload.now p output.old
+        output.new) }
+    ensures causes { IfErr result (RefusesRequest (λ sizes q. (s : Setup) → G.lawful groups.old s
+        → (q ≡ G.group groups.old sizes) × IsCanonical q) (λ sizes. Rose (G.refusals groups.old) (G.refusals groups.new)
+        × ((s : Setup) → G.obliging groups.old s → ⊥)) payload.now) }
+    ensures unchanged { OnErr result (SameButRoom output.old output.new) }
+{
+    match answer_request(alloc, groups, rng, payload, output) {
+        Ok(gex) => {
+            let gex = Some(gex);
+            let exchange = Exchange { gex, ..exchange };
+            let state = ServerState::AwaitsValue { names };
+            Ok(waits(alloc, config, cause, exchange, state, false))
+        }
+        Err(error) => Err(error),
+    }
+}
+
+/// A client's value; a wrong guess is dropped. As `answer_value`.
+fn take_value<'c, A: Agreement, H: HostKeys, G, R: Rng>(
+    alloc: Global,
+    config: &'c Config,
+    cause: KexCause,
+    exchange: Exchange,
+    names: Names,
+    parts: &mut Parts<A, H, G, R>,
+    payload: &[u8],
+    output: &mut PacketWriter,
+) -> Result<KexProgress<ServerKex<'c>>, Error>
+    requires can { CanAnswer config.now names exchange }
+    requires short { length payload.now < 2 ^ 31 }
+    ensures agreement { KeepsAgreement A.lawful A.obliging A.offered A.refusals A.calls parts.old.agreement
+        parts.new.agreement }
+    ensures hosts { KeepsHosts H.lawful H.obliging H.accepts H.trusts H.refused_sign H.refused_verify H.refused_check
+        H.calls parts.old.hosts parts.new.hosts }
+    ensures groups { parts.new.groups ≡ parts.old.groups }
+    ensures agreement_calls { A.calls parts.new.agreement ≤ A.calls parts.old.agreement + 1 }
+    ensures hosts_calls { H.calls parts.new.hosts ≤ H.calls parts.old.hosts + 1 }
+    ensures ok { IfOk result (λ p. AnswersOrDrops names.ignore_guessed
+        (λ v. (s : Setup) → A.lawful parts.old.agreement s → A.server_makes names.kex (group_of exchange.gex) v)
+        (λ c v x. (s : Setup) → A.lawful parts.old.agreement s
+        → A.agrees names.kex (group_of exchange.gex) c v x)
+        (λ host hash signature. (s : Setup) → s.server ≡ config.now → H.obliging parts.old.hosts s
+        → H.makes config.now host hash signature)
+        config.now cause exchange names payload.now p output.old output.new) }
+    ensures causes { IfErr result (RefusesClient names.ignore_guessed (is_gex names.kex)
+        (λ c. Rose (A.refusals parts.old.agreement) (A.refusals parts.new.agreement) × ((s : Setup) (l : List ℕ)
+        → A.obliging parts.old.agreement s → A.offered parts.old.agreement names.kex ≡ true
+        → A.client_makes names.kex (group_of exchange.gex) l c → ⊥))
+        (Rose (H.refused_sign parts.old.hosts) (H.refused_sign parts.new.hosts) × ((s : Setup)
+        → H.obliging parts.old.hosts s → ⊥))
+        (IsLongAnswer
+        (λ v. (s : Setup) → A.lawful parts.old.agreement s → A.server_makes names.kex (group_of exchange.gex) v)
+        (λ v. (s : Setup) → A.lawful parts.old.agreement s → IsSmall v)
+        (λ v. (s : Setup) → H.lawful parts.old.hosts s → IsSmall v) config.now names payload.now)
+        payload.now) }
+    ensures front { OnErr result (PutsAtMostReply (is_gex names.kex) output.old output.new) }
+    ensures unchanged { IfErr result (λ e. (e ≡ Memory → ⊥) → SameButRoom output.old output.new) }
+{
+    if names.ignore_guessed {
+        let names = behind_guess(names);
+        let state = ServerState::AwaitsValue { names };
+        return Ok(waits(alloc, config, cause, exchange, state, false));
+    }
+    let mut exchange = exchange;
+    match answer_value(
+        alloc,
+        config,
+        &cause,
+        &names,
+        parts,
+        &mut exchange,
+        payload,
+        output,
+    ) {
+        Ok((made, cipher)) => {
+            let is_strict = begins_again(&made, &cause);
+            let state = ServerState::AwaitsNewkeys { made, cipher };
+            Ok(waits(alloc, config, cause, exchange, state, is_strict))
+        }
+        Err(error) => Err(error),
+    }
+}
+
+/// What follows the names: the wait for the sizes of a group, or for the client's value; where no values are exchanged,
+/// NEWKEYS is sent, and all is at its end. Memory leaves the output as it was.
+fn begin<'c, R: Rng>(
+    alloc: Global,
+    config: &'c Config,
+    cause: KexCause,
+    exchange: Exchange,
+    names: Names,
+    rng: &mut R,
+    output: &mut PacketWriter,
+) -> Result<KexProgress<ServerKex<'c>>, Error>
+    requires { (shape_of names.kex).skip ≡ false → CanBegin (is_gex names.kex) config.now names exchange }
+    ensures ok { IfOk result (λ p. Begins (shape_of names.kex).skip
+        (is_gex names.kex) config.now cause exchange names p output.old output.new) }
+    ensures err { IfErr result (λ e. e ≡ Memory) }
+    ensures unchanged { OnErr result (SameButRoom output.old output.new) }
+{
+    let algorithm = KexAlgorithm::new(alloc, names.kex);
+    if algorithm.skip_exchange() {
+        return end_at_once(&algorithm, &cause, exchange, names, true, rng, output);
+    }
+    if algorithm.is_dh_gex() {
+        let state = ServerState::AwaitsRequest { names };
+        return Ok(waits(alloc, config, cause, exchange, state, false));
+    }
+    let state = ServerState::AwaitsValue { names };
+    Ok(waits(alloc, config, cause, exchange, state, false))
 }
 
 /// Whether the numbers of the own packets begin again behind NEWKEYS.

@@ -17,7 +17,7 @@ ghost use Rattle.ssh_kex.specs.Stepping.{Puts, PutsAll};
 use crate::algorithm::KexAlgorithm;
 use crate::config::Config;
 use crate::exchange::{Exchange, FinishedExchange, GexChosen};
-use crate::group::DhGroup;
+use crate::group::copy_of_group;
 use crate::last_message::finish;
 use crate::message::{has_type, put_message};
 use crate::parts::{Agreement, HostKeys, Parts, Refusal};
@@ -67,17 +67,6 @@ fn read_value(payload: &[u8], is_gex: bool) -> Result<&[u8], Error>
     }
 }
 
-/// A copy of a group. Memory.
-fn copy_of(alloc: Global, group: &DhGroup) -> Result<DhGroup, Error>
-    ensures ok { IfOk result (λ g. g ≡ group.now) }
-    ensures err { IfErr result (λ e. e ≡ Memory) }
-{
-    Ok(DhGroup {
-        prime: Blob::copy_of(alloc, group.prime.as_slice())?,
-        generator: Blob::copy_of(alloc, group.generator.as_slice())?,
-    })
-}
-
 /// A key exchange with the group that was chosen. Memory.
 fn algorithm_with(
     alloc: Global,
@@ -85,12 +74,18 @@ fn algorithm_with(
     gex: Option<&GexChosen>,
 ) -> Result<KexAlgorithm, Error>
     requires { is_some gex ≡ is_gex name }
-    ensures ok { IfOk result (λ k. k ≡ record { name = name; group = group_of (option_copied gex.entry); local = None; secret = None }) }
+    ensures ok { IfOk result (λ k. k ≡ record {
+      name = name;
+      group = group_of
+          (option_copied gex.entry);
+      local = None;
+      secret = None;
+    }) }
     ensures err { IfErr result (λ e. e ≡ Memory) }
 {
     let mut algorithm = KexAlgorithm::new(alloc, name);
     if let Some(gex) = gex {
-        algorithm.dh_gex_set_group(copy_of(alloc, &gex.group)?)?;
+        algorithm.dh_gex_set_group(copy_of_group(alloc, &gex.group)?)?;
     }
     Ok(algorithm)
 }
@@ -110,11 +105,13 @@ fn agree<A: Agreement, R: Rng>(
     ensures calls { A.calls agreement.new ≤ A.calls agreement.old + 1 }
     ensures ok { IfOk result (AgreesOn (λ v x. (s : Setup) → A.lawful agreement.old s
         → A.server_makes name (group_of exchange.old.gex) v
-        × A.agrees name (group_of exchange.old.gex) exchange.old.client_ephemeral v x × IsSmall v) name exchange.old exchange.new) }
+        × A.agrees name (group_of exchange.old.gex) exchange.old.client_ephemeral v x
+        × IsSmall v) name exchange.old exchange.new) }
     ensures causes { IfErr result (λ e. (e ≡ Kex) ⊎ (e ≡ Memory)) }
     ensures rose { IfErr result (λ e. e ≡ Kex → Rose (A.refusals agreement.old) (A.refusals agreement.new)) }
     ensures owed { IfErr result (λ e. e ≡ Kex → (s : Setup) (local : List ℕ) → A.obliging agreement.old s
-        → A.offered agreement.old name ≡ true → A.client_makes name (group_of exchange.old.gex) local exchange.old.client_ephemeral → ⊥) }
+        → A.offered agreement.old name ≡ true → A.client_makes name
+        (group_of exchange.old.gex) local exchange.old.client_ephemeral → ⊥) }
 {
     let mut algorithm = algorithm_with(alloc, name, exchange.gex.as_ref())?;
     match algorithm.server_dh(agreement, rng, exchange) {
@@ -180,19 +177,26 @@ pub(crate) fn answer_value<A: Agreement, H: HostKeys, G, R: Rng>(
 ) -> Result<(FinishedExchange, CipherPair), Error>
     requires can { CanAnswer config.now names.now exchange.old }
     requires short { length payload.now < 2 ^ 31 }
-    ensures agreement { KeepsAgreement A.lawful A.obliging A.offered A.refusals A.calls parts.old.agreement parts.new.agreement }
-    ensures hosts { KeepsHosts H.lawful H.obliging H.accepts H.trusts H.refused_sign H.refused_verify H.refused_check H.calls parts.old.hosts parts.new.hosts }
+    ensures agreement { KeepsAgreement A.lawful A.obliging A.offered A.refusals A.calls parts.old.agreement
+        parts.new.agreement }
+    ensures hosts { KeepsHosts H.lawful H.obliging H.accepts H.trusts H.refused_sign H.refused_verify H.refused_check
+        H.calls parts.old.hosts parts.new.hosts }
     ensures groups { parts.new.groups ≡ parts.old.groups }
     ensures agreement_calls { A.calls parts.new.agreement ≤ A.calls parts.old.agreement + 1 }
     ensures hosts_calls { H.calls parts.new.hosts ≤ H.calls parts.old.hosts + 1 }
     ensures ok { IfOk result (AnswersValue
         (λ v. (s : Setup) → A.lawful parts.old.agreement s → A.server_makes names.now.kex (group_of exchange.old.gex) v)
-        (λ c v x. (s : Setup) → A.lawful parts.old.agreement s → A.agrees names.now.kex (group_of exchange.old.gex) c v x)
-        (λ host hash signature. (s : Setup) → s.server ≡ config.now → H.obliging parts.old.hosts s → H.makes config.now host hash signature)
+        (λ c v x. (s : Setup) → A.lawful parts.old.agreement s → A.agrees names.now.kex
+        (group_of exchange.old.gex) c v x)
+        (λ host hash signature. (s : Setup) → s.server ≡ config.now → H.obliging parts.old.hosts s
+        → H.makes config.now host hash signature)
         config.now cause.now names.now exchange.old exchange.new payload.now output.old output.new) }
     ensures causes { IfErr result (RefusesValue (is_gex names.now.kex)
-        (λ c. Rose (A.refusals parts.old.agreement) (A.refusals parts.new.agreement) × ((s : Setup) (l : List ℕ) → A.obliging parts.old.agreement s → A.offered parts.old.agreement names.now.kex ≡ true → A.client_makes names.now.kex (group_of exchange.old.gex) l c → ⊥))
-        (Rose (H.refused_sign parts.old.hosts) (H.refused_sign parts.new.hosts) × ((s : Setup) → H.obliging parts.old.hosts s → ⊥))
+        (λ c. Rose (A.refusals parts.old.agreement) (A.refusals parts.new.agreement) × ((s : Setup) (l : List ℕ)
+        → A.obliging parts.old.agreement s → A.offered parts.old.agreement names.now.kex ≡ true
+        → A.client_makes names.now.kex (group_of exchange.old.gex) l c → ⊥))
+        (Rose (H.refused_sign parts.old.hosts) (H.refused_sign parts.new.hosts) × ((s : Setup)
+        → H.obliging parts.old.hosts s → ⊥))
         (IsLongAnswer
         (λ v. (s : Setup) → A.lawful parts.old.agreement s → A.server_makes names.now.kex (group_of exchange.old.gex) v)
         (λ v. (s : Setup) → A.lawful parts.old.agreement s → IsSmall v)

@@ -11,6 +11,15 @@ abbrev pub lines_left : Option (Bor (List ℕ)) → List (List ℕ)
 lines_left None = []
 lines_left (Some rest) = pieces 10 rest.now
 
+-- names so far, before those of the pieces that are left
+abbrev pub onto_names : {X : Type 0} → List X → Option (List X) → Option (List X)
+onto_names front None = None
+onto_names front (Some names) = Some (front ++ names)
+
+abbrev pub names_left : Option (Bor (List ℕ)) → List (List ℕ)
+names_left None = []
+names_left (Some rest) = pieces 44 rest.now
+
 -- an empty line is left where only its end is, so each text counts one more than its bytes
 abbrev pub size_left : Option (Bor (List ℕ)) → ℕ
 size_left None = 0

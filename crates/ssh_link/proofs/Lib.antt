@@ -1,6 +1,4 @@
-pub mod Answering
 pub mod Carried
-pub mod Commands
 pub mod Cutting
 pub mod Growing
 pub mod Judging
@@ -11,3 +9,9 @@ pub mod Refusals
 pub mod Runs
 pub mod Sent
 pub mod Taking
+pub mod Texts
+pub mod ExchangeLines
+pub mod Answering
+pub mod Commands
+pub mod Stored
+pub mod WholeReports

@@ -4,7 +4,7 @@ use Rattle.std.specs.List.{flat_map, join_with_byte}
 use Rattle.ssh_link.specs.Report.{names_word}
 
 -- a list with commas between: the first, and then each behind a comma
-join_with_byte-first : (c : ℕ) (x : List ℕ) (xs : List (List ℕ)) → x ++ flat_map (λ name. c ∷ name) xs ≡ join_with_byte c (x ∷ xs)
+pub join_with_byte-first : (c : ℕ) (x : List ℕ) (xs : List (List ℕ)) → x ++ flat_map (λ name. c ∷ name) xs ≡ join_with_byte c (x ∷ xs)
 join_with_byte-first c x [] = append-nil x
 join_with_byte-first c x (y ∷ xs) = ap (λ rest. x ++ (c ∷ rest)) (join_with_byte-first c y xs)
 

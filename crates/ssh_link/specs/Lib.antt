@@ -2,9 +2,15 @@ pub mod ClearLink
 pub mod ClearRun
 pub mod Delivering
 pub mod Parsing
-pub mod Program
 pub mod Receiving
 pub mod Report
 pub mod Script
 pub mod Adapters
 pub mod Statuses
+pub mod LineFaults
+pub mod Plans
+pub mod RunReport
+pub mod RunScript
+pub mod Program
+pub mod PlanRun
+pub mod LinkEnds

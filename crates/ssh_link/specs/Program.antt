@@ -10,12 +10,19 @@ use Rattle.ssh_wire.specs.declared.error.Error.{Error}
 use Rattle.ssh_wire.specs.declared.ssh_id.SshId.{SshId}
 use Rattle.ssh_wire.specs.declared.ssh_id.SshId.TheVariants.{Standard}
 use Rattle.ssh_link.specs.ClearRun.{IsClearRun, IsRefusedSize, first_refused}
+use Rattle.ssh_rules.specs.declared.link.LinkReport.{LinkReport}
+use Rattle.ssh_link.specs.PlanRun.{IsPlanRun, IsRefusedPlan}
+use Rattle.ssh_link.specs.Plans.{Plan}
+use Rattle.ssh_link.specs.RunReport.{link_report_text}
+use Rattle.ssh_link.specs.RunScript.{run_script}
 use Rattle.ssh_link.specs.Report.{clear_report_text, fault_line, refusal_line}
 use Rattle.ssh_link.specs.Script.{clear_script}
 use Rattle.ssh_link.specs.Statuses.{report_written, run_refused, no_command, script_faulty, sink_failed}
 use Rattle.ssh_link.specs.declared.answer.Answer.{Answer}
-use Rattle.ssh_link.specs.declared.answer.Answer.TheVariants.{Usage, Faulty, Refused, Ran}
+use Rattle.ssh_link.specs.declared.answer.Answer.TheVariants.{Usage, Faulty, Refused, Ran, RanLink}
 use Rattle.ssh_link.specs.declared.answer.MainEnd.{MainEnd}
+use Rattle.ssh_link.specs.declared.command.Command.{Command}
+use Rattle.ssh_link.specs.declared.command.Command.TheVariants as command
 use Rattle.ssh_link.specs.declared.report.ClearReport.{ClearReport}
 use Rattle.ssh_link.specs.declared.script.ScriptFault.{ScriptFault}
 use Rattle.ssh_link.specs.declared.step.ClearStep.{ClearStep}
@@ -25,9 +32,18 @@ abbrev pub AreWords : {E : Type 0} → Result (IntoIter (String Global) Global) 
 AreWords (Ok arguments) words = words ≡ map string_bytes (drop 1 (into_iter_items arguments))
 AreWords (Err e) words = words ≡ []
 
--- the words of the one command
+-- the word of a command
+abbrev pub command_word : Command → List ℕ
+command_word command.Clear = codes "clear"
+command_word command.Run = codes "run"
+
+-- these are the words of this command
+abbrev pub Names : Command → List (List ℕ) → Type 0
+Names command words = words ≡ command_word command ∷ []
+
+-- the words of some command
 abbrev pub IsCommand : List (List ℕ) → Type 0
-IsCommand words = words ≡ codes "clear" ∷ []
+IsCommand words = (command : Command) × Names command words
 
 -- the version line of the client
 abbrev pub client_id : SshId
@@ -37,29 +53,54 @@ client_id = Standard (codes "SSH-2.0-sshlink_client")
 abbrev pub server_id : SshId
 server_id = Standard (codes "SSH-2.0-sshlink_server")
 
--- what is answered to steps: the first payload that may not be sent, or where there is none the report of their run
+-- what is answered to steps of a clear link: the first payload that may not be sent, or where there is none the report
+-- of their run
 abbrev pub AnswersSteps : List ClearStep → Answer → Type 0
 AnswersSteps steps Usage = ⊥
 AnswersSteps steps (Faulty fault) = ⊥
 AnswersSteps steps (Refused e) = IsRefusedSize steps e
 AnswersSteps steps (Ran report) = (first_refused steps ≡ None) × IsClearRun client_id server_id steps report
+AnswersSteps steps (RanLink report) = ⊥
 
--- what is answered to a script: its fault, or what is answered to its steps
+-- what is answered to a script of a clear link: its fault, or what is answered to its steps
 abbrev pub AnswersScript : Result (List ClearStep) ScriptFault → Answer → Type 0
 AnswersScript (Err fault) answer = answer ≡ Faulty fault
 AnswersScript (Ok steps) answer = AnswersSteps steps answer
 
--- what is answered to the text that was left, all of it where that is told
-abbrev pub AnswersLeft : Option (List ℕ) → Answer → Type 0
-AnswersLeft left answer = (text : List ℕ) × IfSome left (λ bytes. bytes ≡ text)
-    × AnswersScript (clear_script text) answer
+-- what is answered to a plan of a link: why its run was refused, or the report of its run
+abbrev pub AnswersPlan : Plan → Answer → Type 0
+AnswersPlan plan Usage = ⊥
+AnswersPlan plan (Faulty fault) = ⊥
+AnswersPlan plan (Refused e) = IsRefusedPlan plan e
+AnswersPlan plan (Ran report) = ⊥
+AnswersPlan plan (RanLink report) = IsPlanRun plan report
 
--- what is answered to words that aren't the command, or else to what was left
+-- what is answered to a script of a link: its fault, or what is answered to its plan
+abbrev pub AnswersLinkScript : Result Plan ScriptFault → Answer → Type 0
+AnswersLinkScript (Err fault) answer = answer ≡ Faulty fault
+AnswersLinkScript (Ok plan) answer = AnswersPlan plan answer
+
+-- what a command answers to the text of its script
+abbrev pub AnswersText : Command → List ℕ → Answer → Type 0
+AnswersText command.Clear text answer = AnswersScript (clear_script text) answer
+AnswersText command.Run text answer = AnswersLinkScript (run_script text) answer
+
+-- what a command answers to the text that was left, all of it where that is told
+abbrev pub AnswersLeft : Command → Option (List ℕ) → Answer → Type 0
+AnswersLeft command left answer = (text : List ℕ) × IfSome left (λ bytes. bytes ≡ text)
+    × AnswersText command text answer
+
+-- the answer of the command that has these words
+abbrev pub AnswersWords : List (List ℕ) → Option (List ℕ) → Answer → Type 0
+AnswersWords words left answer = (command : Command) × Names command words × AnswersLeft command left answer
+
+-- what is answered to words that aren't a command, or else to what was left
 abbrev pub IsAnswer : List (List ℕ) → Option (List ℕ) → Answer → Type 0
 IsAnswer words left Usage = ¬ (IsCommand words)
-IsAnswer words left (Faulty fault) = IsCommand words × AnswersLeft left (Faulty fault)
-IsAnswer words left (Refused e) = IsCommand words × AnswersLeft left (Refused e)
-IsAnswer words left (Ran report) = IsCommand words × AnswersLeft left (Ran report)
+IsAnswer words left (Faulty fault) = AnswersWords words left (Faulty fault)
+IsAnswer words left (Refused e) = AnswersWords words left (Refused e)
+IsAnswer words left (Ran report) = AnswersWords words left (Ran report)
+IsAnswer words left (RanLink report) = AnswersWords words left (RanLink report)
 
 -- what is written
 abbrev pub answer_text : Answer → List ℕ
@@ -67,6 +108,7 @@ answer_text Usage = codes "usage\n"
 answer_text (Faulty fault) = fault_line fault
 answer_text (Refused e) = refusal_line e
 answer_text (Ran report) = clear_report_text report
+answer_text (RanLink report) = link_report_text report
 
 -- the exit status, once all is written
 abbrev pub answer_status : Answer → ℕ
@@ -74,33 +116,44 @@ answer_status Usage = no_command
 answer_status (Faulty fault) = script_faulty
 answer_status (Refused e) = run_refused
 answer_status (Ran report) = report_written
+answer_status (RanLink report) = report_written
 
 abbrev pub shown_clear : Answer → Option ClearReport
 shown_clear Usage = None
 shown_clear (Faulty fault) = None
 shown_clear (Refused e) = None
 shown_clear (Ran report) = Some report
+shown_clear (RanLink report) = None
+
+abbrev pub shown_report : Answer → Option LinkReport
+shown_report Usage = None
+shown_report (Faulty fault) = None
+shown_report (Refused e) = None
+shown_report (Ran report) = None
+shown_report (RanLink report) = Some report
 
 abbrev pub shown_refused : Answer → Option Error
 shown_refused Usage = None
 shown_refused (Faulty fault) = None
 shown_refused (Refused e) = Some e
 shown_refused (Ran report) = None
+shown_refused (RanLink report) = None
 
 abbrev pub shown_fault : Answer → Option ScriptFault
 shown_fault Usage = None
 shown_fault (Faulty fault) = Some fault
 shown_fault (Refused e) = None
 shown_fault (Ran report) = None
+shown_fault (RanLink report) = None
 
 -- the end tells this answer, and no other
 abbrev pub Shows : Answer → MainEnd → Type 0
-Shows answer end = (end.clear ≡ shown_clear answer) × (end.refused ≡ shown_refused answer)
+Shows answer end = (end.clear ≡ shown_clear answer) × (end.report ≡ shown_report answer) × (end.refused ≡ shown_refused answer)
     × (end.fault ≡ shown_fault answer)
 
 -- the end tells no answer
 abbrev pub ShowsNone : MainEnd → Type 0
-ShowsNone end = (end.clear ≡ None) × (end.refused ≡ None) × (end.fault ≡ None)
+ShowsNone end = (end.clear ≡ None) × (end.report ≡ None) × (end.refused ≡ None) × (end.fault ≡ None)
 
 -- the answer's text was written and the status is the answer's, or the sink failed behind a front of the text
 abbrev pub IsWritten : Answer → ℕ → Option (List ℕ) → Option (List ℕ) → ℕ → ℕ → Type 0

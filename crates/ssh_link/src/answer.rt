@@ -6,10 +6,12 @@ ghost use Rattle.ssh_wire.specs.declared.error.Error.TheVariants.{Memory};
 
 use crate::clear_report::print_clear;
 use crate::command::USAGE;
+use crate::link_report::print_report;
 use crate::refusal::{push_fault, push_refusal};
 use crate::report::ClearReport;
 use crate::script::ScriptFault;
 use crate::status::{NO_COMMAND, REPORT_WRITTEN, RUN_REFUSED, SCRIPT_FAULTY};
+use ssh_rules::link::LinkReport;
 use ssh_wire::Error;
 use std::alloc::Global;
 
@@ -22,8 +24,10 @@ pub enum Answer {
     Faulty(ScriptFault),
     /// The run was refused.
     Refused(Error),
-    /// The run went to its end.
+    /// The run of a clear link went to its end.
     Ran(ClearReport),
+    /// The run of a link went to its end.
+    RanLink(LinkReport),
 }
 
 /// How a call of the program ended.
@@ -32,8 +36,10 @@ pub struct MainEnd {
     /// The exit status, one of `status`: 0 the report is written, 1 the run was refused, 2 the words are no
     /// command, 3 the script is faulty, 4 the source failed, 5 the sink failed, 6 want of memory.
     pub status: u8,
-    /// The report, where the run went to its end.
+    /// The report of a clear link, where its run went to its end.
     pub clear: Option<ClearReport>,
+    /// The report of a link, where its run went to its end.
+    pub report: Option<LinkReport>,
     /// Why the run was refused.
     pub refused: Option<Error>,
     /// How the script breaks its grammar.
@@ -49,6 +55,7 @@ impl MainEnd {
         MainEnd {
             status,
             clear: None,
+            report: None,
             refused: None,
             fault: None,
         }
@@ -65,6 +72,7 @@ impl MainEnd {
             Answer::Faulty(fault) => end.fault = Some(fault),
             Answer::Refused(error) => end.refused = Some(error),
             Answer::Ran(report) => end.clear = Some(report),
+            Answer::RanLink(report) => end.report = Some(report),
         }
         end
     }
@@ -79,7 +87,7 @@ impl Answer {
             Answer::Usage => NO_COMMAND,
             Answer::Faulty(_) => SCRIPT_FAULTY,
             Answer::Refused(_) => RUN_REFUSED,
-            Answer::Ran(_) => REPORT_WRITTEN,
+            Answer::Ran(_) | Answer::RanLink(_) => REPORT_WRITTEN,
         }
     }
 
@@ -94,6 +102,7 @@ impl Answer {
             Answer::Faulty(fault) => push_fault(&mut out, *fault)?,
             Answer::Refused(error) => push_refusal(&mut out, error)?,
             Answer::Ran(report) => return print_clear(alloc, report),
+            Answer::RanLink(report) => return print_report(alloc, report),
         }
         Ok(out)
     }

@@ -1,9 +1,10 @@
 //! The words that the program was called with.
 
-ghost use Rattle.std.specs.Prelude.{◌≡◌, ◌↔◌, ℕ, List, map, IsTrue, IfOk};
+ghost use Rattle.std.specs.Prelude.{◌≡◌, ◌≢◌, ℕ, List, map, IfOk, IfSome, IfNone};
 ghost use Rattle.std.specs.String.{string_bytes};
 ghost use Rattle.std.specs.Vec.Iter.{into_iter_items};
-ghost use Rattle.ssh_link.specs.Program.{AreWords, IsCommand};
+ghost use Rattle.ssh_link.specs.Program.{AreWords, Names, IsCommand, command_word};
+ghost use Rattle.ssh_link.specs.declared.command.Command.{Command};
 
 use std::alloc::{AllocError, Global};
 use std::env::Args;
@@ -66,12 +67,36 @@ fn words_in(alloc: Global, arguments: Args<Global>) -> Result<Vec<Word>, AllocEr
     Ok(words)
 }
 
-/// Whether these are the words of the one command.
-pub fn is_command(words: &[Word]) -> bool
-    ensures { IsTrue result ↔ IsCommand words.now }
+/// What the program can be asked to do.
+#[derive(Clone, Copy, Debug, PartialEq, Eq)]
+pub enum Command {
+    /// To run a clear link.
+    Clear,
+    /// To run a link.
+    Run,
+}
+
+/// The command that has these words.
+pub fn command_of(words: &[Word]) -> Option<Command>
+    ensures found { IfSome result (λ command. Names command words.now) }
+    ensures none { IfNone result (¬ (IsCommand words.now)) }
 {
     match words {
-        [word] => word.as_str() == "clear",
-        _ => false,
+        [word] => command_named(word.as_str()),
+        _ => None,
+    }
+}
+
+/// The command of a word.
+fn command_named(word: &str) -> Option<Command>
+    ensures found { IfSome result (λ command. word.now ≡ command_word command) }
+    ensures none { IfNone result ((command : Command) → word.now ≢ command_word command) }
+{
+    if word == "clear" {
+        Some(Command::Clear)
+    } else if word == "run" {
+        Some(Command::Run)
+    } else {
+        None
     }
 }

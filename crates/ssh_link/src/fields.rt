@@ -5,6 +5,7 @@ ghost use Rattle.std.specs.Option.{option_map};
 ghost use Rattle.std.specs.Char.{is_ascii_digit};
 ghost use Rattle.std.specs.List.{list_all};
 ghost use Rattle.ssh_link.specs.Script.{side_of, hex_of, number_of, is_number};
+ghost use Rattle.ssh_link.specs.RunScript.{size_of};
 
 use hex::FromHexError;
 use ssh_wire::Side;
@@ -16,6 +17,9 @@ const CLIENT: &[u8] = b"client";
 const SERVER: &[u8] = b"server";
 
 const NO_BYTES: &[u8] = b"-";
+
+/// The largest size of a group, in bits.
+const LARGEST_SIZE: u64 = 65536;
 
 /// SIDE: `client` or `server`.
 pub(crate) fn side(word: &[u8]) -> Option<Side>
@@ -52,6 +56,17 @@ pub(crate) fn number(word: &[u8]) -> Option<u64>
         return None;
     }
     str::from_utf8(word).ok()?.parse::<u64>().ok()
+}
+
+/// N, at most 65536.
+pub(crate) fn size(word: &[u8]) -> Option<u32>
+    ensures { result ≡ size_of word.now }
+{
+    let n = number(word)?;
+    if LARGEST_SIZE < n {
+        return None;
+    }
+    Some(n as u32)
 }
 
 fn is_number(word: &[u8]) -> bool

@@ -8,17 +8,29 @@ mod clear_report;
 mod clear_script;
 mod command;
 mod fields;
+mod line_fault;
 mod lines;
+mod link;
+mod link_end;
+mod link_report;
+mod link_script;
+mod name_lists;
 mod print;
 mod program;
 mod receiver;
 mod refusal;
 mod report;
+mod report_line;
 mod run;
+mod run_parts;
 mod script;
+mod script_run;
+mod setting;
+mod setup;
 mod status;
 mod step;
 mod stream;
+mod text_answer;
 mod words;
 
 pub use crate::adapters::{StdSink, StdSource};
@@ -26,10 +38,15 @@ pub use crate::answer::MainEnd;
 pub use crate::clear_report::print_clear;
 pub use crate::clear_script::parse_clear;
 pub use crate::command::Word;
+pub use crate::link::run_link;
+pub use crate::link_report::print_report;
+pub use crate::link_script::parse_script;
 pub use crate::program::{exit_code, link_main};
 pub use crate::report::{ClearReport, ClearSide};
 pub use crate::run::run_clear;
 pub use crate::script::{ScriptError, ScriptFault, ScriptKind};
+pub use crate::script_run::run_script;
+pub use crate::setup::{Script, SideSetup};
 pub use crate::status::{
     NO_COMMAND, REPORT_WRITTEN, RUN_REFUSED, SCRIPT_FAULTY, SINK_FAILED, SOURCE_FAILED,
     WANT_OF_MEMORY, exit_statuses,

@@ -10,7 +10,7 @@ use crate::words::{Words, cut};
 use std::alloc::{AllocError, Global};
 
 /// The longest script, in bytes.
-const LONGEST_SCRIPT: usize = 67108864;
+pub(crate) const LONGEST_SCRIPT: usize = 67108864;
 
 /// What a line says: nothing, a step, or how it breaks the grammar.
 pub(crate) type LineSays<Step> = Result<Option<Step>, ScriptKind>;
@@ -80,7 +80,7 @@ fn read_line<F: Forms>(alloc: Global, line: &[u8]) -> Result<LineSays<F::Step>, 
     }
 }
 
-fn begins_comment(word: &[u8]) -> bool
+pub(crate) fn begins_comment(word: &[u8]) -> bool
     requires { is_filled word.now ≡ true }
     ensures { result ≡ is_comment word.now }
 {

@@ -5,22 +5,19 @@ ghost use Rattle.std.specs.Process.{exit_status};
 ghost use Rattle.ssh_wire.specs.Outside.{Rose, TakesAtMost, ReachesEnd};
 ghost use Rattle.ssh_wire.specs.declared.ssh_id.SshId.TheVariants.{Standard};
 ghost use Rattle.ssh_link.specs.Parsing.{IsRefusal};
-ghost use Rattle.ssh_link.specs.Program.{AreWords, IsCommand, AnswersSteps, AnswersScript, AnswersLeft, IsAnswer, Shows, ShowsNone, IsWritten, answer_text, shown_clear, shown_refused};
+ghost use Rattle.ssh_link.specs.Program.{AreWords, IsCommand, AnswersLeft, IsAnswer, Shows, ShowsNone, IsWritten, answer_text, shown_clear, shown_report, shown_refused};
 ghost use Rattle.ssh_link.specs.Script.{clear_script, longest_script};
 ghost use Rattle.ssh_link.specs.Statuses.{no_command, source_failed, sink_failed, want_of_memory};
 ghost use Rattle.ssh_link.specs.declared.answer.Answer.{Answer};
 ghost use Rattle.ssh_link.specs.declared.stream.ReadError.TheVariants.{Failed, Memory};
 
 use crate::answer::{Answer, MainEnd};
-use crate::clear_script::parse_clear;
-use crate::command::{USAGE, Word, is_command, words_of};
-use crate::run::run_clear;
-use crate::script::ScriptError;
+use crate::command::{Command, USAGE, Word, command_of, words_of};
 use crate::status::{SINK_FAILED, SOURCE_FAILED, WANT_OF_MEMORY};
-use crate::step::ClearStep;
 use crate::stream::{ReadError, read_source};
-use ssh_wire::{Error, Sink, Source, SshId, Text, write_all};
-use std::alloc::{AllocError, Global};
+use crate::text_answer::text_answer;
+use ssh_wire::{Sink, Source, write_all};
+use std::alloc::Global;
 use std::env::Args;
 use std::io;
 use std::process::ExitCode;
@@ -61,6 +58,7 @@ pub fn link_main<S: Source, K: Sink>(
     ensures status { result.status ≤ want_of_memory }
     ensures answered { result.status ≢ source_failed → result.status ≢ want_of_memory → (answer : Answer) × IsAnswer words.now (S.left source.old) answer × Shows answer result × IsWritten answer result.status (K.held sink.old) (K.held sink.new) (K.faults sink.old) (K.faults sink.new) }
     ensures run_end { OnSome result.clear (ReachesEnd (S.left source.old) (S.left source.new)) }
+    ensures link_end { OnSome result.report (ReachesEnd (S.left source.old) (S.left source.new)) }
     ensures refused_end { OnSome result.refused (ReachesEnd (S.left source.old) (S.left source.new)) }
     ensures source_failed { result.status ≡ source_failed → Rose (S.faults source.old) (S.faults source.new) }
     ensures silent { (result.status ≡ source_failed) ⊎ (result.status ≡ want_of_memory) → ShowsNone result × (K.held sink.new ≡ K.held sink.old) }
@@ -71,10 +69,10 @@ pub fn link_main<S: Source, K: Sink>(
     ensures unread { ¬ (IsCommand words.now) → S.left source.new ≡ S.left source.old }
     ensures bounded { TakesAtMost (longest_script + 1) (S.left source.old) (S.left source.new) }
 {
-    if !is_command(words) {
+    let Some(command) = command_of(words) else {
         return write_answer(sink, Answer::Usage, USAGE);
-    }
-    match clear_answer(alloc, source) {
+    };
+    match read_answer(alloc, command, source) {
         Ok(answer) => print_answer(alloc, sink, answer),
         Err(ReadError::Failed) => MainEnd::without(SOURCE_FAILED),
         Err(ReadError::Memory) => MainEnd::without(WANT_OF_MEMORY),
@@ -82,55 +80,21 @@ pub fn link_main<S: Source, K: Sink>(
 }
 
 /// Reads the script and runs it. Failed where the source failed, Memory where reading or running had none.
-fn clear_answer<S: Source>(alloc: Global, source: &mut S) -> Result<Answer, ReadError>
-    ensures answer { IfOk result (λ answer. AnswersLeft (S.left source.old) answer) }
+fn read_answer<S: Source>(
+    alloc: Global,
+    command: Command,
+    source: &mut S,
+) -> Result<Answer, ReadError>
+    ensures answer { IfOk result (λ answer. AnswersLeft command (S.left source.old) answer) }
     ensures run_end { IfOk result (λ answer. OnSome (shown_clear answer) (ReachesEnd (S.left source.old) (S.left source.new))) }
+    ensures link_end { IfOk result (λ answer. OnSome (shown_report answer) (ReachesEnd (S.left source.old) (S.left source.new))) }
     ensures refused_end { IfOk result (λ answer. OnSome (shown_refused answer) (ReachesEnd (S.left source.old) (S.left source.new))) }
     ensures failed { IfErr result (λ e. e ≡ Failed → Rose (S.faults source.old) (S.faults source.new)) }
     ensures unfailed { result ≢ Err Failed → S.faults source.new ≡ S.faults source.old }
     ensures bounded { TakesAtMost (longest_script + 1) (S.left source.old) (S.left source.new) }
 {
     let text = read_source(alloc, source)?;
-    script_answer(alloc, text)
-}
-
-fn script_answer(alloc: Global, text: Vec<u8>) -> Result<Answer, ReadError>
-    ensures answer { IfOk result (λ answer. AnswersScript (clear_script text.items) answer) }
-    ensures err { IfErr result (λ e. e ≡ Memory) }
-{
-    match take_steps(alloc, text) {
-        Ok(steps) => run_answer(alloc, steps),
-        Err(ScriptError::Fault(fault)) => Ok(Answer::Faulty(fault)),
-        Err(ScriptError::Memory) => Err(ReadError::Memory),
-    }
-}
-
-/// The script's steps. The text is freed before they are run.
-fn take_steps(alloc: Global, text: Vec<u8>) -> Result<Vec<ClearStep>, ScriptError>
-    ensures read { IfOk result (λ steps. clear_script text.items ≡ Ok steps.items) }
-    ensures fault { IfErr result (λ error. IsRefusal (clear_script text.items) error) }
-{
-    parse_clear(alloc, text.as_slice())
-}
-
-/// Runs the steps, which are freed before the report is printed.
-fn run_answer(alloc: Global, steps: Vec<ClearStep>) -> Result<Answer, ReadError>
-    ensures answer { IfOk result (λ answer. AnswersSteps steps.items answer) }
-    ensures err { IfErr result (λ e. e ≡ Memory) }
-{
-    let client_id = standard_id(alloc, "SSH-2.0-sshlink_client")?;
-    let server_id = standard_id(alloc, "SSH-2.0-sshlink_server")?;
-    match run_clear(alloc, &client_id, &server_id, steps.as_slice()) {
-        Ok(report) => Ok(Answer::Ran(report)),
-        Err(Error::Memory) => Err(ReadError::Memory),
-        Err(error) => Ok(Answer::Refused(error)),
-    }
-}
-
-fn standard_id(alloc: Global, text: &str) -> Result<SshId, AllocError>
-    ensures { IfOk result (λ id. id ≡ Standard text.now) }
-{
-    Ok(SshId::Standard(Text::new(String::from_str(alloc, text)?)))
+    text_answer(alloc, command, text)
 }
 
 /// Writes the answer's text. Where there is no memory for it, nothing is written.

@@ -1,8 +1,8 @@
 -- Whether all lists of an offer can be advertised.
-use Rattle.std.proofs.Common.{Result, Ok, Err, IfOk, ◌≡◌, Bool, ◌&&◌, ◌↔◌, IsTrue, sym, ◌∙◌}
+use Rattle.std.proofs.Common.{◌≡◌, Bool, ◌&&◌, ◌↔◌, IsTrue, sym, ◌∙◌}
 use Rattle.std.proofs.lemmas.Bool.{and_parts, and_from}
 use Rattle.ssh_negotiate.specs.Advertised.{Offers, kex_texts, key_texts, cipher_texts, mac_texts, compression_texts}
-use Rattle.ssh_negotiate.specs.Laws.{AreShort, IsListed, IsWithin}
+use Rattle.ssh_negotiate.specs.Laws.{IsListed, IsWithin}
 
 pub all_within : (o : Offers) (r a b c d e : Bool) → r ≡ (a && (b && (c && (d && e)))) → (IsTrue a ↔ IsListed (kex_texts o)) → (IsTrue b ↔ IsListed (key_texts o)) → (IsTrue c ↔ IsListed (cipher_texts o)) → (IsTrue d ↔ IsListed (mac_texts o)) → (IsTrue e ↔ IsListed (compression_texts o)) → (IsTrue r ↔ IsWithin o)
 all_within o r a b c d e all ka kb kc kd ke = (to_within, from_within)
@@ -17,7 +17,3 @@ all_within o r a b c d e all ka kb kc kd ke = (to_within, from_within)
 
     from_within : IsWithin o → IsTrue r
     from_within w = all ∙ and_from a _ (ka.1 w.kex) (and_from b _ (kb.1 w.key) (and_from c _ (kc.1 w.cipher) (and_from d e (kd.1 w.mac) (ke.1 w.compression))))
-
-pub short_within : {E : Type 0} (o : Offers) (r : Result Bool E) → IfOk r (λ (b : Bool). IsTrue b ↔ IsWithin o) → IfOk r (λ (b : Bool). IsTrue b → AreShort o)
-short_within o (Ok b) h = λ t. let w = h.0 t in record { kex = w.kex.size; key = w.key.size; cipher = w.cipher.size; mac = w.mac.size; compression = w.compression.size }
-short_within o (Err e) h = tt

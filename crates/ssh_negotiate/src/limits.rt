@@ -1,58 +1,78 @@
 //! Whether what a side offers can be advertised.
 
-ghost use Rattle.std.specs.Prelude.{◌≡◌, ◌↔◌, ◌&&◌, IsTrue, map, IfOk, IfErr};
+ghost use Rattle.std.specs.Prelude.{◌≡◌, ◌↔◌, ◌&&◌, ◌++◌, IsTrue, filter, map, not};
 ghost use Rattle.std.specs.Option.{option_copied};
-ghost use Rattle.ssh_wire.specs.declared.error.Error.TheVariants.{Memory};
+ghost use Rattle.ssh_wire.specs.Algorithms.{algorithm_name, certificate_name};
+ghost use Rattle.ssh_negotiate.specs.Advertised.{certificate_names, is_foreign, some_fits};
 ghost use Rattle.ssh_negotiate.specs.Laws.{AreShort, IsListed, IsWithin};
-ghost use Rattle.ssh_negotiate.specs.Parts.{with_lists};
 ghost use Rattle.ssh_negotiate.specs.Reading.{offered_by};
+ghost use Rattle.ssh_negotiate.specs.Tables.{kex_text};
 
 use crate::kex;
-use crate::negotiation::{AsName, HostName};
-use crate::offers::{hosts_to_write, kex_to_write};
+use crate::negotiation::AsName;
 use crate::preferred::{Preferred, ServerKeys};
-use crate::select::texts_of;
-use ssh_wire::Error;
-use std::alloc::Global;
-
-/// How many names a list may have.
-const NAME_LIMIT: usize = 1025;
-
-/// How many bytes a list may have as text.
-const NAME_LIST_LIMIT: usize = 16384;
+use crate::told::Told;
+use ssh_wire::{Algorithm, Side};
 
 /// Whether each list that a side advertises has at most 1025 names and 16384 bytes, as `write_kex` wants it. It is a
-/// server's where the keys are given. Memory.
-pub fn can_be_advertised(
-    alloc: Global,
-    prefs: &Preferred,
-    server_config: Option<&ServerKeys>,
-) -> Result<bool, Error>
-    ensures ok { IfOk result (λ b. IsTrue b ↔ IsWithin (offered_by prefs.now (option_copied server_config.entry))) }
-    ensures short { IfOk result (λ b. IsTrue b → AreShort (offered_by prefs.now (option_copied server_config.entry))) }
-    ensures err { IfErr result (λ e. e ≡ Memory) }
+/// server's where the keys are given. It takes no memory.
+pub fn can_be_advertised(prefs: &Preferred, server_config: Option<&ServerKeys>) -> bool
+    ensures exact { IsTrue result ↔ IsWithin (offered_by prefs.now (option_copied server_config.entry)) }
+    ensures short { IsTrue result → AreShort (offered_by prefs.now (option_copied server_config.entry)) }
 {
-    let kex = kex_to_write(alloc, prefs, server_config)?;
-    let hosts = hosts_to_write(alloc, prefs, server_config)?;
-    are_within(alloc, prefs, kex.as_slice(), hosts.as_slice())
+    let ciphers = is_listed(prefs.cipher.as_slice());
+    let macs = is_listed(prefs.mac.as_slice());
+    let compressions = is_listed(prefs.compression.as_slice());
+    match server_config {
+        Some(hosts) => {
+            let kex = is_kex_listed(Side::Server, prefs.kex.as_slice());
+            let keys = are_server_hosts_listed(prefs.key.as_slice(), hosts);
+            are_all(kex, keys, ciphers, macs, compressions)
+        }
+        None => {
+            let kex = is_kex_listed(Side::Client, prefs.kex.as_slice());
+            let keys = are_client_hosts_listed(
+                prefs.host_key_certificates.as_slice(),
+                prefs.key.as_slice(),
+            );
+            are_all(kex, keys, ciphers, macs, compressions)
+        }
+    }
 }
 
-/// The same, with these lists of key exchanges and host keys. Memory.
-fn are_within(
-    alloc: Global,
-    prefs: &Preferred,
-    kex: &[kex::Name],
-    hosts: &[HostName],
-) -> Result<bool, Error>
-    ensures ok { IfOk result (λ b. IsTrue b ↔ IsWithin (with_lists prefs.now kex.now hosts.now)) }
-    ensures err { IfErr result (λ e. e ≡ Memory) }
+/// Whether a side's list of key exchanges can be advertised.
+fn is_kex_listed(side: Side, kex: &[kex::Name]) -> bool
+    ensures { IsTrue result ↔ IsListed (map kex_text (filter (λ n. not (is_foreign side n)) kex.now)) }
 {
-    let exchanges = is_listed(alloc, kex)?;
-    let keys = is_listed(alloc, hosts)?;
-    let ciphers = is_listed(alloc, prefs.cipher.as_slice())?;
-    let macs = is_listed(alloc, prefs.mac.as_slice())?;
-    let compressions = is_listed(alloc, prefs.compression.as_slice())?;
-    Ok(are_all(exchanges, keys, ciphers, macs, compressions))
+    let mut told = Told::nothing();
+    told.add_kex(side, kex);
+    told.is_listed()
+}
+
+/// Whether a client's list of host keys can be advertised.
+fn are_client_hosts_listed(certificates: &[Algorithm], keys: &[Algorithm]) -> bool
+    ensures { IsTrue result ↔ IsListed (map certificate_name certificates.now ++ map algorithm_name keys.now) }
+{
+    let mut told = Told::nothing();
+    told.add_certificates(certificates);
+    told.add_keys(keys);
+    told.is_listed()
+}
+
+/// Whether a server's list of host keys can be advertised.
+#[tactic(auto, unfolding(crate::specs::Advertised::certificate_names))]
+fn are_server_hosts_listed(preferred: &[Algorithm], hosts: &ServerKeys) -> bool
+    ensures { IsTrue result ↔ IsListed (map certificate_name (certificate_names preferred.now hosts.now.certificates hosts.now.keys)
+        ++ map algorithm_name (filter (some_fits hosts.now.keys) preferred.now)) }
+{
+    let mut told = Told::nothing();
+    told.add_held(
+        preferred,
+        hosts.certificates.as_slice(),
+        hosts.keys.as_slice(),
+    );
+    told.add_fitting(preferred, hosts.keys.as_slice());
+    told.is_listed()
 }
 
 /// Whether all hold.
@@ -62,11 +82,11 @@ fn are_all(kex: bool, keys: bool, ciphers: bool, macs: bool, compressions: bool)
     kex && keys && ciphers && macs && compressions
 }
 
-/// Whether a list can be advertised. Memory.
-fn is_listed<A: AsName>(alloc: Global, names: &[A]) -> Result<bool, Error>
-    ensures ok { IfOk result (λ b. IsTrue b ↔ IsListed (map A.text names.now)) }
-    ensures err { IfErr result (λ e. e ≡ Memory) }
+/// Whether a list can be advertised.
+fn is_listed<A: AsName>(names: &[A]) -> bool
+    ensures { IsTrue result ↔ IsListed (map A.text names.now) }
 {
-    let text = texts_of(alloc, names)?.as_encoded_string()?;
-    Ok(names.len() <= NAME_LIMIT && text.as_str().len() <= NAME_LIST_LIMIT)
+    let mut told = Told::nothing();
+    told.add_all(names);
+    told.is_listed()
 }

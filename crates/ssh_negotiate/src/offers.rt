@@ -41,7 +41,7 @@ pub fn server_certificate_names(
 }
 
 /// Whether the key of a certificate is there.
-fn is_key_there(keys: &[HostKey], certificate: &HostCertificate) -> bool
+pub(crate) fn is_key_there(keys: &[HostKey], certificate: &HostCertificate) -> bool
     ensures { result ≡ has_key keys.now certificate.now }
 {
     keys.iter().any(|key| key.blob.as_slice() == certificate.key_blob.as_slice())
@@ -98,7 +98,7 @@ pub(crate) fn advertised_kex(
 }
 
 /// Whether a name belongs to the other side alone.
-fn is_foreign(side: Side, name: kex::Name) -> bool
+pub(crate) fn is_foreign(side: Side, name: kex::Name) -> bool
     ensures { result ≡ is_foreign side name }
 {
     match side {

@@ -1,10 +1,12 @@
 // Steps, marks and reports.
 
+ghost use Rattle.std.specs.Prelude.{◌≡◌};
+
 use ssh_kex::FinishedExchange;
 use ssh_wire::{Blob, Error, PayloadList, Side};
 use std::marker::Model;
 
-#[derive(Drop)]
+#[derive(Debug, Drop)]
 pub enum Step {
     Submit(Side, Blob),
     Deliver(Side, u64),
@@ -28,7 +30,7 @@ pub struct Mark {
     pub server: SideMark,
 }
 
-#[derive(Drop)]
+#[derive(Debug, Drop)]
 pub struct MarkList {
     items: Vec<Mark>,
 }
@@ -42,7 +44,30 @@ impl Model for MarkList {
     ghost view = { λ l. l.items.items };
 }
 
-#[derive(Drop)]
+impl MarkList {
+    /// The marks of the vector, which is kept as it is.
+    pub fn new(items: Vec<Mark>) -> Self
+        ensures { result ≡ items.items }
+    {
+        MarkList { items }
+    }
+
+    /// The marks, the first one first.
+    pub fn as_slice(&self) -> &[Mark]
+        ensures { result.now ≡ self.now }
+    {
+        self.items.as_slice()
+    }
+
+    /// The vector that the marks stand in.
+    pub fn into_vec(self) -> Vec<Mark>
+        ensures { result.items ≡ self }
+    {
+        self.items
+    }
+}
+
+#[derive(Debug, Drop)]
 pub struct ExchangeList {
     items: Vec<FinishedExchange>,
 }
@@ -56,7 +81,30 @@ impl Model for ExchangeList {
     ghost view = { λ l. l.items.items };
 }
 
-#[derive(Drop)]
+impl ExchangeList {
+    /// The exchanges of the vector, which is kept as it is.
+    pub fn new(items: Vec<FinishedExchange>) -> Self
+        ensures { result ≡ items.items }
+    {
+        ExchangeList { items }
+    }
+
+    /// The exchanges, the first one first.
+    pub fn as_slice(&self) -> &[FinishedExchange]
+        ensures { result.now ≡ self.now }
+    {
+        self.items.as_slice()
+    }
+
+    /// The vector that the exchanges stand in.
+    pub fn into_vec(self) -> Vec<FinishedExchange>
+        ensures { result.items ≡ self }
+    {
+        self.items
+    }
+}
+
+#[derive(Debug, Drop)]
 pub struct SideReport {
     pub wire: Blob,
     pub taken: u64,
@@ -64,7 +112,7 @@ pub struct SideReport {
     pub exchanges: ExchangeList,
 }
 
-#[derive(Drop)]
+#[derive(Debug, Drop)]
 pub struct LinkReport {
     pub client: SideReport,
     pub server: SideReport,
@@ -72,7 +120,7 @@ pub struct LinkReport {
 }
 
 /// A step of an attacked link.
-#[derive(Drop)]
+#[derive(Debug, Drop)]
 pub enum AttackStep {
     Submit(Side, Blob),
     Feed(Side, Blob),
@@ -80,7 +128,7 @@ pub enum AttackStep {
 }
 
 /// What each step was answered.
-#[derive(Drop)]
+#[derive(Debug, Drop)]
 pub struct AnswerList {
     items: Vec<Result<(), Error>>,
 }
@@ -94,7 +142,30 @@ impl Model for AnswerList {
     ghost view = { λ l. l.items.items };
 }
 
-#[derive(Drop)]
+impl AnswerList {
+    /// The answers of the vector, which is kept as it is.
+    pub fn new(items: Vec<Result<(), Error>>) -> Self
+        ensures { result ≡ items.items }
+    {
+        AnswerList { items }
+    }
+
+    /// The answers, the first one first.
+    pub fn as_slice(&self) -> &[Result<(), Error>]
+        ensures { result.now ≡ self.now }
+    {
+        self.items.as_slice()
+    }
+
+    /// The vector that the answers stand in.
+    pub fn into_vec(self) -> Vec<Result<(), Error>>
+        ensures { result.items ≡ self }
+    {
+        self.items
+    }
+}
+
+#[derive(Debug, Drop)]
 pub struct AttackReport {
     pub client: SideReport,
     pub server: SideReport,

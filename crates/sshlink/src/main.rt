@@ -1,5 +1,5 @@
-//! The program: `sshlink clear` reads a script from its standard input and writes what is answered to
-//! its standard output.
+//! The program: `sshlink clear` and `sshlink run` read a script from standard input and write what is answered to
+//! standard output.
 #![tactic(auto)]
 
 #[cfg(test)]

@@ -9,11 +9,22 @@ use std::io::{Cursor, Write};
 use std::test::Fail;
 
 /// The words, the calls at which source and sink fail, the sink's room, the status, and what is written.
-const FAULTS: [(&str, &[u64], &[u64], usize, u8, &str); 9] = [
-    ("run", &[1], &[], 64, 2, "usage\n"),
+const FAULTS: [(&str, &[u64], &[u64], usize, u8, &str); 13] = [
+    ("attack", &[1], &[], 64, 2, "usage\n"),
     ("hop", &[], &[1], 64, 5, ""),
     ("hop", &[], &[], 4, 5, "usag"),
     ("hop", &[], &[], 0, 5, ""),
+    ("run", &[1], &[], 64, 4, ""),
+    ("run", &[], &[1], 64, 5, ""),
+    ("run", &[], &[], 20, 5, "client wire 5353482d"),
+    (
+        "run",
+        &[],
+        &[],
+        4096,
+        0,
+        "client wire 5353482d322e302d7373686c696e6b5f636c69656e740d0a\nclient taken 1\nclient finished 0\nserver wire 5353482d322e302d7373686c696e6b5f7365727665720d0a\nserver taken 0\nserver finished 0\n",
+    ),
     ("clear", &[1], &[], 64, 4, ""),
     ("clear", &[2], &[], 64, 4, ""),
     ("clear", &[], &[1], 64, 5, ""),

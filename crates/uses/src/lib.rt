@@ -3,12 +3,14 @@
 
 mod agreeing;
 mod ciphers;
+mod given_part;
 mod own_part;
 mod running;
 mod sealing;
 
 pub use crate::agreeing::{Secrets, agree, agree_in_group};
 pub use crate::ciphers::ciphers_of_both;
+pub use crate::given_part::{GivenAgreement, GivenHosts};
 pub use crate::own_part::OneGroup;
 pub use crate::running::{own_tag_accepted, there_and_back};
 pub use crate::sealing::{carry, carry_three};

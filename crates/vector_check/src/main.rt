@@ -8,7 +8,6 @@ mod keys;
 mod lines;
 mod negotiation;
 mod packets;
-mod preferences;
 mod recorded;
 mod tables;
 
@@ -23,14 +22,14 @@ struct Below {
 }
 
 impl Answers for Below {
-    /// What was agreed is for the check of the exchange.
+    /// What was agreed, and what a transport carries, is for the check of the machines.
     fn passes_over(
         &mut self,
         kind: &str,
         _row: &mut Row<'_>,
         _wanted: &str,
     ) -> Result<bool, Fault> {
-        Ok(kind == "agreed")
+        Ok(kind == "agreed" || kind == "carried")
     }
 
     fn answer(&mut self, kind: &str, row: &mut Row<'_>, found: &mut String) -> Result<bool, Fault> {

@@ -1,7 +1,6 @@
 //! Rows of negotiation (RFC 4253 section 7.1): names of key exchanges, what a side offers, its KEXINIT, one choice of
 //! two lists, and what a side reads in the other's KEXINIT.
 
-use crate::preferences::{Named, certificates, extension, kexinit, keys, names, preferred, texts};
 use bytes::Bytes;
 use ssh_mac::{HashValue, mac};
 use ssh_negotiate::{
@@ -12,6 +11,9 @@ use ssh_negotiate::{
 use ssh_packet::{PacketWriter, cipher, compression};
 use ssh_wire::{Algorithm, AlgorithmKind, Blob, Error, NameList, Reader, Side, Text};
 use std::alloc::Global;
+use vector_rows::preferences::{
+    Named, certificates, extension, kexinit, keys, names, preferred, texts,
+};
 use vector_rows::{Fault, Row, Words, say, say_bytes, say_number, say_shown, words_of};
 
 /// Answers a row of one of these kinds. False where the kind is another.
@@ -257,7 +259,7 @@ impl Offering {
             Side::Client => None,
             Side::Server => Some(&self.hosts),
         };
-        if !can_be_advertised(alloc, &self.preferred, hosts)? {
+        if !can_be_advertised(&self.preferred, hosts) {
             return Err(Fault::Malformed);
         }
         Ok(write_kex(alloc, &self.preferred, writer, &mut words, hosts)?)

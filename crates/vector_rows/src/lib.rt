@@ -1,7 +1,8 @@
 //! What the programs share that compare rows of values with what the crates' public calls answer: the loop over the rows,
-//! a row's words, what is found by them, and a generator that hands out given bytes.
+//! a row's words, what is found by them, preferences and KEXINITs that it gives, and a generator that hands out given bytes.
 #![tactic(auto)]
 
+pub mod preferences;
 mod row;
 mod suite;
 mod words;

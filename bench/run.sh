@@ -1,0 +1,59 @@
+#!/usr/bin/env bash
+# Usage: bench/run.sh
+# Runs links in which a client sends payloads to a server, under new keys behind each megabyte, in pieces of 4 KiB: 16 and
+# 64 MB of payloads of 32 KiB, and 25,000 and 100,000 payloads of 64 bytes. It prints seconds, nanoseconds for a byte of
+# payload and how often that is what sealing and opening the same packets takes, how the time grows by four times the
+# load, and the peak of memory for a byte on the wires. Needs rt (once, to build crates/link_speed and
+# crates/packet_speed) and python3.
+set -eu
+cd "$(dirname "$0")/.."
+for program in link_speed packet_speed; do
+  [ -x "crates/$program/out/$program" ] || (cd "crates/$program" && rt run >/dev/null 2>&1)
+done
+python3 - crates/link_speed/out/link_speed crates/packet_speed/out/packet_speed <<'PYTHON'
+import os, sys, time
+
+link, packets = sys.argv[1:]
+kinds = [("aes256-gcm@openssh.com", "none"), ("aes256-ctr", "hmac-sha2-256-etm@openssh.com")]
+loads = [(32768, 512), (32768, 2048), (64, 25000), (64, 100000)]
+
+
+def measured(*words):
+    """What is written, seconds, and the peak of memory in bytes; the least of three runs."""
+    best = None
+    for _ in range(3):
+        read, write = os.pipe()
+        start = time.perf_counter()
+        child = os.fork()
+        if child == 0:
+            os.dup2(write, 1)
+            os.execv(words[0], [str(word) for word in words])
+        os.close(write)
+        with os.fdopen(read) as out:
+            written = out.read().split()
+        _, status, usage = os.wait4(child, 0)
+        seconds = time.perf_counter() - start
+        if status or not written[0].isdigit():
+            sys.exit(f"{words}: {written}")
+        if best is None or seconds < best[1]:
+            best = [int(word) for word in written], seconds, usage.ru_maxrss * 1024
+    return best
+
+
+print(f"{'cipher and MAC':48}{'bytes':>6}{'payloads':>9}{'seconds':>9}{'ns a byte':>10}{'to packets':>11}{'growth':>8}{'peak a byte':>12}")
+for kind in kinds:
+    before = None
+    for length, count in loads:
+        carried = length * count
+        (delivered, wires), seconds, peak = measured(link, *kind, length, count, 4096, 1 << 20)
+        if delivered != carried:
+            sys.exit(f"{delivered} of {carried} bytes were delivered")
+        _, none, _ = measured(packets, *kind, "open", length, 0)
+        _, alone, _ = measured(packets, *kind, "open", length, count)
+        growth = "-" if before is None or before[0] != length else f"{seconds / before[1]:.2f}"
+        print(
+            f"{' '.join(kind):48}{length:6}{count:9}{seconds:9.3f}{seconds / carried * 1e9:10.1f}"
+            f"{seconds / (alone - none):11.2f}{growth:>8}{peak / wires:12.2f}"
+        )
+        before = length, seconds
+PYTHON

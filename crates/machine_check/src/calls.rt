@@ -1,0 +1,165 @@
+//! Rows of one side's transport: its configuration, and calls one after the other.
+
+use crate::replay::side_of;
+use ssh_kex::{Config, GexParams, Parts};
+use ssh_mac::mac;
+use ssh_negotiate::{HostKey, ServerKeys};
+use ssh_transport::Transport;
+use ssh_vectors::{TestAgreement, TestGroups, TestHosts};
+use ssh_wire::{Algorithm, Blob, Error, Limits, Side, SshId, Text};
+use std::alloc::Global;
+use vector_rows::preferences::{preferred, settings};
+use vector_rows::{Fault, Row, Words, say, say_number, say_shown};
+
+type Handed = Parts<TestAgreement, TestHosts, TestGroups, Words<'static>>;
+
+/// `calls SIDE PREFERENCES SETTINGS CALL..`: what a transport of the side answers to `feed:BYTES`, `submit:BYTES` and
+/// `rekey`, one after the other; whether it has failed or is inside an exchange; and how many bytes of input are unfinished,
+/// how many exchanges are finished, how many payloads are delivered, and how many bytes are written. A configuration that is
+/// refused stands in their place.
+pub(crate) fn answer(kind: &str, row: &mut Row<'_>, found: &mut String) -> Result<bool, Fault> {
+    if kind != "calls" {
+        return Ok(false);
+    }
+    let side = side_of(row)?;
+    let config = config_by(row)?;
+    let transport = match side {
+        Side::Client => Transport::client(row.alloc(), &config),
+        Side::Server => Transport::server(row.alloc(), &config),
+    };
+    match transport {
+        Ok(mut transport) => called(&mut transport, row, found)?,
+        Err(error) => say_shown(found, &error)?,
+    }
+    Ok(true)
+}
+
+/// The next words as PREFERENCES SETTINGS: `default`, or in its place the version line as `id` or as `rawid`, the limits
+/// `write` and `read`, the sizes `least`, `wanted` and `most`, `macs` as so many MACs `none`, and `blob` as one host key whose
+/// blob has so many bytes.
+fn config_by(row: &mut Row<'_>) -> Result<Config, Fault> {
+    let alloc = row.alloc();
+    let mut config = Config {
+        id: SshId::Standard(Text::new(String::from_str(alloc, "SSH-2.0-own")?)),
+        preferred: preferred(row)?,
+        limits: Limits::new(1 << 30, 1 << 30, 3600),
+        gex: GexParams {
+            min_group_size: 2048,
+            preferred_group_size: 3072,
+            max_group_size: 8192,
+        },
+        host: ServerKeys {
+            keys: keys_of(alloc, Blob::copy_of(alloc, b"sshlink-test-key")?)?,
+            certificates: Vec::new(alloc),
+        },
+    };
+    for (name, value) in settings(row)? {
+        set(alloc, &mut config, name, value)?;
+    }
+    Ok(config)
+}
+
+fn set(alloc: Global, config: &mut Config, name: &str, value: &str) -> Result<(), Fault> {
+    match name {
+        "id" => config.id = SshId::Standard(Text::new(String::from_str(alloc, value)?)),
+        "rawid" => config.id = SshId::Raw(text_of(alloc, value)?),
+        _ => return set_number(alloc, config, name, value),
+    }
+    Ok(())
+}
+
+/// The text of these bytes.
+fn text_of(alloc: Global, digits: &str) -> Result<Text, Fault> {
+    let bytes = Row::of(alloc, digits)?.bytes()?;
+    match String::from_utf8(bytes) {
+        Ok(text) => Ok(Text::new(text)),
+        Err(_) => Err(Fault::Malformed),
+    }
+}
+
+fn set_number(alloc: Global, config: &mut Config, name: &str, value: &str) -> Result<(), Fault> {
+    let Ok(number) = value.parse::<u32>() else {
+        return Err(Fault::Malformed);
+    };
+    match name {
+        "write" => config.limits.rekey_write_limit = number as usize,
+        "read" => config.limits.rekey_read_limit = number as usize,
+        "least" => config.gex.min_group_size = number,
+        "wanted" => config.gex.preferred_group_size = number,
+        "most" => config.gex.max_group_size = number,
+        "macs" => config.preferred.mac = times(alloc, mac::NONE, number)?,
+        "blob" => config.host.keys = keys_of(alloc, Blob::new(times(alloc, 0, number)?))?,
+        _ => return Err(Fault::Malformed),
+    }
+    Ok(())
+}
+
+/// A value so many times.
+fn times<T: Copy>(alloc: Global, value: T, n: u32) -> Result<Vec<T>, Fault> {
+    let mut values = Vec::new(alloc);
+    for _ in 0..n {
+        values.push(value)?;
+    }
+    Ok(values)
+}
+
+/// One host key of this blob.
+fn keys_of(alloc: Global, blob: Blob) -> Result<Vec<HostKey>, Fault> {
+    let mut keys = Vec::new(alloc);
+    keys.push(HostKey {
+        algorithm: Algorithm::Ed25519,
+        blob,
+    })?;
+    Ok(keys)
+}
+
+/// Calls a transport by the words that are left.
+fn called(
+    transport: &mut Transport<'_>,
+    row: &mut Row<'_>,
+    found: &mut String,
+) -> Result<(), Fault> {
+    let alloc = row.alloc();
+    let mut parts = Parts {
+        agreement: TestAgreement::new(),
+        hosts: TestHosts::new(Vec::new(alloc)),
+        groups: TestGroups { bits: 0 },
+        rng: Words::of(&[]),
+    };
+    for _ in 0..row.left() {
+        let call = row.word()?;
+        match answer_to(alloc, transport, &mut parts, call)? {
+            Ok(()) => say(found, "ok")?,
+            Err(error) => say_shown(found, &error)?,
+        }
+    }
+    if transport.failed() {
+        say(found, "failed")?;
+    } else if transport.inside() {
+        say(found, "inside")?;
+    }
+    say_number(found, transport.unfinished() as u64)?;
+    say_number(found, transport.finished() as u64)?;
+    say_number(found, transport.take_delivered().as_slice().len() as u64)?;
+    say_number(found, transport.output().len() as u64)
+}
+
+fn answer_to(
+    alloc: Global,
+    transport: &mut Transport<'_>,
+    parts: &mut Handed,
+    call: &str,
+) -> Result<Result<(), Error>, Fault> {
+    if call == "rekey" {
+        return Ok(transport.rekey(parts));
+    }
+    let Some((call, digits)) = call.split_once(':') else {
+        return Err(Fault::Malformed);
+    };
+    let bytes = Row::of(alloc, digits)?.bytes()?;
+    match call {
+        "feed" => Ok(transport.feed(parts, bytes.as_slice())),
+        "submit" => Ok(transport.submit(parts, bytes.as_slice())),
+        _ => Err(Fault::Malformed),
+    }
+}

@@ -1,0 +1,171 @@
+//! Rows of recorded connections: a transport of one side, fed the other side's bytes.
+
+use crate::replay::{cookie_of, give_agreed, set_up, side_of};
+use crate::talk::{Packet, Talk};
+use ssh_kex::Parts;
+use ssh_transport::Transport;
+use ssh_vectors::TestGroups;
+use ssh_wire::{Error, Side};
+use std::alloc::Global;
+use uses::{GivenAgreement, GivenHosts};
+use vector_rows::{Fault, Row, Words, say, say_bytes, say_number, say_shown, words_of};
+
+type Given<'w> = Parts<GivenAgreement, GivenHosts, TestGroups, Words<'w>>;
+
+/// `carried SIDE`: the connection whose packets stand before, by a transport of the side whose KEXINIT was written from its
+/// own preferences. It is fed the peer's bytes one by one, and submits the side's payloads in their places: the hash of each
+/// exchange, how many payloads were delivered, and how many bytes were written. In their place stands a refusal, or what was
+/// otherwise than recorded: `exchanges`, `delivered` or `wrote`. The side's own DISCONNECT isn't sent.
+pub(crate) fn answer(
+    kind: &str,
+    talk: &Talk,
+    row: &mut Row<'_>,
+    found: &mut String,
+) -> Result<bool, Fault> {
+    if kind != "carried" {
+        return Ok(false);
+    }
+    let side = side_of(row)?;
+    let alloc = row.alloc();
+    let (own, peer) = talk.sides(side);
+    let words = drawn_by(alloc, own.packets.as_slice())?;
+    let mut parts = parts_of(alloc, talk, side, words.as_slice())?;
+    let config = match talk.agreed.first() {
+        Some(agreed) => set_up(
+            alloc,
+            side,
+            own,
+            own.packets.as_slice(),
+            agreed.host.as_slice(),
+        )?,
+        None => return Err(Fault::Malformed),
+    };
+    let mut transport = match side {
+        Side::Client => Transport::client(alloc, &config)?,
+        Side::Server => Transport::server(alloc, &config)?,
+    };
+    let mut wire = peer.wire.as_slice();
+    match carried(
+        &mut transport,
+        &mut parts,
+        own.packets.as_slice(),
+        &mut wire,
+    ) {
+        Ok(()) => say_carried(talk, side, &mut transport, found)?,
+        Err(error) => say_shown(found, &error)?,
+    }
+    Ok(true)
+}
+
+/// The parts of a side that answer what was agreed, and draw these words.
+fn parts_of<'w>(
+    alloc: Global,
+    talk: &Talk,
+    side: Side,
+    words: &'w [u32],
+) -> Result<Given<'w>, Fault> {
+    let mut parts = Parts {
+        agreement: GivenAgreement::new(alloc),
+        hosts: GivenHosts::new(alloc),
+        groups: TestGroups { bits: 0 },
+        rng: Words::of(words),
+    };
+    for agreed in talk.agreed.as_slice() {
+        give_agreed(&mut parts, side, agreed)?;
+    }
+    Ok(parts)
+}
+
+/// The words that a side draws: the cookie of each KEXINIT, and the padding of each packet.
+fn drawn_by(alloc: Global, packets: &[Packet]) -> Result<Vec<u32>, Fault> {
+    let mut words = Vec::new(alloc);
+    for (i, packet) in packets.iter().enumerate() {
+        if packet.message_type() == 20 {
+            let cookie = words_of(alloc, cookie_of(&packets[i..])?)?;
+            words.extend_from_slice(cookie.as_slice())?;
+        }
+        words.extend_from_slice(words_of(alloc, packet.padding.as_slice())?.as_slice())?;
+    }
+    Ok(words)
+}
+
+/// Lets a transport send its side's payloads, and begin its exchanges, each where it stands, and feeds it the peer's bytes:
+/// those up to the end of an exchange where one runs, and all that are left at last.
+fn carried(
+    transport: &mut Transport<'_>,
+    parts: &mut Given<'_>,
+    packets: &[Packet],
+    wire: &mut &[u8],
+) -> Result<(), Error> {
+    for packet in packets {
+        if packet.message_type() >= 50 || matches!(packet.message_type(), 5..=7) {
+            feed_exchange(transport, parts, wire)?;
+            transport.submit(parts, packet.payload.as_slice())?;
+        } else if packet.message_type() == 20 && transport.finished() > 0 {
+            feed_exchange(transport, parts, wire)?;
+            transport.rekey(parts)?;
+        }
+    }
+    transport.feed(parts, *wire)
+}
+
+/// Feeds a transport byte by byte until it is outside an exchange, or no byte is left.
+fn feed_exchange(
+    transport: &mut Transport<'_>,
+    parts: &mut Given<'_>,
+    wire: &mut &[u8],
+) -> Result<(), Error> {
+    for _ in 0..wire.len() {
+        if !transport.inside() {
+            return Ok(());
+        }
+        let Some((byte, rest)) = wire.split_at_checked(1) else {
+            return Ok(());
+        };
+        transport.feed(parts, byte)?;
+        *wire = rest;
+    }
+    Ok(())
+}
+
+/// Appends what was carried, or what was otherwise.
+fn say_carried(
+    talk: &Talk,
+    side: Side,
+    transport: &mut Transport<'_>,
+    found: &mut String,
+) -> Result<(), Fault> {
+    let (own, peer) = talk.sides(side);
+    if transport.finished() != talk.agreed.len() {
+        say(found, "exchanges")?;
+    }
+    for (i, agreed) in talk.agreed.iter().enumerate() {
+        if i < transport.finished() {
+            let exchange = transport.exchange(i + 1);
+            say_bytes(found, exchange.hash.as_bytes())?;
+            if exchange.hash != agreed.hash {
+                say(found, "exchanges")?;
+            }
+        }
+    }
+    let delivered = transport.take_delivered();
+    let mut sent = peer.packets.iter().filter(|packet| {
+        packet.message_type() >= 50 || matches!(packet.message_type(), 5..=7)
+    });
+    for payload in delivered.as_slice() {
+        if !sent
+            .next()
+            .is_some_and(|packet| packet.payload.as_slice() == payload.as_slice())
+        {
+            say(found, "delivered")?;
+        }
+    }
+    if sent.next().is_some() {
+        say(found, "delivered")?;
+    }
+    say_number(found, delivered.as_slice().len() as u64)?;
+    if !own.wire.as_slice().starts_with(transport.output()) {
+        say(found, "wrote")?;
+    }
+    say_number(found, transport.output().len() as u64)
+}

@@ -1,0 +1,486 @@
+//! Rows of both machines, each given the other's packets.
+
+use crate::machine::{Machine, Progress};
+use ssh_kex::{Config, GexParams, NewKeys, Parts};
+use ssh_mac::HashValue;
+use ssh_negotiate::{KexCause, Preferred, ServerKeys};
+use ssh_packet::{Incoming, OpenKey, PacketReader, PacketWriter, clear};
+use ssh_vectors::{Refusing, TestAgreement, TestGroups, TestHosts, TrustedHost};
+use ssh_wire::{Blob, Limits, Side, SshId, Text};
+use std::alloc::Global;
+use vector_rows::preferences::{certificates, keys, preferred, settings};
+use vector_rows::{Fault, Row, Words, say, say_bytes, say_number, say_shown};
+
+const CLIENT_ID: &str = "SSH-2.0-client";
+
+const SERVER_ID: &str = "SSH-2.0-server";
+
+/// More than an exchange has, on each side.
+const TURNS: usize = 8;
+
+type Handed = Parts<
+    Refusing<TestAgreement>,
+    Refusing<TestHosts>,
+    Refusing<TestGroups>,
+    Words<'static>,
+>;
+
+/// `play PREFERENCES PREFERENCES KEYS CERTIFICATES CAUSE SETTINGS MESSAGES..`: what each step of both machines writes and
+/// leads to, the client's first, where each is given the other's packets in turn. The first message goes to the client.
+pub(crate) fn answer(kind: &str, row: &mut Row<'_>, found: &mut String) -> Result<bool, Fault> {
+    if kind != "play" {
+        return Ok(false);
+    }
+    let alloc = row.alloc();
+    let client_prefers = preferred(row)?;
+    let server_prefers = preferred(row)?;
+    let host = ServerKeys {
+        keys: some(keys(row)?)?,
+        certificates: some(certificates(row)?)?,
+    };
+    let cause = cause_of(row)?;
+    let settings = Settings::of(row)?;
+    let none = ServerKeys {
+        keys: Vec::new(alloc),
+        certificates: Vec::new(alloc),
+    };
+    let trusted = trusted_by(alloc, &settings, &host)?;
+    let client_config = config_of(alloc, CLIENT_ID, client_prefers, settings.gex, none)?;
+    let server_config = config_of(alloc, SERVER_ID, server_prefers, settings.gex, host)?;
+    let handed = settings.handed(&settings.client, trusted);
+    let mut client = Seat::of(
+        alloc,
+        Side::Client,
+        &client_config,
+        SERVER_ID,
+        cause,
+        handed,
+    )?;
+    let handed = settings.handed(&settings.server, Vec::new(alloc));
+    let mut server = Seat::of(
+        alloc,
+        Side::Server,
+        &server_config,
+        CLIENT_ID,
+        cause,
+        handed,
+    )?;
+    let given = given_of(row)?;
+    if played(&mut client, &mut server, given.as_slice(), found)? {
+        say_end(found, &client, &server)?;
+    }
+    Ok(true)
+}
+
+/// What has to be given.
+fn some<T: Drop>(given: Option<T>) -> Result<T, Fault> {
+    match given {
+        Some(given) => Ok(given),
+        None => Err(Fault::Malformed),
+    }
+}
+
+/// The next word as why the exchange begins: `first`, or a later one behind a first that was strict or not, `strict:HASH`
+/// or `plain:HASH`.
+fn cause_of(row: &mut Row<'_>) -> Result<KexCause, Fault> {
+    let word = row.word()?;
+    if word == "first" {
+        return Ok(KexCause::Initial);
+    }
+    let Some((order, digits)) = word.split_once(':') else {
+        return Err(Fault::Malformed);
+    };
+    let bytes = bytes_of(row.alloc(), digits)?;
+    if bytes.len() > 64 || (order != "strict" && order != "plain") {
+        return Err(Fault::Malformed);
+    }
+    Ok(KexCause::Rekey {
+        strict: order == "strict",
+        session_id: HashValue::of(bytes.as_slice()),
+    })
+}
+
+fn bytes_of(alloc: Global, digits: &str) -> Result<Vec<u8>, Fault> {
+    let mut row = Row::of(alloc, digits)?;
+    row.bytes()
+}
+
+/// Which call of each part of a side is refused: 0 for none.
+#[derive(Clone, Copy, Drop)]
+struct Refused {
+    agreement: u64,
+    hosts: u64,
+    groups: u64,
+}
+
+/// What a row sets besides.
+#[derive(Drop)]
+struct Settings {
+    gex: GexParams,
+    bits: u32,
+    trusts: bool,
+    client: Refused,
+    server: Refused,
+}
+
+impl Settings {
+    /// The next word: `default`, or in its place settings of the client's sizes `least`, `wanted`, `most`, of the looked-up
+    /// group's `bits`, of `trust`, which is `none` where the client trusts no host, and of the numbers of calls that are
+    /// refused, such as `client_hosts`.
+    fn of(row: &mut Row<'_>) -> Result<Settings, Fault> {
+        let none = Refused {
+            agreement: 0,
+            hosts: 0,
+            groups: 0,
+        };
+        let mut given = Settings {
+            gex: GexParams {
+                min_group_size: 2048,
+                preferred_group_size: 3072,
+                max_group_size: 8192,
+            },
+            bits: 0,
+            trusts: true,
+            client: none,
+            server: none,
+        };
+        for (name, value) in settings(row)? {
+            given.set(name, value)?;
+        }
+        Ok(given)
+    }
+
+    fn set(&mut self, name: &str, value: &str) -> Result<(), Fault> {
+        if name == "trust" && value == "none" {
+            self.trusts = false;
+            return Ok(());
+        }
+        let Ok(number) = value.parse::<u32>() else {
+            return Err(Fault::Malformed);
+        };
+        match name {
+            "least" => self.gex.min_group_size = number,
+            "wanted" => self.gex.preferred_group_size = number,
+            "most" => self.gex.max_group_size = number,
+            "bits" => self.bits = number,
+            "client_agreement" => self.client.agreement = u64::from(number),
+            "client_hosts" => self.client.hosts = u64::from(number),
+            "server_agreement" => self.server.agreement = u64::from(number),
+            "server_hosts" => self.server.hosts = u64::from(number),
+            "server_groups" => self.server.groups = u64::from(number),
+            _ => return Err(Fault::Malformed),
+        }
+        Ok(())
+    }
+
+    /// The parts of a side.
+    fn handed(&self, refused: &Refused, trusted: Vec<TrustedHost>) -> Handed {
+        Parts {
+            agreement: refusing(TestAgreement::new(), refused.agreement),
+            hosts: refusing(TestHosts::new(trusted), refused.hosts),
+            groups: refusing(TestGroups { bits: self.bits }, refused.groups),
+            rng: Words::of(&[]),
+        }
+    }
+}
+
+fn refusing<T: Drop>(inner: T, refuse_at: u64) -> Refusing<T> {
+    Refusing {
+        inner,
+        refuse_at,
+        calls: 0,
+        refusals: [0; 3],
+    }
+}
+
+/// The hosts of a server's keys and certificates.
+fn trusted_by(
+    alloc: Global,
+    settings: &Settings,
+    host: &ServerKeys,
+) -> Result<Vec<TrustedHost>, Fault> {
+    let mut trusted = Vec::new(alloc);
+    if !settings.trusts {
+        return Ok(trusted);
+    }
+    for key in host.keys.as_slice() {
+        trusted.push(TrustedHost {
+            blob: Blob::copy_of(alloc, key.blob.as_slice())?,
+            key_blob: Blob::copy_of(alloc, key.blob.as_slice())?,
+        })?;
+    }
+    for certificate in host.certificates.as_slice() {
+        trusted.push(TrustedHost {
+            blob: Blob::copy_of(alloc, certificate.blob.as_slice())?,
+            key_blob: Blob::copy_of(alloc, certificate.key_blob.as_slice())?,
+        })?;
+    }
+    Ok(trusted)
+}
+
+/// How a side is set up.
+pub(crate) fn config_of(
+    alloc: Global,
+    id: &str,
+    preferred: Preferred,
+    gex: GexParams,
+    host: ServerKeys,
+) -> Result<Config, Fault> {
+    Ok(Config {
+        id: SshId::Standard(Text::new(String::from_str(alloc, id)?)),
+        preferred,
+        limits: Limits::new(1 << 30, 1 << 30, 3600),
+        gex,
+        host,
+    })
+}
+
+/// What is given in place of the message of a number, counted from 1 over both sides.
+#[derive(Drop)]
+struct Given {
+    at: usize,
+    how: How,
+}
+
+#[derive(Drop)]
+enum How {
+    /// No message.
+    Nothing,
+    /// The message itself.
+    Itself,
+    /// The message under another number.
+    Numbered(u32),
+    /// Another message under its number.
+    Payload(Vec<u8>),
+}
+
+impl How {
+    /// What is given in place of a message.
+    fn instead<'i>(&'i self, incoming: Incoming<'i>) -> Option<Incoming<'i>> {
+        match self {
+            How::Nothing => None,
+            How::Itself => Some(incoming),
+            How::Numbered(seqn) => Some(Incoming {
+                payload: incoming.payload,
+                seqn: *seqn,
+            }),
+            How::Payload(payload) => Some(Incoming {
+                payload: payload.as_slice(),
+                seqn: incoming.seqn,
+            }),
+        }
+    }
+}
+
+/// The words that are left, as `AT:none`, `AT:same`, `AT:#NUMBER` or `AT:PAYLOAD`. Of several for one message each is given,
+/// in order.
+fn given_of(row: &mut Row<'_>) -> Result<Vec<Given>, Fault> {
+    let mut given = Vec::new(row.alloc());
+    for _ in 0..row.left() {
+        let Some((at, how)) = row.word()?.split_once(':') else {
+            return Err(Fault::Malformed);
+        };
+        let mut number = Row::of(row.alloc(), at)?;
+        given.push(Given {
+            at: number.count()?,
+            how: how_of(row.alloc(), how)?,
+        })?;
+    }
+    Ok(given)
+}
+
+fn how_of(alloc: Global, how: &str) -> Result<How, Fault> {
+    if how == "none" {
+        return Ok(How::Nothing);
+    }
+    if how == "same" {
+        return Ok(How::Itself);
+    }
+    match how.split_once('#') {
+        Some((_, digits)) => {
+            let mut number = Row::of(alloc, digits)?;
+            Ok(How::Numbered(number.number32()?))
+        }
+        None => Ok(How::Payload(bytes_of(alloc, how)?)),
+    }
+}
+
+/// A side: its machine until it is done, and the keys then.
+#[derive(Drop)]
+struct Seat<'c> {
+    name: &'static str,
+    machine: Option<Machine<'c>>,
+    parts: Handed,
+    output: PacketWriter,
+    keys: Option<NewKeys>,
+}
+
+impl<'c> Seat<'c> {
+    /// One that has sent its KEXINIT.
+    fn of(
+        alloc: Global,
+        side: Side,
+        config: &'c Config,
+        peer_id: &str,
+        cause: KexCause,
+        mut parts: Handed,
+    ) -> Result<Seat<'c>, Fault> {
+        let mut output = PacketWriter::clear(alloc);
+        let machine = Machine::begun(
+            alloc,
+            side,
+            config,
+            peer_id.as_bytes(),
+            cause,
+            &mut parts.rng,
+            &mut output,
+        )?;
+        Ok(Seat {
+            name: match side {
+                Side::Client => "client",
+                Side::Server => "server",
+            },
+            machine: Some(machine),
+            parts,
+            output,
+            keys: None,
+        })
+    }
+
+    /// Gives its machine a message, or none. False where it is refused.
+    fn give(&mut self, input: Option<Incoming<'_>>, found: &mut String) -> Result<bool, Fault> {
+        let Some(machine) = self.machine.take() else {
+            return Err(Fault::Malformed);
+        };
+        let before = self.output.output().len();
+        say(found, self.name)?;
+        match machine.step(&mut self.parts, input, &mut self.output) {
+            Ok(Progress::Waits(machine, resets)) => {
+                self.machine = Some(machine);
+                say_number(found, self.written(before).len() as u64)?;
+                if resets {
+                    say(found, "reset")?;
+                }
+            }
+            Ok(Progress::Done(keys)) => {
+                self.keys = Some(keys);
+                say(found, "done")?;
+                say_bytes(found, self.written(before))?;
+            }
+            Err(error) => {
+                say_shown(found, &error)?;
+                return Ok(false);
+            }
+        }
+        Ok(true)
+    }
+
+    /// What it has written behind its first bytes.
+    fn written(&self, before: usize) -> &[u8] {
+        match self.output.output().split_at_checked(before) {
+            Some((_, written)) => written,
+            None => &[],
+        }
+    }
+}
+
+/// Gives both machines each other's packets in turn, until none is left. False where one is refused.
+fn played(
+    client: &mut Seat<'_>,
+    server: &mut Seat<'_>,
+    given: &[Given],
+    found: &mut String,
+) -> Result<bool, Fault> {
+    let alloc = *found.allocator();
+    let mut to_client = PacketReader::new(alloc);
+    let mut to_server = PacketReader::new(alloc);
+    let mut taken = 0;
+    for _ in 0..TURNS {
+        if !turn(
+            &mut to_client,
+            &mut server.output,
+            client,
+            &mut taken,
+            given,
+            found,
+        )? || !turn(
+            &mut to_server,
+            &mut client.output,
+            server,
+            &mut taken,
+            given,
+            found,
+        )? {
+            return Ok(false);
+        }
+    }
+    Ok(true)
+}
+
+/// Gives a side the other's next packet, or what is given in its place; nothing where there is none, or where the side is
+/// done. False where that is refused.
+fn turn(
+    reader: &mut PacketReader,
+    other: &mut PacketWriter,
+    seat: &mut Seat<'_>,
+    taken: &mut usize,
+    given: &[Given],
+    found: &mut String,
+) -> Result<bool, Fault> {
+    if seat.machine.is_none() {
+        return Ok(true);
+    }
+    let n = other.output().len();
+    reader.push(other.output())?;
+    other.consume_output(n);
+    let Ok(Some(incoming)) = reader.next(&mut OpenKey::Clear(clear::Key)) else {
+        return Ok(true);
+    };
+    *taken = taken.saturating_add(1);
+    let mut is_given = false;
+    for one in given {
+        if one.at == *taken {
+            is_given = true;
+            if !seat.give(one.how.instead(incoming), found)? {
+                return Ok(false);
+            }
+        }
+    }
+    if is_given {
+        return Ok(true);
+    }
+    seat.give(Some(incoming), found)
+}
+
+/// Appends whether both sides have the same, how long the hash is, and the session id, or `own` where it is the hash.
+fn say_end(found: &mut String, client: &Seat<'_>, server: &Seat<'_>) -> Result<(), Fault> {
+    let (Some(client), Some(server)) = (&client.keys, &server.keys) else {
+        return say(found, "open");
+    };
+    say(
+        found,
+        if are_same(client, server) {
+            "same"
+        } else {
+            "other"
+        },
+    )?;
+    say_number(found, client.hash.as_bytes().len() as u64)?;
+    if client.session_id == client.hash {
+        say(found, "own")
+    } else {
+        say_bytes(found, client.session_id.as_bytes())
+    }
+}
+
+/// Whether hash, session id and keys are the others'.
+fn are_same(one: &NewKeys, other: &NewKeys) -> bool {
+    one.hash == other.hash
+        && one.session_id == other.session_id
+        && one.keys.iv_c2s == other.keys.iv_c2s
+        && one.keys.iv_s2c == other.keys.iv_s2c
+        && one.keys.key_c2s == other.keys.key_c2s
+        && one.keys.key_s2c == other.keys.key_s2c
+        && one.keys.mac_c2s == other.keys.mac_c2s
+        && one.keys.mac_s2c == other.keys.mac_s2c
+}

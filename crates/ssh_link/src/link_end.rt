@@ -1,0 +1,132 @@
+//! One side of a link over an honest carrier.
+
+ghost use Rattle.std.specs.Prelude.{◌≡◌, IfOk, length};
+ghost use Rattle.ssh_link.specs.LinkEnds.{end_mark};
+
+use rand_core::Rng;
+use ssh_kex::{Agreement, GroupLookup, HostKeys, Parts};
+use ssh_rules::link::{ExchangeList, SideMark, SideReport};
+use ssh_transport::Transport;
+use ssh_wire::{Blob, Error, Payload, PayloadList};
+use std::alloc::{AllocError, Global};
+
+/// One side, and what it did so far. All that it sent is its transport's output.
+#[derive(Drop)]
+pub(crate) struct LinkEnd<'c> {
+    pub(crate) transport: Transport<'c>,
+    /// How many bytes of the other's output it took.
+    pub(crate) taken: usize,
+    pub(crate) delivered: Vec<Payload>,
+    pub(crate) submitted: u64,
+}
+
+impl<'c> LinkEnd<'c> {
+    /// A side that has sent its id line.
+    pub(crate) fn new(alloc: Global, transport: Transport<'c>) -> LinkEnd<'c> {
+        LinkEnd {
+            transport,
+            taken: 0,
+            delivered: Vec::new(alloc),
+            submitted: 0,
+        }
+    }
+
+    /// All that the side sent.
+    pub(crate) fn output(&self) -> &[u8]
+        ensures { result.now ≡ self.now.transport.output }
+    {
+        self.transport.output()
+    }
+
+    /// How many bytes of the other's output it hasn't taken.
+    pub(crate) fn waiting(&self, wire: &[u8]) -> usize {
+        wire.len().saturating_sub(self.taken)
+    }
+
+    /// Submits a payload.
+    pub(crate) fn submit<A: Agreement, H: HostKeys, G: GroupLookup, R: Rng>(
+        &mut self,
+        parts: &mut Parts<A, H, G, R>,
+        payload: &[u8],
+    ) -> Result<(), Error> {
+        self.transport.submit(parts, payload)?;
+        self.submitted = self.submitted.saturating_add(1);
+        Ok(())
+    }
+
+    /// Asks for new keys.
+    pub(crate) fn rekey<A: Agreement, H: HostKeys, G: GroupLookup, R: Rng>(
+        &mut self,
+        parts: &mut Parts<A, H, G, R>,
+    ) -> Result<(), Error> {
+        self.transport.rekey(parts)
+    }
+
+    /// Takes so many bytes of the other's output, or all that wait where fewer do.
+    pub(crate) fn deliver<A: Agreement, H: HostKeys, G: GroupLookup, R: Rng>(
+        &mut self,
+        parts: &mut Parts<A, H, G, R>,
+        wire: &[u8],
+        count: u64,
+    ) -> Result<(), Error> {
+        let waiting = wire.get(self.taken..).unwrap_or(&[]);
+        let count = count.min(waiting.len() as u64) as usize;
+        self.transport.feed(parts, &waiting[..count])?;
+        self.taken += count;
+        for payload in self.transport.take_delivered().into_vec() {
+            self.delivered.push(payload)?;
+        }
+        Ok(())
+    }
+
+    /// How many exchanges it has begun.
+    pub(crate) fn begun(&self) -> u64 {
+        (self.transport.finished() as u64).saturating_add(u64::from(self.transport.inside()))
+    }
+
+    /// Whether it is outside an exchange and holds no unfinished input.
+    pub(crate) fn rests(&self) -> bool {
+        !self.transport.inside() && self.transport.unfinished() == 0
+    }
+
+    /// Where it stands.
+    pub(crate) fn mark(&self) -> SideMark
+        ensures { result ≡ end_mark self.now }
+    {
+        SideMark {
+            sent: self.transport.output().len() as u64,
+            taken: self.taken as u64,
+            delivered: self.delivered.len() as u64,
+            finished: self.transport.finished() as u64,
+            inside: self.transport.inside(),
+            submitted: self.submitted,
+        }
+    }
+
+    /// What it did. Memory.
+    pub(crate) fn report(self, alloc: Global) -> Result<SideReport, AllocError>
+        ensures wire { IfOk result (λ r. r.wire ≡ self.entry.transport.output) }
+        ensures taken { IfOk result (λ r. r.taken ≡ self.entry.taken) }
+        ensures delivered { IfOk result (λ r. r.delivered ≡ self.entry.delivered.items) }
+        ensures exchanges { IfOk result (λ r. r.exchanges ≡ self.entry.transport.state.records) }
+    {
+        Ok(SideReport {
+            wire: Blob::copy_of(alloc, self.transport.output())?,
+            taken: self.taken as u64,
+            exchanges: exchanges(alloc, &self.transport)?,
+            delivered: PayloadList::new(self.delivered),
+        })
+    }
+}
+
+/// All finished exchanges, the first one first. Memory.
+#[tactic(auto, using(crate::proofs::Stored::one_stored))]
+fn exchanges(alloc: Global, transport: &Transport<'_>) -> Result<ExchangeList, AllocError>
+    ensures { IfOk result (λ list. list ≡ transport.now.state.records) }
+{
+    let mut exchanges = Vec::new(alloc);
+    for k in 0..transport.finished() {
+        exchanges.push(*transport.exchange(k + 1))?;
+    }
+    Ok(ExchangeList::new(exchanges))
+}

@@ -1,0 +1,28 @@
+//! The run of a script.
+
+ghost use Rattle.std.specs.Prelude.{IfOk};
+ghost use Rattle.ssh_link.specs.PlanRun.{IsPlanRun};
+
+use crate::link::run_link;
+use crate::run_parts::script_parts;
+use crate::setup::Script;
+use ssh_rules::link::LinkReport;
+use ssh_wire::Error;
+use std::alloc::Global;
+
+/// Runs a script's steps between its two sides, whose parts are test parts. It is refused as `run_link`.
+pub fn run_script(alloc: Global, script: &Script) -> Result<LinkReport, Error>
+    ensures report { IfOk result (IsPlanRun script.now) }
+{
+    let server = &script.server.config.host;
+    let mut client_parts = script_parts(alloc, &script.client, server)?;
+    let mut server_parts = script_parts(alloc, &script.server, server)?;
+    run_link(
+        alloc,
+        &script.client.config,
+        &script.server.config,
+        &mut client_parts,
+        &mut server_parts,
+        script.steps.as_slice(),
+    )
+}

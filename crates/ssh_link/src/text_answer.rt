@@ -1,0 +1,109 @@
+//! What a command answers to the text of a script.
+
+ghost use Rattle.std.specs.Prelude.{◌≡◌, Ok, IfOk, IfErr};
+ghost use Rattle.ssh_wire.specs.declared.ssh_id.SshId.TheVariants.{Standard};
+ghost use Rattle.ssh_link.specs.Parsing.{IsRefusal};
+ghost use Rattle.ssh_link.specs.Program.{AnswersSteps, AnswersScript, AnswersLinkScript, AnswersPlan, AnswersText};
+ghost use Rattle.ssh_link.specs.Script.{clear_script};
+ghost use Rattle.ssh_link.specs.RunScript.{run_script};
+ghost use Rattle.ssh_link.specs.declared.stream.ReadError.TheVariants.{Memory};
+
+use crate::answer::Answer;
+use crate::clear_script::parse_clear;
+use crate::command::Command;
+use crate::link_script::parse_script;
+use crate::run::run_clear;
+use crate::script::ScriptError;
+use crate::script_run::run_script;
+use crate::setup::Script;
+use crate::step::ClearStep;
+use crate::stream::ReadError;
+use ssh_wire::{Error, SshId, Text};
+use std::alloc::{AllocError, Global};
+
+/// What a command answers to its script.
+pub(crate) fn text_answer(
+    alloc: Global,
+    command: Command,
+    text: Vec<u8>,
+) -> Result<Answer, ReadError>
+    ensures answer { IfOk result (λ answer. AnswersText command text.items answer) }
+    ensures err { IfErr result (λ e. e ≡ Memory) }
+{
+    match command {
+        Command::Clear => clear_answer(alloc, text),
+        Command::Run => link_answer(alloc, text),
+    }
+}
+
+/// What is answered to a script of the command `clear`.
+fn clear_answer(alloc: Global, text: Vec<u8>) -> Result<Answer, ReadError>
+    ensures answer { IfOk result (λ answer. AnswersScript (clear_script text.items) answer) }
+    ensures err { IfErr result (λ e. e ≡ Memory) }
+{
+    match take_steps(alloc, text) {
+        Ok(steps) => run_answer(alloc, steps),
+        Err(ScriptError::Fault(fault)) => Ok(Answer::Faulty(fault)),
+        Err(ScriptError::Memory) => Err(ReadError::Memory),
+    }
+}
+
+/// The script's steps. The text is freed before they are run.
+fn take_steps(alloc: Global, text: Vec<u8>) -> Result<Vec<ClearStep>, ScriptError>
+    ensures read { IfOk result (λ steps. clear_script text.items ≡ Ok steps.items) }
+    ensures fault { IfErr result (λ error. IsRefusal (clear_script text.items) error) }
+{
+    parse_clear(alloc, text.as_slice())
+}
+
+/// Runs the steps, which are freed before the report is printed.
+fn run_answer(alloc: Global, steps: Vec<ClearStep>) -> Result<Answer, ReadError>
+    ensures answer { IfOk result (λ answer. AnswersSteps steps.items answer) }
+    ensures err { IfErr result (λ e. e ≡ Memory) }
+{
+    let client_id = standard_id(alloc, "SSH-2.0-sshlink_client")?;
+    let server_id = standard_id(alloc, "SSH-2.0-sshlink_server")?;
+    match run_clear(alloc, &client_id, &server_id, steps.as_slice()) {
+        Ok(report) => Ok(Answer::Ran(report)),
+        Err(Error::Memory) => Err(ReadError::Memory),
+        Err(error) => Ok(Answer::Refused(error)),
+    }
+}
+
+fn standard_id(alloc: Global, text: &str) -> Result<SshId, AllocError>
+    ensures { IfOk result (λ id. id ≡ Standard text.now) }
+{
+    Ok(SshId::Standard(Text::new(String::from_str(alloc, text)?)))
+}
+
+/// What is answered to a script of the command `run`.
+fn link_answer(alloc: Global, text: Vec<u8>) -> Result<Answer, ReadError>
+    ensures answer { IfOk result (λ answer. AnswersLinkScript (run_script text.items) answer) }
+    ensures err { IfErr result (λ e. e ≡ Memory) }
+{
+    match take_script(alloc, text) {
+        Ok(script) => script_answer(alloc, script),
+        Err(ScriptError::Fault(fault)) => Ok(Answer::Faulty(fault)),
+        Err(ScriptError::Memory) => Err(ReadError::Memory),
+    }
+}
+
+/// The script. The text is freed before it is run.
+fn take_script(alloc: Global, text: Vec<u8>) -> Result<Script, ScriptError>
+    ensures read { IfOk result (λ script. run_script text.items ≡ Ok script) }
+    ensures fault { IfErr result (λ error. IsRefusal (run_script text.items) error) }
+{
+    parse_script(alloc, text.as_slice())
+}
+
+/// Runs the script, which is freed before the report is printed.
+fn script_answer(alloc: Global, script: Script) -> Result<Answer, ReadError>
+    ensures answer { IfOk result (λ answer. AnswersPlan script answer) }
+    ensures err { IfErr result (λ e. e ≡ Memory) }
+{
+    match run_script(alloc, &script) {
+        Ok(report) => Ok(Answer::RanLink(report)),
+        Err(Error::Memory) => Err(ReadError::Memory),
+        Err(error) => Ok(Answer::Refused(error)),
+    }
+}

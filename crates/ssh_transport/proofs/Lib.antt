@@ -1,0 +1,9 @@
+pub mod Configs
+pub mod Hearing
+pub mod Kept
+pub mod Kexinits
+pub mod Parts
+pub mod Reading
+pub mod Saying
+pub mod Submitting
+pub mod Weaker

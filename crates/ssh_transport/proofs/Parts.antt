@@ -1,0 +1,46 @@
+-- What the calls of the parts keep, one after the other.
+use Rattle.std.proofs.Common.{◌≡◌, ℕ, ◌≤◌, Bool, List, Option, refl, ◌∙◌, arith}
+use Rattle.ssh_negotiate.specs.declared.kex.Name as kexes
+use Rattle.ssh_kex.specs.Parts.{KeepsAgreement, KeepsGroups, KeepsHosts, Setup}
+use Rattle.ssh_kex.specs.declared.exchange.ServerHost.{ServerHost}
+use Rattle.ssh_kex.specs.declared.group.DhGroup.{DhGroup}
+use Rattle.ssh_kex.specs.declared.group.GexParams.{GexParams}
+
+pub agreement_same : {A : Type 0} (lawful obliging : A → Setup → Type 0) (offered : A → kexes.Name → Bool) (refusals calls : A → ℕ) (a : A) → KeepsAgreement lawful obliging offered refusals calls a a
+agreement_same lawful obliging offered refusals calls a = record { refusals_later = omega arith; calls_later = omega arith; lawful_kept = λ s h. h; obliging_kept = λ s h. h; offered_kept = refl }
+
+pub agreement_after : {A : Type 0} (lawful obliging : A → Setup → Type 0) (offered : A → kexes.Name → Bool) (refusals calls : A → ℕ) (a b c : A) → KeepsAgreement lawful obliging offered refusals calls a b → KeepsAgreement lawful obliging offered refusals calls b c → KeepsAgreement lawful obliging offered refusals calls a c
+agreement_after lawful obliging offered refusals calls a b c h k = record {
+  refusals_later = (let x = h.refusals_later in let y = k.refusals_later in omega (arith, x, y));
+  calls_later = (let x = h.calls_later in let y = k.calls_later in omega (arith, x, y));
+  lawful_kept = λ s l. k.lawful_kept s (h.lawful_kept s l);
+  obliging_kept = λ s l. k.obliging_kept s (h.obliging_kept s l);
+  offered_kept = k.offered_kept ∙ h.offered_kept;
+}
+
+pub hosts_same : {H : Type 0} (lawful obliging : H → Setup → Type 0) (accepts : H → ServerHost → List ℕ → List ℕ → Bool) (trusts : H → ServerHost → Bool) (refused_sign refused_verify refused_check calls : H → ℕ) (a : H) → KeepsHosts lawful obliging accepts trusts refused_sign refused_verify refused_check calls a a
+hosts_same lawful obliging accepts trusts rs rv rc calls a = record { sign_later = omega arith; verify_later = omega arith; check_later = omega arith; calls_later = omega arith; lawful_kept = λ s h. h; obliging_kept = λ s h. h; accepts_kept = refl; trusts_kept = refl }
+
+pub hosts_after : {H : Type 0} (lawful obliging : H → Setup → Type 0) (accepts : H → ServerHost → List ℕ → List ℕ → Bool) (trusts : H → ServerHost → Bool) (refused_sign refused_verify refused_check calls : H → ℕ) (a b c : H) → KeepsHosts lawful obliging accepts trusts refused_sign refused_verify refused_check calls a b → KeepsHosts lawful obliging accepts trusts refused_sign refused_verify refused_check calls b c → KeepsHosts lawful obliging accepts trusts refused_sign refused_verify refused_check calls a c
+hosts_after lawful obliging accepts trusts rs rv rc calls a b c h k = record {
+  sign_later = (let x = h.sign_later in let y = k.sign_later in omega (arith, x, y));
+  verify_later = (let x = h.verify_later in let y = k.verify_later in omega (arith, x, y));
+  check_later = (let x = h.check_later in let y = k.check_later in omega (arith, x, y));
+  calls_later = (let x = h.calls_later in let y = k.calls_later in omega (arith, x, y));
+  lawful_kept = λ s l. k.lawful_kept s (h.lawful_kept s l);
+  obliging_kept = λ s l. k.obliging_kept s (h.obliging_kept s l);
+  accepts_kept = k.accepts_kept ∙ h.accepts_kept;
+  trusts_kept = k.trusts_kept ∙ h.trusts_kept;
+}
+
+pub groups_same : {G : Type 0} (lawful obliging : G → Setup → Type 0) (group : G → GexParams → DhGroup) (refusals calls : G → ℕ) (a : G) → KeepsGroups lawful obliging group refusals calls a a
+groups_same lawful obliging group refusals calls a = record { refusals_later = omega arith; calls_later = omega arith; lawful_kept = λ s h. h; obliging_kept = λ s h. h; group_kept = refl }
+
+pub groups_after : {G : Type 0} (lawful obliging : G → Setup → Type 0) (group : G → GexParams → DhGroup) (refusals calls : G → ℕ) (a b c : G) → KeepsGroups lawful obliging group refusals calls a b → KeepsGroups lawful obliging group refusals calls b c → KeepsGroups lawful obliging group refusals calls a c
+groups_after lawful obliging group refusals calls a b c h k = record {
+  refusals_later = (let x = h.refusals_later in let y = k.refusals_later in omega (arith, x, y));
+  calls_later = (let x = h.calls_later in let y = k.calls_later in omega (arith, x, y));
+  lawful_kept = λ s l. k.lawful_kept s (h.lawful_kept s l);
+  obliging_kept = λ s l. k.obliging_kept s (h.obliging_kept s l);
+  group_kept = k.group_kept ∙ h.group_kept;
+}

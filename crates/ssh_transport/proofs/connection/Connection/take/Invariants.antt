@@ -1,0 +1,18 @@
+use Rattle.std.proofs.Common.{◌≡◌, length}
+use Rattle.ssh_kex.specs.Parts.{KeepsAgreement, KeepsGroups, KeepsHosts}
+use Rattle.ssh_transport.specs.Kept.{IsLive}
+use Rattle.ssh_transport.specs.Saying.{IsFixed}
+use Rattle.ssh_transport.proofs.connection.Connection.take.Given as goal
+
+abbrev pub invariant-payloads : goal.invariant-payloads
+invariant-payloads g l = record {
+  live : IsLive l.self;
+  fixed : IsFixed l.fn.self.session l.self.session;
+  unfailed : l.self.failed ≡ l.fn.self.failed;
+  agreement : KeepsAgreement g.A.Agreement.lawful g.A.Agreement.obliging g.A.Agreement.offered g.A.Agreement.refusals g.A.Agreement.calls l.fn.parts.agreement l.parts.agreement;
+  hosts : KeepsHosts g.H.HostKeys.lawful g.H.HostKeys.obliging g.H.HostKeys.accepts g.H.HostKeys.trusts g.H.HostKeys.refused_sign g.H.HostKeys.refused_verify g.H.HostKeys.refused_check g.H.HostKeys.calls l.fn.parts.hosts l.parts.hosts;
+  groups : KeepsGroups g.G.GroupLookup.lawful g.G.GroupLookup.obliging g.G.GroupLookup.group g.G.GroupLookup.refusals g.G.GroupLookup.calls l.fn.parts.groups l.parts.groups;
+}
+
+abbrev pub decreases-payloads : goal.decreases-payloads
+decreases-payloads g l = length l.self.reader.waiting

@@ -1,0 +1,17 @@
+use Rattle.std.proofs.Common.{◌≡◌, List}
+use Rattle.std.specs.VecDeque.{deque_len}
+use Rattle.ssh_rules.specs.Machine.{Event}
+use Rattle.ssh_transport.specs.Saying.{Writes}
+use Rattle.ssh_transport.specs.States.{CanBegin, IsUnheard}
+use Rattle.ssh_transport.proofs.session.Session.go_on.Given as goal
+
+abbrev pub invariant-held : goal.invariant-held
+invariant-held g l = record {
+  begins : CanBegin l.self;
+  line : l.self.line ≡ l.fn.self.line;
+  unheard : IsUnheard l.self;
+  written : (events : List Event) × Writes l.fn.self l.read events l.self;
+}
+
+abbrev pub decreases-held : goal.decreases-held
+decreases-held g l = deque_len l.self.held

@@ -1,0 +1,9 @@
+use Rattle.ssh_transport.proofs.Configs.{usable}
+use Rattle.ssh_transport.proofs.Saying.{opened}
+use Rattle.ssh_transport.proofs.session.Session.open.Goals as goal
+
+pub new-requires-clause-usable : goal.new-requires-clause-usable
+new-requires-clause-usable g c = usable _ _ c.requires.valid
+
+pub returns-clause-opens : goal.returns-clause-opens
+returns-clause-opens g c = opened c.args.self.now c.in_ok-kex.kex c.kexinit.new.self c.kexinit.new.output c.next_cause-cause.result c.id.result.now c.in_ok-kex.ensures.ok c.next_cause-cause.ensures c.id.ensures c.in_ok-kexinit.ensures.sent

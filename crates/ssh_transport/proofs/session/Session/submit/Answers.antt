@@ -1,0 +1,17 @@
+use Rattle.std.proofs.Common.{List, ℕ, [], ◌∷◌, ◌++◌, refl, ap, ◌∙◌}
+use Rattle.ssh_transport.proofs.Saying.{flipped, flipped_true, good_some, on_ok, outside_is}
+use Rattle.ssh_transport.proofs.Submitting.{submits_inside, submits_outside}
+use Rattle.ssh_transport.proofs.session.Session.submit.Goals as goal
+
+pub returns-then-is_inside-clause-sent : goal.returns-then-is_inside-clause-sent
+returns-then-is_inside-clause-sent g c =
+    submits_inside c.args.self.now (record c.args.self.now { held = c.push_back.new.self }) c.args.read c.args.payload.now
+    (flipped_true c.is_inside.result _ c.is_inside.ensures c.if-is_inside.true) c.requires.settled c.requires.good c.requires.payload
+    (c.in_ok-push_back.ensures.items ∙ ap (λ (x : List ℕ). c.args.self.now.held.items ++ x ∷ []) (c.new.ensures ∙ c.in_ok-from_slice.ensures.items)) refl
+
+pub returns-clause-sent : goal.returns-clause-sent
+returns-clause-sent g c =
+    on_ok c.go_on.result _ _ (λ h. submits_outside c.args.self.now (record c.args.self.now { writer = c.packet_raw.new.self }) c.go_on.new.self c.args.read c.args.payload.now _
+    (outside_is _ (flipped c.is_inside.result _ c.is_inside.ensures c.if-is_inside.false)) c.requires.settled c.requires.payload
+    (c.in_ok-packet_raw.ensures.admissible (good_some c.args.payload.now c.requires.payload)) (c.in_ok-packet_raw.ensures.padded (good_some c.args.payload.now c.requires.payload))
+    c.in_ok-packet_raw.ensures.sent refl h) c.go_on.ensures.ok

@@ -1,0 +1,10 @@
+use Rattle.ssh_transport.proofs.transport.Transport.take_delivered.Goals as goal
+
+pub invariant_of-self : goal.invariant_of-self
+invariant_of-self c =
+    let k = c.self.invariant in
+    record {
+      begins = record { valid = k.begins.valid; short = k.begins.short };
+      behind = k.behind;
+      live = λ f. let l = k.live f in record { begins = record { valid = l.begins.valid; short = l.begins.short }; behind = l.behind; settled = λ at. l.settled at; good = l.good };
+    }

@@ -1,0 +1,31 @@
+-- A payload that is submitted, and what is left of a transport that broke.
+use Rattle.std.specs.Prelude.{◌≡◌, ℕ, true, List, [], ◌∷◌, ◌++◌}
+use Rattle.ssh_wire.specs.Lines.{id_text}
+use Rattle.ssh_rules.specs.Log.{sent_bytes}
+use Rattle.ssh_rules.specs.Machine.{Event, PayloadSubmitted, Spot, Steps}
+use Rattle.ssh_rules.specs.Standing.{Standing, unfinished}
+use Rattle.ssh_transport.specs.Saying.{AreGood, IsSettled, OnlyWrites, nothing_said}
+use Rattle.ssh_transport.specs.States.{state_at}
+use Rattle.ssh_transport.specs.declared.session.Session.{Session}
+
+-- a payload was taken, and what could be written was
+pub record Submits (s : Session) (read : ℕ) (payload : List ℕ) (s' : Session) : Type 0 where
+  pub side : s'.side ≡ s.side
+  pub config : s'.config ≡ s.config
+  pub line : s'.line ≡ s.line
+  pub rest : List Event
+  pub only : OnlyWrites rest
+  pub steps : (at : Spot) → Steps nothing_said s.side s.config.now (id_text s.config.now.id) (state_at s at read)
+      (PayloadSubmitted payload ∷ rest) (state_at s' at read)
+  pub output : s'.writer.output ≡ s.writer.output
+      ++ sent_bytes s.side (record { sealing = s.writer.sealing; number = s.writer.number }) rest
+  pub settled : IsSettled s' read
+  pub good : AreGood s'.held.items
+
+-- A transport broke: what was delivered stays, and nothing is kept of the input.
+pub record Breaks (old new : Standing) : Type 0 where
+  pub side : new.side ≡ old.side
+  pub config : new.config ≡ old.config
+  pub delivered : new.delivered ≡ old.delivered
+  pub failed : new.failed ≡ true
+  pub nothing : unfinished new ≡ []

@@ -1,0 +1,12 @@
+//! One side of the transport (RFC 4253): its version line, its packets, and the exchanges of keys among them.
+#![tactic(auto)]
+
+mod config;
+mod connection;
+mod machine;
+mod message;
+mod session;
+mod transport;
+
+pub use crate::transport::Transport;
+pub use ssh_kex::{Config, FinishedExchange};

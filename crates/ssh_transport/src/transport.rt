@@ -1,0 +1,199 @@
+//! One side of a connection, driven by the bytes that its caller carries.
+
+ghost use Rattle.std.specs.Prelude.{◌≡◌, ◌⊎◌, ◌≤◌, ◌-◌, true, false, [], drop, length, not, IfErr, IfOk, IfSome, IsTrue, OnErr, OnOk, Ok, Err, Some};
+ghost use Rattle.std.specs.List.{slice_get};
+ghost use Rattle.ssh_kex.specs.Parts.{KeepsAgreement, KeepsGroups, KeepsHosts};
+ghost use Rattle.ssh_kex.specs.Stepping.{says_of};
+ghost use Rattle.ssh_packet.specs.Stream.{message_type};
+ghost use Rattle.ssh_rules.specs.MessageTypes.{is_payload_type};
+ghost use Rattle.ssh_rules.specs.Valid.{config_fault, is_bad_size, is_good_payload};
+ghost use Rattle.ssh_wire.specs.declared.error.ConfigFault.{ConfigFault};
+ghost use Rattle.ssh_wire.specs.declared.error.Error.TheVariants.{Disconnect, Inconsistent, InvalidConfig, Memory, PacketSize};
+ghost use Rattle.ssh_wire.specs.declared.side.Side.TheVariants.{Client as client_side, Server as server_side};
+
+use crate::connection::Connection;
+use rand_core::Rng;
+use ssh_kex::{Agreement, Config, FinishedExchange, GroupLookup, HostKeys, Parts};
+use ssh_wire::{Error, PayloadList, Side};
+use std::alloc::Global;
+use std::marker::Model;
+use std::mem;
+
+/// One side of a connection. What it sends is taken from `output`, and what the other side sent is handed to `feed`.
+#[derive(Drop)]
+pub struct Transport<'c> {
+    connection: Connection<'c>,
+}
+
+impl<'c> Model for Transport<'c> {
+    ghost use Rattle.ssh_rules.specs.Standing.{Standing};
+    ghost use Rattle.ssh_transport.specs.Kept.{IsKept};
+    ghost use Rattle.ssh_transport.specs.States.{standing_of};
+
+    ghost Value = { Standing };
+
+    ghost view = { λ t. standing_of t.connection };
+
+    ghost invariant = { λ t. IsKept t.connection };
+}
+
+impl<'c> Transport<'c> {
+    ghost use Rattle.ssh_rules.specs.Standing.{IsNew, Rekeyed, Submitted, is_outside, unfinished};
+    ghost use Rattle.ssh_transport.specs.Submitting.{Breaks};
+
+    /// A client that has written its version line. InvalidConfig names the first test that refuses its configuration:
+    ///
+    /// - Id: the version line doesn't begin `SSH-2.0-` or `SSH-1.99-`, ends a line within, or is over 255 bytes;
+    /// - Limit: a byte limit is outside 1 to 2^30;
+    /// - GroupSizes: the least size is over the preferred one, or that over the most;
+    /// - KexNone: the key exchange `none` is offered;
+    /// - NameList: an advertised list has over 1025 names or over 16384 bytes;
+    /// - HostBlob: the blob of a key or a certificate has over 65536 bytes.
+    ///
+    /// Memory.
+    pub fn client(alloc: Global, config: &'c Config) -> Result<Transport<'c>, Error>
+        ensures made { IfOk result (IsNew client_side config.now) }
+        ensures fault { IfSome (config_fault client_side config.now) (λ f. result ≡ Err (InvalidConfig f)) }
+        ensures causes { IfErr result (λ e. (e ≡ Memory) ⊎ ((f : ConfigFault) × (config_fault client_side config.now ≡ Some f) × (e ≡ InvalidConfig f))) }
+    {
+        Ok(Transport {
+            connection: Connection::new(alloc, Side::Client, config)?,
+        })
+    }
+
+    /// A server that has written its version line. It is refused as `client` is.
+    pub fn server(alloc: Global, config: &'c Config) -> Result<Transport<'c>, Error>
+        ensures made { IfOk result (IsNew server_side config.now) }
+        ensures fault { IfSome (config_fault server_side config.now) (λ f. result ≡ Err (InvalidConfig f)) }
+        ensures causes { IfErr result (λ e. (e ≡ Memory) ⊎ ((f : ConfigFault) × (config_fault server_side config.now ≡ Some f) × (e ≡ InvalidConfig f))) }
+    {
+        Ok(Transport {
+            connection: Connection::new(alloc, Side::Server, config)?,
+        })
+    }
+
+    /// Takes the next bytes that the other side sent, however they are cut: its version line, and then its packets, each as
+    /// soon as it is whole. Payloads are delivered, and the messages that are due are written. A refusal is the end of the
+    /// transport: each later `feed`, `submit` and `rekey` answers Disconnect, and what was delivered stays.
+    ///
+    /// Disconnect after a refusal, and at a DISCONNECT; Version where what stands there is no version line (RFC 4253
+    /// section 4.2); PacketSize, PacketAuth, DecryptionError, IndexOutOfBounds as `PacketReader::next`; Inconsistent where a
+    /// message is out of place; StrictKeyExchangeViolation; KexInit, Kex, UnknownAlgo, NoCommonAlgo, SshEncoding, Signature,
+    /// WrongServerSig as the machine of the exchange; UnknownKey where the server's host isn't trusted; Memory.
+    pub fn feed<A: Agreement, H: HostKeys, G: GroupLookup, R: Rng>(
+        &mut self,
+        parts: &mut Parts<A, H, G, R>,
+        piece: &[u8],
+    ) -> Result<(), Error>
+        ensures dead { self.old.failed ≡ true → (result ≡ Err Disconnect) × (self.new ≡ self.old) × (parts.new ≡ parts.old) }
+        ensures stays { (self.new.side ≡ self.old.side) × (self.new.config ≡ self.old.config) }
+        ensures lives { self.old.failed ≡ false → OnOk result (self.new.failed ≡ false) }
+        ensures ends { self.old.failed ≡ false → OnErr result ((self.new.failed ≡ true) × (unfinished self.new ≡ [])) }
+        ensures agreement { KeepsAgreement A.lawful A.obliging A.offered A.refusals A.calls parts.old.agreement parts.new.agreement }
+        ensures hosts { KeepsHosts H.lawful H.obliging H.accepts H.trusts H.refused_sign H.refused_verify H.refused_check H.calls parts.old.hosts parts.new.hosts }
+        ensures groups { KeepsGroups G.lawful G.obliging G.group G.refusals G.calls parts.old.groups parts.new.groups }
+    {
+        self.connection.feed(parts, piece)
+    }
+
+    /// Seals a payload outside an exchange, and holds it inside one until that has ended (RFC 4253 section 7.1). It has 1 to
+    /// 262157 bytes, and its type is 5 to 7 or at least 50.
+    ///
+    /// Disconnect after a refusal; PacketSize with another number of bytes; Inconsistent with another type; these change
+    /// nothing. Memory, which is the end of the transport.
+    pub fn submit<A: Agreement, H: HostKeys, G: GroupLookup, R: Rng>(
+        &mut self,
+        parts: &mut Parts<A, H, G, R>,
+        payload: &[u8],
+    ) -> Result<(), Error>
+        ensures dead { self.old.failed ≡ true → (result ≡ Err Disconnect) × (self.new ≡ self.old) × (parts.new ≡ parts.old) }
+        ensures size { self.old.failed ≡ false → IsTrue (is_bad_size (length payload.now))
+            → (result ≡ Err (PacketSize (length payload.now))) × (self.new ≡ self.old) × (parts.new ≡ parts.old) }
+        ensures inconsistent { self.old.failed ≡ false → is_bad_size (length payload.now) ≡ false
+            → is_payload_type (message_type payload.now) ≡ false
+            → (result ≡ Err Inconsistent) × (self.new ≡ self.old) × (parts.new ≡ parts.old) }
+        ensures sent { OnOk result (Submitted (says_of A.lawful A.offered A.client_makes A.server_makes A.agrees H.lawful H.obliging H.accepts H.trusts H.makes G.lawful G.group self.old.config parts.old.agreement parts.old.hosts parts.old.groups) self.old payload.now self.new) }
+        ensures memory { self.old.failed ≡ false → is_good_payload payload.now ≡ true
+            → OnErr result ((result ≡ Err Memory) × Breaks self.old self.new) }
+        ensures parts { (parts.new.agreement ≡ parts.old.agreement) × (parts.new.hosts ≡ parts.old.hosts) × (parts.new.groups ≡ parts.old.groups) }
+    {
+        self.connection.submit(parts, payload)
+    }
+
+    /// Begins an exchange outside one; inside one nothing changes. Disconnect after a refusal; Memory, which is the end of
+    /// the transport.
+    pub fn rekey<A: Agreement, H: HostKeys, G: GroupLookup, R: Rng>(
+        &mut self,
+        parts: &mut Parts<A, H, G, R>,
+    ) -> Result<(), Error>
+        ensures dead { self.old.failed ≡ true → (result ≡ Err Disconnect) × (self.new ≡ self.old) × (parts.new ≡ parts.old) }
+        ensures begun { OnOk result (Rekeyed (says_of A.lawful A.offered A.client_makes A.server_makes A.agrees H.lawful H.obliging H.accepts H.trusts H.makes G.lawful G.group self.old.config parts.old.agreement parts.old.hosts parts.old.groups) self.old self.new) }
+        ensures inside { self.old.failed ≡ false → is_outside self.old.state.stands ≡ false
+            → (result ≡ Ok tt) × (self.new ≡ self.old) × (parts.new ≡ parts.old) }
+        ensures memory { self.old.failed ≡ false → OnErr result ((result ≡ Err Memory) × Breaks self.old self.new) }
+        ensures parts { (parts.new.agreement ≡ parts.old.agreement) × (parts.new.hosts ≡ parts.old.hosts) × (parts.new.groups ≡ parts.old.groups) }
+    {
+        self.connection.rekey(parts)
+    }
+
+    /// The bytes to be sent, from the front on.
+    pub fn output(&self) -> &[u8]
+        ensures { result.now ≡ self.now.output }
+    {
+        self.connection.session.writer.output()
+    }
+
+    /// Drops the first n bytes of the output, once they are sent.
+    pub fn consume_output(&mut self, n: usize)
+        requires { n ≤ length self.old.output }
+        ensures { self.new ≡ record self.old { output = drop n self.old.output } }
+    {
+        self.connection.session.writer.consume_output(n);
+    }
+
+    /// The payloads that were delivered since the last take, in order.
+    pub fn take_delivered(&mut self) -> PayloadList
+        ensures taken { result ≡ self.old.delivered }
+        ensures left { self.new ≡ record self.old { delivered = [] } }
+    {
+        let alloc = self.connection.alloc;
+        PayloadList::new(mem::replace(&mut self.connection.delivered, Vec::new(alloc)))
+    }
+
+    /// How many exchanges are finished.
+    pub fn finished(&self) -> usize
+        ensures { result ≡ length self.now.state.records }
+    {
+        self.connection.session.finished.len()
+    }
+
+    /// Whether it is inside an exchange, as it is from the start until the first one is finished.
+    pub fn inside(&self) -> bool
+        ensures { result ≡ not (is_outside self.now.state.stands) }
+    {
+        self.connection.session.is_inside()
+    }
+
+    /// Whether it was refused.
+    pub fn failed(&self) -> bool
+        ensures { result ≡ self.now.failed }
+    {
+        self.connection.failed
+    }
+
+    /// How many bytes of a line or a packet that isn't whole are held.
+    pub fn unfinished(&self) -> usize
+        ensures { result ≡ length (unfinished self.now) }
+    {
+        self.connection.session.line.waiting() + self.connection.reader.waiting()
+    }
+
+    /// A finished exchange, counted from 1.
+    pub fn exchange(&self, k: usize) -> &FinishedExchange
+        requires first { 1 ≤ k }
+        requires last { k ≤ length self.now.state.records }
+        ensures { slice_get self.now.state.records (k - 1) ≡ Some result.now }
+    {
+        &self.connection.session.finished[k - 1]
+    }
+}

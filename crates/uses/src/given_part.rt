@@ -1,0 +1,242 @@
+//! Parts that answer what they were given, for the replay of an exchange.
+
+ghost use Rattle.std.specs.Prelude.{◌≡◌, ◌+◌, ◌<◌, ◌^◌, length, IfOk, IfErr};
+ghost use Rattle.ssh_kex.specs.declared.parts.Refusal.TheVariants.{Memory};
+
+use rand_core::Rng;
+use ssh_kex::{Agreed, Agreement, DhGroup, HostKeys, Refusal, ServerHost, Started};
+use ssh_mac::HashValue;
+use ssh_negotiate::{HostKey, kex};
+use ssh_wire::{Algorithm, Blob, Error};
+use std::alloc::Global;
+
+/// A public value, and the secret that was agreed by it.
+#[derive(Drop)]
+struct GivenValue {
+    public: Vec<u8>,
+    secret: Vec<u8>,
+}
+
+/// Answers the public values and the secrets of exchanges, one after the other, whatever it is asked; the last ones stay.
+/// It keeps none of the laws of an agreement, so no value of it is lawful; what holds of whatever agreement holds of it.
+#[derive(Drop)]
+pub struct GivenAgreement {
+    values: Vec<GivenValue>,
+    at: usize,
+}
+
+impl GivenAgreement {
+    /// One that has no values yet, and answers want of memory.
+    pub fn new(alloc: Global) -> GivenAgreement {
+        GivenAgreement {
+            values: Vec::new(alloc),
+            at: 0,
+        }
+    }
+
+    /// One of one exchange. Memory.
+    pub fn of(alloc: Global, public: Vec<u8>, secret: Vec<u8>) -> Result<GivenAgreement, Error> {
+        let mut given = GivenAgreement::new(alloc);
+        given.push(public, secret)?;
+        Ok(given)
+    }
+
+    /// Adds the values of another exchange. Memory.
+    pub fn push(&mut self, public: Vec<u8>, secret: Vec<u8>) -> Result<(), Error> {
+        self.values.push(GivenValue { public, secret })?;
+        Ok(())
+    }
+
+    /// Goes on to the next exchange's values, where there are any.
+    fn go_on(&mut self) {
+        let next = self.at.saturating_add(1);
+        if next < self.values.len() {
+            self.at = next;
+        }
+    }
+}
+
+/// The bytes again. Memory, also where they are too many for a part's value.
+fn again(alloc: Global, bytes: &[u8]) -> Result<Blob, Refusal>
+    ensures ok { IfOk result (λ b. length b < 2 ^ 31) }
+    ensures err { IfErr result (λ e. e ≡ Memory) }
+{
+    if bytes.len() >= 1 << 31 {
+        return Err(Refusal::Memory);
+    }
+    match Blob::copy_of(alloc, bytes) {
+        Ok(copy) => Ok(copy),
+        Err(_) => Err(Refusal::Memory),
+    }
+}
+
+impl Agreement for GivenAgreement {
+    ghost use Rattle.std.specs.Prelude.{true};
+
+    ghost offered = { λ given name. true };
+
+    ghost client_makes = { λ name group local public. ⊥ };
+
+    ghost server_makes = { λ name group public. ⊥ };
+
+    ghost agrees = { λ name group client server secret. ⊥ };
+
+    ghost lawful = { λ given setup. ⊥ };
+
+    ghost obliging = { λ given setup. ⊥ };
+
+    ghost refusals = { λ given. 0 };
+
+    ghost calls = { λ given. 0 };
+
+    fn offers(&self, _name: kex::Name) -> bool {
+        true
+    }
+
+    fn client_start<R: Rng>(
+        &mut self,
+        alloc: Global,
+        _name: kex::Name,
+        _group: Option<&DhGroup>,
+        _rng: &mut R,
+    ) -> Result<Started, Refusal> {
+        let Some(value) = self.values.get(self.at) else {
+            return Err(Refusal::Memory);
+        };
+        Ok(Started {
+            public: again(alloc, value.public.as_slice())?,
+            local: Blob::new(Vec::new(alloc)),
+        })
+    }
+
+    fn server_agree<R: Rng>(
+        &mut self,
+        alloc: Global,
+        _name: kex::Name,
+        _group: Option<&DhGroup>,
+        _client_public: &[u8],
+        _rng: &mut R,
+    ) -> Result<Agreed, Refusal> {
+        let Some(value) = self.values.get(self.at) else {
+            return Err(Refusal::Memory);
+        };
+        let agreed = Agreed {
+            public: again(alloc, value.public.as_slice())?,
+            secret: again(alloc, value.secret.as_slice())?,
+        };
+        self.go_on();
+        Ok(agreed)
+    }
+
+    fn client_agree(
+        &mut self,
+        alloc: Global,
+        _name: kex::Name,
+        _group: Option<&DhGroup>,
+        _local: &[u8],
+        _server_public: &[u8],
+    ) -> Result<Blob, Refusal> {
+        let Some(value) = self.values.get(self.at) else {
+            return Err(Refusal::Memory);
+        };
+        let secret = again(alloc, value.secret.as_slice())?;
+        self.go_on();
+        Ok(secret)
+    }
+
+    ghost one_secret = { λ v s name group local client server x y lawful. absurd lawful };
+
+    ghost obliging_lawful = { λ v s obliging. obliging };
+}
+
+/// Signs by the signatures of exchanges, one after the other, whatever it is asked, the last one again and again; accepts
+/// and trusts whatever it is shown. No value of it is lawful.
+#[derive(Drop)]
+pub struct GivenHosts {
+    signatures: Vec<Vec<u8>>,
+    at: usize,
+    judged: usize,
+}
+
+impl GivenHosts {
+    /// One that has no signatures yet, and answers want of memory.
+    pub fn new(alloc: Global) -> GivenHosts {
+        GivenHosts {
+            signatures: Vec::new(alloc),
+            at: 0,
+            judged: 0,
+        }
+    }
+
+    /// Adds the signature of another exchange. Memory.
+    pub fn push(&mut self, signature: Vec<u8>) -> Result<(), Error> {
+        self.signatures.push(signature)?;
+        Ok(())
+    }
+
+    /// How many signatures it was shown.
+    pub fn judged(&self) -> usize {
+        self.judged
+    }
+}
+
+impl HostKeys for GivenHosts {
+    ghost use Rattle.std.specs.Prelude.{true};
+
+    ghost accepts = { λ given host hash signature. true };
+
+    ghost trusts = { λ given host. true };
+
+    ghost makes = { λ config host hash signature. ⊥ };
+
+    ghost lawful = { λ given setup. ⊥ };
+
+    ghost obliging = { λ given setup. ⊥ };
+
+    ghost refused_sign = { λ given. 0 };
+
+    ghost refused_verify = { λ given. 0 };
+
+    ghost refused_check = { λ given. 0 };
+
+    ghost calls = { λ given. 0 };
+
+    fn sign(
+        &mut self,
+        alloc: Global,
+        _key: &HostKey,
+        _algorithm: Algorithm,
+        _hash: &HashValue,
+    ) -> Result<Blob, Refusal> {
+        let Some(signature) = self.signatures.get(self.at) else {
+            return Err(Refusal::Memory);
+        };
+        let given = again(alloc, signature.as_slice())?;
+        let next = self.at.saturating_add(1);
+        if next < self.signatures.len() {
+            self.at = next;
+        }
+        Ok(given)
+    }
+
+    fn verify(
+        &mut self,
+        _alloc: Global,
+        _host: &ServerHost,
+        _hash: &HashValue,
+        _signature: &[u8],
+    ) -> Result<(), Refusal> {
+        self.judged = self.judged.saturating_add(1);
+        Ok(())
+    }
+
+    fn check(&mut self, _alloc: Global, _host: &ServerHost) -> Result<(), Refusal> {
+        Ok(())
+    }
+
+    ghost obliging_lawful = { λ v s obliging. obliging };
+
+    ghost obliging_trusts = { λ v s host key obliging. absurd obliging };
+
+    ghost obliging_accepts = { λ v s host hash signature obliging. absurd obliging };
+}
