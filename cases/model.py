@@ -9,6 +9,8 @@ writes them instead.
 import pathlib
 import sys
 
+from gen_model import summary
+
 HERE = pathlib.Path(__file__).resolve().parent
 IDS = {"client": b"SSH-2.0-sshlink_client\r\n", "server": b"SSH-2.0-sshlink_server\r\n"}
 OTHER = {"client": "server", "server": "client"}
@@ -98,9 +100,22 @@ def run(text):
     return 0, report
 
 
+def decimal(word):
+    """N, below 2^64 and without a leading zero, or nothing."""
+    try:
+        return number(word)
+    except Fault:
+        return None
+
+
 def answer(case):
-    """Status and text of a case: but for `run`, only the one word `clear` is a command."""
-    if (case / "args").read_bytes() != b"clear\n":
+    """Status and text of a case: but for `run`, only the word `clear` and `gen SEED COUNT` are commands."""
+    words = (case / "args").read_bytes().removesuffix(b"\n").split(b"\n")
+    if len(words) == 3 and words[0] == b"gen":
+        seed, count = decimal(words[1]), decimal(words[2])
+        if seed is not None and count is not None and count <= 100000:
+            return 0, summary(seed, count)
+    if words != [b"clear"]:
         return 2, "usage\n"
     if (case / "repeat").exists():
         count, _, text = (case / "repeat").read_text().strip().partition(" ")

@@ -1,11 +1,12 @@
 //! Rows of one side's transport: its configuration, and calls one after the other.
 
+use crate::play::trusted_by;
 use crate::replay::side_of;
 use ssh_kex::{Config, GexParams, Parts};
 use ssh_mac::mac;
 use ssh_negotiate::{HostKey, ServerKeys};
 use ssh_transport::Transport;
-use ssh_vectors::{TestAgreement, TestGroups, TestHosts};
+use ssh_vectors::{TestAgreement, TestGroups, TestHosts, TrustedHost};
 use ssh_wire::{Algorithm, Blob, Error, Limits, Side, SshId, Text};
 use std::alloc::Global;
 use vector_rows::preferences::{preferred, settings};
@@ -16,7 +17,7 @@ type Handed = Parts<TestAgreement, TestHosts, TestGroups, Words<'static>>;
 /// `calls SIDE PREFERENCES SETTINGS CALL..`: what a transport of the side answers to `feed:BYTES`, `submit:BYTES` and
 /// `rekey`, one after the other; whether it has failed or is inside an exchange; and how many bytes of input are unfinished,
 /// how many exchanges are finished, how many payloads are delivered, and how many bytes are written. A configuration that is
-/// refused stands in their place.
+/// refused stands in their place. A client trusts the host key of its own configuration.
 pub(crate) fn answer(kind: &str, row: &mut Row<'_>, found: &mut String) -> Result<bool, Fault> {
     if kind != "calls" {
         return Ok(false);
@@ -28,7 +29,10 @@ pub(crate) fn answer(kind: &str, row: &mut Row<'_>, found: &mut String) -> Resul
         Side::Server => Transport::server(row.alloc(), &config),
     };
     match transport {
-        Ok(mut transport) => called(&mut transport, row, found)?,
+        Ok(mut transport) => {
+            let trusted = trusted_by(row.alloc(), &config.host)?;
+            called(&mut transport, trusted, row, found)?;
+        }
         Err(error) => say_shown(found, &error)?,
     }
     Ok(true)
@@ -49,7 +53,7 @@ fn config_by(row: &mut Row<'_>) -> Result<Config, Fault> {
             max_group_size: 8192,
         },
         host: ServerKeys {
-            keys: keys_of(alloc, Blob::copy_of(alloc, b"sshlink-test-key")?)?,
+            keys: key_of(alloc, Blob::copy_of(alloc, b"sshlink-test-key")?)?,
             certificates: Vec::new(alloc),
         },
     };
@@ -88,7 +92,7 @@ fn set_number(alloc: Global, config: &mut Config, name: &str, value: &str) -> Re
         "wanted" => config.gex.preferred_group_size = number,
         "most" => config.gex.max_group_size = number,
         "macs" => config.preferred.mac = times(alloc, mac::NONE, number)?,
-        "blob" => config.host.keys = keys_of(alloc, Blob::new(times(alloc, 0, number)?))?,
+        "blob" => config.host.keys = keys_of(alloc, number)?,
         _ => return Err(Fault::Malformed),
     }
     Ok(())
@@ -103,8 +107,13 @@ fn times<T: Copy>(alloc: Global, value: T, n: u32) -> Result<Vec<T>, Fault> {
     Ok(values)
 }
 
+/// One host key whose blob has so many bytes, all zeros.
+pub(crate) fn keys_of(alloc: Global, bytes: u32) -> Result<Vec<HostKey>, Fault> {
+    key_of(alloc, Blob::new(times(alloc, 0, bytes)?))
+}
+
 /// One host key of this blob.
-fn keys_of(alloc: Global, blob: Blob) -> Result<Vec<HostKey>, Fault> {
+fn key_of(alloc: Global, blob: Blob) -> Result<Vec<HostKey>, Fault> {
     let mut keys = Vec::new(alloc);
     keys.push(HostKey {
         algorithm: Algorithm::Ed25519,
@@ -116,13 +125,14 @@ fn keys_of(alloc: Global, blob: Blob) -> Result<Vec<HostKey>, Fault> {
 /// Calls a transport by the words that are left.
 fn called(
     transport: &mut Transport<'_>,
+    trusted: Vec<TrustedHost>,
     row: &mut Row<'_>,
     found: &mut String,
 ) -> Result<(), Fault> {
     let alloc = row.alloc();
     let mut parts = Parts {
         agreement: TestAgreement::new(),
-        hosts: TestHosts::new(Vec::new(alloc)),
+        hosts: TestHosts::new(trusted),
         groups: TestGroups { bits: 0 },
         rng: Words::of(&[]),
     };

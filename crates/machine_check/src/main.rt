@@ -10,6 +10,7 @@ mod machine;
 mod play;
 mod replay;
 mod talk;
+mod without;
 
 use crate::talk::Talk;
 use std::process::ExitCode;

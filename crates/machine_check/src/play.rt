@@ -1,9 +1,11 @@
 //! Rows of both machines, each given the other's packets.
 
+use crate::calls::keys_of;
 use crate::machine::{Machine, Progress};
+use crate::without::Without;
 use ssh_kex::{Config, GexParams, NewKeys, Parts};
 use ssh_mac::HashValue;
-use ssh_negotiate::{KexCause, Preferred, ServerKeys};
+use ssh_negotiate::{KexCause, Preferred, ServerKeys, kex};
 use ssh_packet::{Incoming, OpenKey, PacketReader, PacketWriter, clear};
 use ssh_vectors::{Refusing, TestAgreement, TestGroups, TestHosts, TrustedHost};
 use ssh_wire::{Blob, Limits, Side, SshId, Text};
@@ -19,7 +21,7 @@ const SERVER_ID: &str = "SSH-2.0-server";
 const TURNS: usize = 8;
 
 type Handed = Parts<
-    Refusing<TestAgreement>,
+    Without<Refusing<TestAgreement>>,
     Refusing<TestHosts>,
     Refusing<TestGroups>,
     Words<'static>,
@@ -34,17 +36,24 @@ pub(crate) fn answer(kind: &str, row: &mut Row<'_>, found: &mut String) -> Resul
     let alloc = row.alloc();
     let client_prefers = preferred(row)?;
     let server_prefers = preferred(row)?;
-    let host = ServerKeys {
+    let mut host = ServerKeys {
         keys: some(keys(row)?)?,
         certificates: some(certificates(row)?)?,
     };
     let cause = cause_of(row)?;
     let settings = Settings::of(row)?;
+    if settings.blob > 0 {
+        host.keys = keys_of(alloc, settings.blob)?;
+    }
     let none = ServerKeys {
         keys: Vec::new(alloc),
         certificates: Vec::new(alloc),
     };
-    let trusted = trusted_by(alloc, &settings, &host)?;
+    let trusted = if settings.trusts {
+        trusted_by(alloc, &host)?
+    } else {
+        Vec::new(alloc)
+    };
     let client_config = config_of(alloc, CLIENT_ID, client_prefers, settings.gex, none)?;
     let server_config = config_of(alloc, SERVER_ID, server_prefers, settings.gex, host)?;
     let handed = settings.handed(&settings.client, trusted);
@@ -105,12 +114,13 @@ fn bytes_of(alloc: Global, digits: &str) -> Result<Vec<u8>, Fault> {
     row.bytes()
 }
 
-/// Which call of each part of a side is refused: 0 for none.
+/// Which call of each part of a side is refused, 0 for none; and which key exchange its agreement lacks.
 #[derive(Clone, Copy, Drop)]
 struct Refused {
     agreement: u64,
     hosts: u64,
     groups: u64,
+    without: kex::Name,
 }
 
 /// What a row sets besides.
@@ -118,6 +128,7 @@ struct Refused {
 struct Settings {
     gex: GexParams,
     bits: u32,
+    blob: u32,
     trusts: bool,
     client: Refused,
     server: Refused,
@@ -125,13 +136,15 @@ struct Settings {
 
 impl Settings {
     /// The next word: `default`, or in its place settings of the client's sizes `least`, `wanted`, `most`, of the looked-up
-    /// group's `bits`, of `trust`, which is `none` where the client trusts no host, and of the numbers of calls that are
-    /// refused, such as `client_hosts`.
+    /// group's `bits`, of `blob`, as one host key whose blob has so many bytes, of `trust`, which is `none` where the client
+    /// trusts no host, of the numbers of calls that are refused, such as `client_hosts`, and of the key exchange that a
+    /// side's agreement lacks, such as `client_without`.
     fn of(row: &mut Row<'_>) -> Result<Settings, Fault> {
         let none = Refused {
             agreement: 0,
             hosts: 0,
             groups: 0,
+            without: kex::NONE,
         };
         let mut given = Settings {
             gex: GexParams {
@@ -140,6 +153,7 @@ impl Settings {
                 max_group_size: 8192,
             },
             bits: 0,
+            blob: 0,
             trusts: true,
             client: none,
             server: none,
@@ -155,6 +169,15 @@ impl Settings {
             self.trusts = false;
             return Ok(());
         }
+        match name {
+            "client_without" => self.client.without = some(kex::Name::from_str(value))?,
+            "server_without" => self.server.without = some(kex::Name::from_str(value))?,
+            _ => return self.set_number(name, value),
+        }
+        Ok(())
+    }
+
+    fn set_number(&mut self, name: &str, value: &str) -> Result<(), Fault> {
         let Ok(number) = value.parse::<u32>() else {
             return Err(Fault::Malformed);
         };
@@ -163,6 +186,7 @@ impl Settings {
             "wanted" => self.gex.preferred_group_size = number,
             "most" => self.gex.max_group_size = number,
             "bits" => self.bits = number,
+            "blob" => self.blob = number,
             "client_agreement" => self.client.agreement = u64::from(number),
             "client_hosts" => self.client.hosts = u64::from(number),
             "server_agreement" => self.server.agreement = u64::from(number),
@@ -176,7 +200,10 @@ impl Settings {
     /// The parts of a side.
     fn handed(&self, refused: &Refused, trusted: Vec<TrustedHost>) -> Handed {
         Parts {
-            agreement: refusing(TestAgreement::new(), refused.agreement),
+            agreement: Without {
+                inner: refusing(TestAgreement::new(), refused.agreement),
+                name: refused.without,
+            },
             hosts: refusing(TestHosts::new(trusted), refused.hosts),
             groups: refusing(TestGroups { bits: self.bits }, refused.groups),
             rng: Words::of(&[]),
@@ -194,15 +221,8 @@ fn refusing<T: Drop>(inner: T, refuse_at: u64) -> Refusing<T> {
 }
 
 /// The hosts of a server's keys and certificates.
-fn trusted_by(
-    alloc: Global,
-    settings: &Settings,
-    host: &ServerKeys,
-) -> Result<Vec<TrustedHost>, Fault> {
+pub(crate) fn trusted_by(alloc: Global, host: &ServerKeys) -> Result<Vec<TrustedHost>, Fault> {
     let mut trusted = Vec::new(alloc);
-    if !settings.trusts {
-        return Ok(trusted);
-    }
     for key in host.keys.as_slice() {
         trusted.push(TrustedHost {
             blob: Blob::copy_of(alloc, key.blob.as_slice())?,

@@ -8,8 +8,8 @@ use Rattle.ssh_wire.specs.declared.ssh_id.SshId.{SshId}
 use Rattle.ssh_link.specs.ClearRun.{IsWholeLine}
 use Rattle.ssh_link.specs.Program.{AnswersScript, AnswersLinkScript, AnswersText, AnswersLeft, client_id, server_id}
 use Rattle.ssh_link.specs.RunScript.{run_script}
-use Rattle.ssh_link.specs.declared.command.Command.{Command}
-use Rattle.ssh_link.specs.declared.command.Command.TheVariants as command
+use Rattle.ssh_link.specs.declared.command.ScriptCommand.{ScriptCommand}
+use Rattle.ssh_link.specs.declared.command.ScriptCommand.TheVariants as command
 use Rattle.ssh_link.specs.Script.{clear_script}
 use Rattle.ssh_wire.specs.Outside.{TakesFront, ReachesEnd}
 use Rattle.ssh_link.specs.declared.answer.Answer.{Answer}
@@ -36,14 +36,14 @@ link_too_long : (text : List ℕ) → 67108864 < length text → run_script text
 link_too_long text h = let t : nat_lt 67108864 (length text) ≡ true = grind (arith, nat_tests) in cond-true _ _ _ t
 
 -- two texts that are too long have one answer
-long_alike : (c : Command) (text left : List ℕ) (answer : Answer) → 67108864 < length text → 67108864 < length left → AnswersText c text answer → AnswersText c left answer
+long_alike : (c : ScriptCommand) (text left : List ℕ) (answer : Answer) → 67108864 < length text → 67108864 < length left → AnswersText c text answer → AnswersText c left answer
 long_alike command.Clear text left answer h k right = subst (λ script. AnswersScript script answer) (too_long text h ∙ sym (too_long left k)) right
 long_alike command.Run text left answer h k right = subst (λ script. AnswersLinkScript script answer) (link_too_long text h ∙ sym (link_too_long left k)) right
 
 none_left : (rest : List ℕ) (new : Option (List ℕ)) → new ≡ Some rest → new ≡ Some [] → rest ≡ []
 none_left rest new e h = cc
 
-pub answers_left : (c : Command) (text : List ℕ) (old new : Option (List ℕ)) (answer : Answer) → TakesFront text old new → (length text < 67108865 → ReachesEnd old new) → AnswersText c text answer → AnswersLeft c old answer
+pub answers_left : (c : ScriptCommand) (text : List ℕ) (old new : Option (List ℕ)) (answer : Answer) → TakesFront text old new → (length text < 67108865 → ReachesEnd old new) → AnswersText c text answer → AnswersLeft c old answer
 answers_left c text None new answer taken whole right = (text, tt, right)
 answers_left c text (Some left) new answer (rest, split, at) whole right = elim (cases_lt (length text) 67108865) [ inl short ↦ read_all short | inr long ↦ read_on long ]
   where

@@ -1,5 +1,6 @@
 pub mod Carried
 pub mod Cutting
+pub mod GeneratedTurns
 pub mod Growing
 pub mod Judging
 pub mod Names
@@ -14,4 +15,11 @@ pub mod ExchangeLines
 pub mod Answering
 pub mod Commands
 pub mod Stored
-pub mod WholeReports
+pub mod SideTurns
+pub mod LinkTurns
+pub mod CarriedLinks
+pub mod WholeIds
+pub mod LinkSoFar
+pub mod PlanRuns
+pub mod SmallGroups
+pub mod SummaryLines

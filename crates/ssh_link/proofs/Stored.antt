@@ -1,5 +1,5 @@
 -- What stands in a list behind one push.
-use Rattle.std.proofs.Common.{◌≡◌, ℕ, suc, ◌+◌, ◌-◌, List, [], ◌∷◌, ◌++◌, length, take, slice_get, Some, refl, sym, ◌∙◌, ap, subst, arith, length-append}
+use Rattle.std.proofs.Common.{◌≡◌, ℕ, suc, ◌+◌, ◌-◌, ◌<◌, List, [], ◌∷◌, ◌++◌, length, take, get_or, slice_get, Some, refl, sym, ◌∙◌, ap, subst, arith, length-append}
 use Rattle.std.proofs.Math.Seq.{take-suc}
 use Rattle.std.proofs.lemmas.Option.{slice_get_within, get_or_from_slice_get}
 
@@ -21,3 +21,6 @@ last_pushed xs x k e = subst (λ n. slice_get (xs ++ x ∷ []) n ≡ Some x) e (
 
 pub one_longer : {A : Type 0} (xs : List A) (x : A) (k : ℕ) → length xs ≡ k → length (xs ++ x ∷ []) ≡ k + 1
 one_longer xs x k e = length-append xs (x ∷ []) ∙ ap (λ n. n + 1) e
+
+pub taken_more : {A : Type 0} (xs : List A) (k : ℕ) (x : A) → x ≡ get_or xs k x → k < length xs → take (k + 1) xs ≡ take k xs ++ x ∷ []
+taken_more xs k x e l = ap (λ n. take n xs) (let f : k + 1 ≡ suc k = omega arith in f) ∙ (take-suc xs k x l ∙ ap (λ y. take k xs ++ y ∷ []) (sym e))

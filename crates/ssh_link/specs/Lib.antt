@@ -10,7 +10,10 @@ pub mod Statuses
 pub mod LineFaults
 pub mod Plans
 pub mod RunReport
+pub mod Generated
+pub mod Summary
 pub mod RunScript
 pub mod Program
 pub mod PlanRun
+pub mod Carrying
 pub mod LinkEnds

@@ -1,22 +1,27 @@
--- Where the sides of a link stand.
-use Rattle.std.specs.Prelude.{length, not}
-use Rattle.ssh_rules.specs.Standing.{is_outside}
+-- The sides of a link, as their calls leave them.
 use Rattle.ssh_rules.specs.declared.link.Mark.{Mark}
 use Rattle.ssh_rules.specs.declared.link.SideMark.{SideMark}
+use Rattle.ssh_link.specs.Carrying.{CarriedEnd, CarriedLink, both_marks, side_mark}
 use Rattle.ssh_link.specs.declared.link.Link.{Link}
 use Rattle.ssh_link.specs.declared.link_end.LinkEnd.{LinkEnd}
 
--- where a side stands
-abbrev pub end_mark : LinkEnd → SideMark
-end_mark end = record {
-  sent = length end.transport.output;
+-- one side
+abbrev pub end_of : LinkEnd → CarriedEnd
+end_of end = record {
+  transport = end.transport;
   taken = end.taken;
-  delivered = length end.delivered.items;
-  finished = length end.transport.state.records;
-  inside = not (is_outside end.transport.state.stands);
+  delivered = end.delivered.items;
   submitted = end.submitted;
 }
 
+-- both sides
+abbrev pub link_of : Link → CarriedLink
+link_of link = record { client = end_of link.client; server = end_of link.server }
+
+-- where a side stands
+abbrev pub end_mark : LinkEnd → SideMark
+end_mark end = side_mark (end_of end)
+
 -- where both sides stand
 abbrev pub link_mark : Link → Mark
-link_mark link = record { client = end_mark link.client; server = end_mark link.server }
+link_mark link = both_marks (link_of link)

@@ -2,10 +2,12 @@
 use Rattle.std.specs.Prelude.{◌≡◌, ◌≢◌, ℕ, ◌+◌, List, length, slice_get, Some}
 use Rattle.ssh_wire.specs.declared.error.Error.{Error}
 use Rattle.ssh_wire.specs.declared.error.Error.TheVariants.{Memory}
-use Rattle.ssh_rules.specs.Headline.{IsLastMark}
+use Rattle.ssh_rules.specs.Headline.{IsLastMark, IsLink}
 use Rattle.ssh_rules.specs.declared.link.LinkReport.{LinkReport}
 use Rattle.ssh_rules.specs.declared.link.Mark.{Mark}
 use Rattle.ssh_rules.specs.declared.link.Step.{Step}
+use Rattle.ssh_vectors.specs.Agreement.{Agrees, ClientMakes, ServerMakes}
+use Rattle.ssh_vectors.specs.Primes.{IsLawful}
 use Rattle.ssh_link.specs.Plans.{Plan}
 
 -- the marks are one more than the steps, and the last of them is what the report says of both sides
@@ -14,9 +16,17 @@ pub record IsWholeReport (steps : List Step) (report : LinkReport) : Type 0 wher
   pub last : (m : Mark) × (slice_get report.marks (length steps) ≡ Some m) × IsLastMark report.client m.client
       × IsLastMark report.server m.server
 
--- what is told of the run of a plan
-abbrev pub IsPlanRun : Plan → LinkReport → Type 0
-IsPlanRun plan report = IsWholeReport plan.steps report
+-- What is told of the run of a plan. The server's lookup is lawful where its group has at most 2^19 bits; the other test
+-- parts always are.
+pub record IsPlanRun (plan : Plan) (report : LinkReport) : Type 0 where
+  pub whole : IsWholeReport plan.steps report
+  pub link : IsLawful plan.server.group_bits plan.client.config.gex
+      → IsLink ClientMakes ServerMakes Agrees plan.client.config plan.server.config plan.steps report
+
+-- the report of a plan's run is one of a link
+pub record IsLinkRun (plan : Plan) (report : LinkReport) : Type 0 where
+  pub whole : IsWholeReport plan.steps report
+  pub link : IsLink ClientMakes ServerMakes Agrees plan.client.config plan.server.config plan.steps report
 
 -- want of memory is no refusal
 abbrev pub IsRefusedPlan : Plan → Error → Type 0

@@ -1,6 +1,7 @@
 -- The top call of the program: what it answers, and how it ends.
-use Rattle.std.specs.Prelude.{◌≡◌, ℕ, ◌⊎◌, List, [], ◌∷◌, codes, drop, map, Option, Some, None, IfSome, Result, Ok, Err}
+use Rattle.std.specs.Prelude.{◌≡◌, ℕ, ◌⊎◌, Bool, true, false, if◌then◌else◌, nat_lt, List, [], ◌∷◌, codes, drop, map, Option, Some, None, IfSome, Result, Ok, Err}
 use Rattle.std.specs.Global.{Global}
+use Rattle.std.specs.Str.{bytes_eq}
 use Rattle.std.specs.String.{string_bytes}
 use Rattle.std.specs.Vec.Iter.{into_iter_items}
 use Rattle.std.specs.declared.string.String.{String}
@@ -11,18 +12,22 @@ use Rattle.ssh_wire.specs.declared.ssh_id.SshId.{SshId}
 use Rattle.ssh_wire.specs.declared.ssh_id.SshId.TheVariants.{Standard}
 use Rattle.ssh_link.specs.ClearRun.{IsClearRun, IsRefusedSize, first_refused}
 use Rattle.ssh_rules.specs.declared.link.LinkReport.{LinkReport}
-use Rattle.ssh_link.specs.PlanRun.{IsPlanRun, IsRefusedPlan}
+use Rattle.ssh_link.specs.PlanRun.{IsLinkRun, IsRefusedPlan}
 use Rattle.ssh_link.specs.Plans.{Plan}
 use Rattle.ssh_link.specs.RunReport.{link_report_text}
 use Rattle.ssh_link.specs.RunScript.{run_script}
 use Rattle.ssh_link.specs.Report.{clear_report_text, fault_line, refusal_line}
-use Rattle.ssh_link.specs.Script.{clear_script}
+use Rattle.ssh_link.specs.Script.{clear_script, number_of}
+use Rattle.ssh_link.specs.Summary.{summary_text}
+use Rattle.ssh_link.specs.Generated.{generated_plan}
 use Rattle.ssh_link.specs.Statuses.{report_written, run_refused, no_command, script_faulty, sink_failed}
 use Rattle.ssh_link.specs.declared.answer.Answer.{Answer}
-use Rattle.ssh_link.specs.declared.answer.Answer.TheVariants.{Usage, Faulty, Refused, Ran, RanLink}
+use Rattle.ssh_link.specs.declared.answer.Answer.TheVariants.{Usage, Faulty, Refused, Ran, RanLink, RanGen}
 use Rattle.ssh_link.specs.declared.answer.MainEnd.{MainEnd}
 use Rattle.ssh_link.specs.declared.command.Command.{Command}
-use Rattle.ssh_link.specs.declared.command.Command.TheVariants as command
+use Rattle.ssh_link.specs.declared.command.Command.TheVariants.{Script, Gen}
+use Rattle.ssh_link.specs.declared.command.ScriptCommand.{ScriptCommand}
+use Rattle.ssh_link.specs.declared.command.ScriptCommand.TheVariants as command
 use Rattle.ssh_link.specs.declared.report.ClearReport.{ClearReport}
 use Rattle.ssh_link.specs.declared.script.ScriptFault.{ScriptFault}
 use Rattle.ssh_link.specs.declared.step.ClearStep.{ClearStep}
@@ -32,18 +37,43 @@ abbrev pub AreWords : {E : Type 0} → Result (IntoIter (String Global) Global) 
 AreWords (Ok arguments) words = words ≡ map string_bytes (drop 1 (into_iter_items arguments))
 AreWords (Err e) words = words ≡ []
 
--- the word of a command
-abbrev pub command_word : Command → List ℕ
-command_word command.Clear = codes "clear"
-command_word command.Run = codes "run"
+-- the command of a word
+abbrev pub command_named : List ℕ → Option Command
+command_named word =
+    if bytes_eq word (codes "clear") then Some (Script command.Clear)
+    else if bytes_eq word (codes "run") then Some (Script command.Run)
+    else None
 
--- these are the words of this command
-abbrev pub Names : Command → List (List ℕ) → Type 0
-Names command words = words ≡ command_word command ∷ []
+-- the most turns that may be asked for
+abbrev pub most_turns : ℕ
+most_turns = 100000
+
+-- SEED and COUNT
+abbrev pub gen_by : Option ℕ → Option ℕ → Option Command
+gen_by None count = None
+gen_by (Some seed) None = None
+gen_by (Some seed) (Some count) = if nat_lt most_turns count then None else Some (Gen seed count)
+
+-- the command that has these words
+abbrev pub command_in : List (List ℕ) → Option Command
+command_in [] = None
+command_in (word ∷ []) = command_named word
+command_in (word ∷ seed ∷ []) = None
+command_in (word ∷ seed ∷ count ∷ []) = if bytes_eq word (codes "gen") then gen_by (number_of seed) (number_of count) else None
+command_in (word ∷ seed ∷ count ∷ more ∷ words) = None
 
 -- the words of some command
 abbrev pub IsCommand : List (List ℕ) → Type 0
-IsCommand words = (command : Command) × Names command words
+IsCommand words = (command : Command) × (command_in words ≡ Some command)
+
+-- whether a command reads a script
+abbrev pub reads : Command → Bool
+reads (Script command) = true
+reads (Gen seed count) = false
+
+-- the words of a command that reads a script
+abbrev pub IsReading : List (List ℕ) → Type 0
+IsReading words = (command : Command) × (command_in words ≡ Some command) × (reads command ≡ true)
 
 -- the version line of the client
 abbrev pub client_id : SshId
@@ -61,6 +91,7 @@ AnswersSteps steps (Faulty fault) = ⊥
 AnswersSteps steps (Refused e) = IsRefusedSize steps e
 AnswersSteps steps (Ran report) = (first_refused steps ≡ None) × IsClearRun client_id server_id steps report
 AnswersSteps steps (RanLink report) = ⊥
+AnswersSteps steps (RanGen report) = ⊥
 
 -- what is answered to a script of a clear link: its fault, or what is answered to its steps
 abbrev pub AnswersScript : Result (List ClearStep) ScriptFault → Answer → Type 0
@@ -73,7 +104,17 @@ AnswersPlan plan Usage = ⊥
 AnswersPlan plan (Faulty fault) = ⊥
 AnswersPlan plan (Refused e) = IsRefusedPlan plan e
 AnswersPlan plan (Ran report) = ⊥
-AnswersPlan plan (RanLink report) = IsPlanRun plan report
+AnswersPlan plan (RanLink report) = IsLinkRun plan report
+AnswersPlan plan (RanGen report) = ⊥
+
+-- what is answered to a plan that was made of a seed
+abbrev pub AnswersGen : Plan → Answer → Type 0
+AnswersGen plan Usage = ⊥
+AnswersGen plan (Faulty fault) = ⊥
+AnswersGen plan (Refused e) = IsRefusedPlan plan e
+AnswersGen plan (Ran report) = ⊥
+AnswersGen plan (RanLink report) = ⊥
+AnswersGen plan (RanGen report) = IsLinkRun plan report
 
 -- what is answered to a script of a link: its fault, or what is answered to its plan
 abbrev pub AnswersLinkScript : Result Plan ScriptFault → Answer → Type 0
@@ -81,18 +122,23 @@ AnswersLinkScript (Err fault) answer = answer ≡ Faulty fault
 AnswersLinkScript (Ok plan) answer = AnswersPlan plan answer
 
 -- what a command answers to the text of its script
-abbrev pub AnswersText : Command → List ℕ → Answer → Type 0
+abbrev pub AnswersText : ScriptCommand → List ℕ → Answer → Type 0
 AnswersText command.Clear text answer = AnswersScript (clear_script text) answer
 AnswersText command.Run text answer = AnswersLinkScript (run_script text) answer
 
 -- what a command answers to the text that was left, all of it where that is told
-abbrev pub AnswersLeft : Command → Option (List ℕ) → Answer → Type 0
+abbrev pub AnswersLeft : ScriptCommand → Option (List ℕ) → Answer → Type 0
 AnswersLeft command left answer = (text : List ℕ) × IfSome left (λ bytes. bytes ≡ text)
     × AnswersText command text answer
 
+-- what a command answers: to what was left, or of its seed alone
+abbrev pub AnswersCommand : Command → Option (List ℕ) → Answer → Type 0
+AnswersCommand (Script command) left answer = AnswersLeft command left answer
+AnswersCommand (Gen seed count) left answer = AnswersGen (generated_plan seed count) answer
+
 -- the answer of the command that has these words
 abbrev pub AnswersWords : List (List ℕ) → Option (List ℕ) → Answer → Type 0
-AnswersWords words left answer = (command : Command) × Names command words × AnswersLeft command left answer
+AnswersWords words left answer = (command : Command) × (command_in words ≡ Some command) × AnswersCommand command left answer
 
 -- what is answered to words that aren't a command, or else to what was left
 abbrev pub IsAnswer : List (List ℕ) → Option (List ℕ) → Answer → Type 0
@@ -101,6 +147,7 @@ IsAnswer words left (Faulty fault) = AnswersWords words left (Faulty fault)
 IsAnswer words left (Refused e) = AnswersWords words left (Refused e)
 IsAnswer words left (Ran report) = AnswersWords words left (Ran report)
 IsAnswer words left (RanLink report) = AnswersWords words left (RanLink report)
+IsAnswer words left (RanGen report) = AnswersWords words left (RanGen report)
 
 -- what is written
 abbrev pub answer_text : Answer → List ℕ
@@ -109,6 +156,7 @@ answer_text (Faulty fault) = fault_line fault
 answer_text (Refused e) = refusal_line e
 answer_text (Ran report) = clear_report_text report
 answer_text (RanLink report) = link_report_text report
+answer_text (RanGen report) = summary_text report
 
 -- the exit status, once all is written
 abbrev pub answer_status : Answer → ℕ
@@ -117,6 +165,7 @@ answer_status (Faulty fault) = script_faulty
 answer_status (Refused e) = run_refused
 answer_status (Ran report) = report_written
 answer_status (RanLink report) = report_written
+answer_status (RanGen report) = report_written
 
 abbrev pub shown_clear : Answer → Option ClearReport
 shown_clear Usage = None
@@ -124,6 +173,7 @@ shown_clear (Faulty fault) = None
 shown_clear (Refused e) = None
 shown_clear (Ran report) = Some report
 shown_clear (RanLink report) = None
+shown_clear (RanGen report) = None
 
 abbrev pub shown_report : Answer → Option LinkReport
 shown_report Usage = None
@@ -131,6 +181,7 @@ shown_report (Faulty fault) = None
 shown_report (Refused e) = None
 shown_report (Ran report) = None
 shown_report (RanLink report) = Some report
+shown_report (RanGen report) = Some report
 
 abbrev pub shown_refused : Answer → Option Error
 shown_refused Usage = None
@@ -138,6 +189,7 @@ shown_refused (Faulty fault) = None
 shown_refused (Refused e) = Some e
 shown_refused (Ran report) = None
 shown_refused (RanLink report) = None
+shown_refused (RanGen report) = None
 
 abbrev pub shown_fault : Answer → Option ScriptFault
 shown_fault Usage = None
@@ -145,6 +197,7 @@ shown_fault (Faulty fault) = Some fault
 shown_fault (Refused e) = None
 shown_fault (Ran report) = None
 shown_fault (RanLink report) = None
+shown_fault (RanGen report) = None
 
 -- the end tells this answer, and no other
 abbrev pub Shows : Answer → MainEnd → Type 0

@@ -11,6 +11,7 @@ use crate::refusal::{push_fault, push_refusal};
 use crate::report::ClearReport;
 use crate::script::ScriptFault;
 use crate::status::{NO_COMMAND, REPORT_WRITTEN, RUN_REFUSED, SCRIPT_FAULTY};
+use crate::summary::print_summary;
 use ssh_rules::link::LinkReport;
 use ssh_wire::Error;
 use std::alloc::Global;
@@ -28,6 +29,8 @@ pub enum Answer {
     Ran(ClearReport),
     /// The run of a link went to its end.
     RanLink(LinkReport),
+    /// The run of a link by generated steps went to its end.
+    RanGen(LinkReport),
 }
 
 /// How a call of the program ended.
@@ -38,7 +41,7 @@ pub struct MainEnd {
     pub status: u8,
     /// The report of a clear link, where its run went to its end.
     pub clear: Option<ClearReport>,
-    /// The report of a link, where its run went to its end.
+    /// The report of a link, by a script or by generated steps, where its run went to its end.
     pub report: Option<LinkReport>,
     /// Why the run was refused.
     pub refused: Option<Error>,
@@ -72,7 +75,7 @@ impl MainEnd {
             Answer::Faulty(fault) => end.fault = Some(fault),
             Answer::Refused(error) => end.refused = Some(error),
             Answer::Ran(report) => end.clear = Some(report),
-            Answer::RanLink(report) => end.report = Some(report),
+            Answer::RanLink(report) | Answer::RanGen(report) => end.report = Some(report),
         }
         end
     }
@@ -87,7 +90,7 @@ impl Answer {
             Answer::Usage => NO_COMMAND,
             Answer::Faulty(_) => SCRIPT_FAULTY,
             Answer::Refused(_) => RUN_REFUSED,
-            Answer::Ran(_) | Answer::RanLink(_) => REPORT_WRITTEN,
+            Answer::Ran(_) | Answer::RanLink(_) | Answer::RanGen(_) => REPORT_WRITTEN,
         }
     }
 
@@ -103,6 +106,7 @@ impl Answer {
             Answer::Refused(error) => push_refusal(&mut out, error)?,
             Answer::Ran(report) => return print_clear(alloc, report),
             Answer::RanLink(report) => return print_report(alloc, report),
+            Answer::RanGen(report) => return print_summary(alloc, report),
         }
         Ok(out)
     }

@@ -1,11 +1,12 @@
 //! The words that the program was called with.
 
-ghost use Rattle.std.specs.Prelude.{◌≡◌, ◌≢◌, ℕ, List, map, IfOk, IfSome, IfNone};
+ghost use Rattle.std.specs.Prelude.{◌≡◌, ℕ, List, map, IfOk};
 ghost use Rattle.std.specs.String.{string_bytes};
 ghost use Rattle.std.specs.Vec.Iter.{into_iter_items};
-ghost use Rattle.ssh_link.specs.Program.{AreWords, Names, IsCommand, command_word};
-ghost use Rattle.ssh_link.specs.declared.command.Command.{Command};
+ghost use Rattle.ssh_link.specs.Program.{AreWords, command_in, command_named, gen_by};
+ghost use Rattle.ssh_link.specs.Script.{number_of};
 
+use crate::fields::number;
 use std::alloc::{AllocError, Global};
 use std::env::Args;
 use std::io;
@@ -70,33 +71,58 @@ fn words_in(alloc: Global, arguments: Args<Global>) -> Result<Vec<Word>, AllocEr
 /// What the program can be asked to do.
 #[derive(Clone, Copy, Debug, PartialEq, Eq)]
 pub enum Command {
-    /// To run a clear link.
+    /// To run a script.
+    Script(ScriptCommand),
+    /// To run a link by steps that are made of a seed.
+    Gen { seed: u64, count: u64 },
+}
+
+/// A command that runs a script.
+#[derive(Clone, Copy, Debug, PartialEq, Eq)]
+pub enum ScriptCommand {
+    /// On a clear link.
     Clear,
-    /// To run a link.
+    /// On a link.
     Run,
 }
 
+/// The most turns that may be asked for.
+const MOST_TURNS: u64 = 100_000;
+
 /// The command that has these words.
 pub fn command_of(words: &[Word]) -> Option<Command>
-    ensures found { IfSome result (λ command. Names command words.now) }
-    ensures none { IfNone result (¬ (IsCommand words.now)) }
+    ensures { result ≡ command_in words.now }
 {
     match words {
         [word] => command_named(word.as_str()),
+        [word, seed, count] if word.as_str() == "gen" => {
+            gen_command(seed.as_str().as_bytes(), count.as_str().as_bytes())
+        }
         _ => None,
     }
 }
 
 /// The command of a word.
 fn command_named(word: &str) -> Option<Command>
-    ensures found { IfSome result (λ command. word.now ≡ command_word command) }
-    ensures none { IfNone result ((command : Command) → word.now ≢ command_word command) }
+    ensures { result ≡ command_named word.now }
 {
     if word == "clear" {
-        Some(Command::Clear)
+        Some(Command::Script(ScriptCommand::Clear))
     } else if word == "run" {
-        Some(Command::Run)
+        Some(Command::Script(ScriptCommand::Run))
     } else {
         None
     }
+}
+
+/// SEED and COUNT: decimal, without a leading zero.
+fn gen_command(seed: &[u8], count: &[u8]) -> Option<Command>
+    ensures { result ≡ gen_by (number_of seed.now) (number_of count.now) }
+{
+    let seed = number(seed)?;
+    let count = number(count)?;
+    if count > MOST_TURNS {
+        return None;
+    }
+    Some(Command::Gen { seed, count })
 }

@@ -8,6 +8,7 @@ mod clear_report;
 mod clear_script;
 mod command;
 mod fields;
+mod generated;
 mod line_fault;
 mod lines;
 mod link;
@@ -30,6 +31,7 @@ mod setup;
 mod status;
 mod step;
 mod stream;
+mod summary;
 mod text_answer;
 mod words;
 
@@ -52,3 +54,4 @@ pub use crate::status::{
     WANT_OF_MEMORY, exit_statuses,
 };
 pub use crate::step::ClearStep;
+pub use crate::summary::print_summary;

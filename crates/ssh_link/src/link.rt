@@ -1,16 +1,22 @@
 //! The run of a link: a client and a server over an honest carrier.
 
-ghost use Rattle.std.specs.Prelude.{◌≡◌, IfOk};
-ghost use Rattle.ssh_link.specs.LinkEnds.{link_mark};
+ghost use Rattle.std.specs.Prelude.{◌≡◌, ◌≤◌, ◌<◌, ◌^◌, [], IfOk, None, OnOk, false, length, true};
+ghost use Rattle.std.specs.Str.{is_utf8};
+ghost use Rattle.ssh_kex.specs.Stepping.{says_of};
+ghost use Rattle.ssh_rules.specs.AnyParts.{IsReadLink};
+ghost use Rattle.ssh_rules.specs.Headline.{IsLink};
+ghost use Rattle.ssh_rules.specs.Valid.{HasSizes, config_fault};
+ghost use Rattle.ssh_link.specs.Carrying.{IsCarried, text_of_id};
 ghost use Rattle.ssh_link.specs.PlanRun.{IsWholeReport};
+ghost use Rattle.ssh_wire.specs.declared.side.Side.TheVariants.{Client as client_side, Server as server_side};
 
 use crate::link_end::LinkEnd;
 use rand_core::Rng;
 use ssh_kex::{Agreement, Config, GroupLookup, HostKeys, Parts};
 use ssh_rules::link::{LinkReport, Mark, MarkList, Step};
 use ssh_transport::Transport;
-use ssh_wire::{Error, Side};
-use std::alloc::Global;
+use ssh_wire::{Error, Side, SshId};
+use std::alloc::{AllocError, Global};
 
 /// Both sides, and how many exchanges may be begun.
 #[derive(Drop)]
@@ -31,7 +37,6 @@ const TURNS: u64 = 32;
 /// to 7 nor at least 50, and while bytes are taken what `Transport::feed` answers. Settling answers Disconnect where a
 /// side has begun more exchanges than were asked for, or nothing waits while an exchange is open; only parts that break
 /// their laws bring that about. Memory.
-#[tactic(auto, using(crate::proofs::Stored::last_pushed, crate::proofs::Stored::one_longer))]
 pub fn run_link<A: Agreement, H: HostKeys, G: GroupLookup, R: Rng>(
     alloc: Global,
     client: &Config,
@@ -41,26 +46,76 @@ pub fn run_link<A: Agreement, H: HostKeys, G: GroupLookup, R: Rng>(
     steps: &[Step],
 ) -> Result<LinkReport, Error>
     ensures report { IfOk result (IsWholeReport steps.now) }
+    ensures link { A.lawful client_parts.old.agreement (record { client = client.now; server = server.now })
+        → A.lawful server_parts.old.agreement (record { client = client.now; server = server.now })
+        → G.lawful server_parts.old.groups (record { client = client.now; server = server.now })
+        → IfOk result (IsLink A.client_makes A.server_makes A.agrees client.now server.now steps.now) }
+    ensures read { IfOk result (IsReadLink (H.accepts client_parts.old.hosts) (H.trusts client_parts.old.hosts) client.now server.now) }
 {
-    let mut link = Link {
-        client: LinkEnd::new(alloc, Transport::client(alloc, client)?),
-        server: LinkEnd::new(alloc, Transport::server(alloc, server)?),
-        bound: 1,
-    };
-    let mut marks = Vec::with_capacity(alloc, steps.len().saturating_add(1))?;
-    marks.push(link.mark())?;
-    for step in steps {
-        link.step(client_parts, server_parts, step)?;
-        marks.push(link.mark())?;
+    see_types(client);
+    see_types(server);
+    carry_steps(alloc, client, server, client_parts, server_parts, steps)
+}
+
+/// What the types of a configuration say: its sizes are u32, and its version line is UTF-8.
+fn see_types(config: &Config)
+    ensures sizes { HasSizes config.now }
+    ensures text { is_utf8 (text_of_id config.now.id) ≡ true }
+{
+    let _least = config.gex.min_group_size;
+    let _wanted = config.gex.preferred_group_size;
+    let _most = config.gex.max_group_size;
+    let text = id_text(&config.id);
+    let _length = text.len();
+}
+
+fn id_text(id: &SshId) -> &str
+    ensures text { result.now ≡ text_of_id id.now }
+{
+    match id {
+        SshId::Standard(text) => text.as_str(),
+        SshId::Raw(text) => text.as_str(),
     }
-    Ok(LinkReport {
-        client: link.client.report(alloc)?,
-        server: link.server.report(alloc)?,
-        marks: MarkList::new(marks),
-    })
+}
+
+/// Runs both sides by the steps.
+fn carry_steps<A: Agreement, H: HostKeys, G: GroupLookup, R: Rng>(
+    alloc: Global,
+    client: &Config,
+    server: &Config,
+    client_parts: &mut Parts<A, H, G, R>,
+    server_parts: &mut Parts<A, H, G, R>,
+    steps: &[Step],
+) -> Result<LinkReport, Error>
+    ensures client { OnOk result (config_fault client_side client.now ≡ None) }
+    ensures server { OnOk result (config_fault server_side server.now ≡ None) }
+    ensures few { OnOk result (length steps.now < 2 ^ 64) }
+    ensures carried { IfOk result (IsCarried (says_of A.lawful A.offered A.client_makes A.server_makes A.agrees H.lawful H.obliging H.accepts H.trusts H.makes G.lawful G.group client.now client_parts.old.agreement client_parts.old.hosts client_parts.old.groups) (says_of A.lawful A.offered A.client_makes A.server_makes A.agrees H.lawful H.obliging H.accepts H.trusts H.makes G.lawful G.group server.now server_parts.old.agreement server_parts.old.hosts server_parts.old.groups) client.now server.now steps.now) }
+{
+    let mut link = Link::new(alloc, client, server)?;
+    let marks = link.run(alloc, client_parts, server_parts, steps)?;
+    Ok(link.report(alloc, marks)?)
 }
 
 impl<'c> Link<'c> {
+    ghost use Rattle.ssh_kex.specs.Parts.{KeepsAgreement, KeepsGroups, KeepsHosts};
+    ghost use Rattle.ssh_link.specs.Carrying.{IsNewLink, RunsOn, SettlesAll, StepsLink, TakesTurns, reported_link};
+    ghost use Rattle.ssh_link.specs.LinkEnds.{link_mark, link_of};
+    ghost use Rattle.ssh_rules.specs.declared.link.Step.TheVariants.{Deliver, Rekey, Submit};
+
+    /// Both sides, each of which has sent its id line.
+    fn new(alloc: Global, client: &'c Config, server: &'c Config) -> Result<Link<'c>, Error>
+        ensures client { OnOk result (config_fault client_side client.now ≡ None) }
+        ensures server { OnOk result (config_fault server_side server.now ≡ None) }
+        ensures new { IfOk result (λ link. IsNewLink client.now server.now (link_of link)) }
+    {
+        Ok(Link {
+            client: LinkEnd::new(alloc, Transport::client(alloc, client)?),
+            server: LinkEnd::new(alloc, Transport::server(alloc, server)?),
+            bound: 1,
+        })
+    }
+
     fn mark(&self) -> Mark
         ensures { result ≡ link_mark self.now }
     {
@@ -70,46 +125,140 @@ impl<'c> Link<'c> {
         }
     }
 
+    /// Carries out all steps: the marks before the first and behind each.
+    fn run<A: Agreement, H: HostKeys, G: GroupLookup, R: Rng>(
+        &mut self,
+        alloc: Global,
+        client_parts: &mut Parts<A, H, G, R>,
+        server_parts: &mut Parts<A, H, G, R>,
+        steps: &[Step],
+    ) -> Result<Vec<Mark>, Error>
+        ensures few { OnOk result (length steps.now < 2 ^ 64) }
+        ensures runs { IfOk result (λ marks. RunsOn (says_of A.lawful A.offered A.client_makes A.server_makes A.agrees H.lawful H.obliging H.accepts H.trusts H.makes G.lawful G.group self.old.client.transport.config client_parts.old.agreement client_parts.old.hosts client_parts.old.groups) (says_of A.lawful A.offered A.client_makes A.server_makes A.agrees H.lawful H.obliging H.accepts H.trusts H.makes G.lawful G.group self.old.server.transport.config server_parts.old.agreement server_parts.old.hosts server_parts.old.groups) steps.now (link_of self.old) (link_of self.new) marks.items) }
+    {
+        let mut marks = Vec::with_capacity(alloc, steps.len().saturating_add(1))?;
+        marks.push(self.mark())?;
+        for step in steps {
+            self.step(client_parts, server_parts, step)?;
+            marks.push(self.mark())?;
+        }
+        Ok(marks)
+    }
+
     /// Carries out one step.
     fn step<A: Agreement, H: HostKeys, G: GroupLookup, R: Rng>(
         &mut self,
         client_parts: &mut Parts<A, H, G, R>,
         server_parts: &mut Parts<A, H, G, R>,
         step: &Step,
-    ) -> Result<(), Error> {
+    ) -> Result<(), Error>
+        ensures steps { OnOk result (StepsLink (says_of A.lawful A.offered A.client_makes A.server_makes A.agrees H.lawful H.obliging H.accepts H.trusts H.makes G.lawful G.group self.old.client.transport.config client_parts.old.agreement client_parts.old.hosts client_parts.old.groups) (says_of A.lawful A.offered A.client_makes A.server_makes A.agrees H.lawful H.obliging H.accepts H.trusts H.makes G.lawful G.group self.old.server.transport.config server_parts.old.agreement server_parts.old.hosts server_parts.old.groups) step.now (link_of self.old) (link_of self.new)) }
+        ensures client_agreement { KeepsAgreement A.lawful A.obliging A.offered A.refusals A.calls client_parts.old.agreement client_parts.new.agreement }
+        ensures client_hosts { KeepsHosts H.lawful H.obliging H.accepts H.trusts H.refused_sign H.refused_verify H.refused_check H.calls client_parts.old.hosts client_parts.new.hosts }
+        ensures client_groups { KeepsGroups G.lawful G.obliging G.group G.refusals G.calls client_parts.old.groups client_parts.new.groups }
+        ensures server_agreement { KeepsAgreement A.lawful A.obliging A.offered A.refusals A.calls server_parts.old.agreement server_parts.new.agreement }
+        ensures server_hosts { KeepsHosts H.lawful H.obliging H.accepts H.trusts H.refused_sign H.refused_verify H.refused_check H.calls server_parts.old.hosts server_parts.new.hosts }
+        ensures server_groups { KeepsGroups G.lawful G.obliging G.group G.refusals G.calls server_parts.old.groups server_parts.new.groups }
+    {
         match step {
             Step::Submit(side, payload) => {
-                self.bound = self.bound.saturating_add(2);
-                match side {
-                    Side::Client => self.client.submit(client_parts, payload.as_slice()),
-                    Side::Server => self.server.submit(server_parts, payload.as_slice()),
-                }
+                self.submit(client_parts, server_parts, *side, payload.as_slice())
             }
-            Step::Deliver(Side::Client, count) => {
-                self.client
-                    .deliver(client_parts, self.server.output(), *count)
-            }
-            Step::Deliver(Side::Server, count) => {
-                self.server
-                    .deliver(server_parts, self.client.output(), *count)
-            }
-            Step::Rekey(side) => {
-                self.bound = self.bound.saturating_add(1);
-                match side {
-                    Side::Client => self.client.rekey(client_parts),
-                    Side::Server => self.server.rekey(server_parts),
-                }
-            }
+            Step::Deliver(side, count) => self.deliver(client_parts, server_parts, *side, *count),
+            Step::Rekey(side) => self.rekey(client_parts, server_parts, *side),
             Step::Settle => self.settle(client_parts, server_parts),
         }
     }
 
+    /// Submits a payload to a side.
+    #[tactic(auto, using(ssh_transport::proofs::Lemmas::agreement_same, ssh_transport::proofs::Lemmas::hosts_same, ssh_transport::proofs::Lemmas::groups_same))]
+    fn submit<A: Agreement, H: HostKeys, G: GroupLookup, R: Rng>(
+        &mut self,
+        client_parts: &mut Parts<A, H, G, R>,
+        server_parts: &mut Parts<A, H, G, R>,
+        side: Side,
+        payload: &[u8],
+    ) -> Result<(), Error>
+        ensures submits { OnOk result (StepsLink (says_of A.lawful A.offered A.client_makes A.server_makes A.agrees H.lawful H.obliging H.accepts H.trusts H.makes G.lawful G.group self.old.client.transport.config client_parts.old.agreement client_parts.old.hosts client_parts.old.groups) (says_of A.lawful A.offered A.client_makes A.server_makes A.agrees H.lawful H.obliging H.accepts H.trusts H.makes G.lawful G.group self.old.server.transport.config server_parts.old.agreement server_parts.old.hosts server_parts.old.groups) (Submit side payload.now) (link_of self.old) (link_of self.new)) }
+        ensures client_agreement { KeepsAgreement A.lawful A.obliging A.offered A.refusals A.calls client_parts.old.agreement client_parts.new.agreement }
+        ensures client_hosts { KeepsHosts H.lawful H.obliging H.accepts H.trusts H.refused_sign H.refused_verify H.refused_check H.calls client_parts.old.hosts client_parts.new.hosts }
+        ensures client_groups { KeepsGroups G.lawful G.obliging G.group G.refusals G.calls client_parts.old.groups client_parts.new.groups }
+        ensures server_agreement { KeepsAgreement A.lawful A.obliging A.offered A.refusals A.calls server_parts.old.agreement server_parts.new.agreement }
+        ensures server_hosts { KeepsHosts H.lawful H.obliging H.accepts H.trusts H.refused_sign H.refused_verify H.refused_check H.calls server_parts.old.hosts server_parts.new.hosts }
+        ensures server_groups { KeepsGroups G.lawful G.obliging G.group G.refusals G.calls server_parts.old.groups server_parts.new.groups }
+    {
+        self.bound = self.bound.saturating_add(2);
+        match side {
+            Side::Client => self.client.submit(client_parts, payload),
+            Side::Server => self.server.submit(server_parts, payload),
+        }
+    }
+
+    /// Carries bytes to a side.
+    #[tactic(auto, using(ssh_transport::proofs::Lemmas::agreement_same, ssh_transport::proofs::Lemmas::hosts_same, ssh_transport::proofs::Lemmas::groups_same))]
+    fn deliver<A: Agreement, H: HostKeys, G: GroupLookup, R: Rng>(
+        &mut self,
+        client_parts: &mut Parts<A, H, G, R>,
+        server_parts: &mut Parts<A, H, G, R>,
+        side: Side,
+        count: u64,
+    ) -> Result<(), Error>
+        ensures delivers { OnOk result (StepsLink (says_of A.lawful A.offered A.client_makes A.server_makes A.agrees H.lawful H.obliging H.accepts H.trusts H.makes G.lawful G.group self.old.client.transport.config client_parts.old.agreement client_parts.old.hosts client_parts.old.groups) (says_of A.lawful A.offered A.client_makes A.server_makes A.agrees H.lawful H.obliging H.accepts H.trusts H.makes G.lawful G.group self.old.server.transport.config server_parts.old.agreement server_parts.old.hosts server_parts.old.groups) (Deliver side count) (link_of self.old) (link_of self.new)) }
+        ensures client_agreement { KeepsAgreement A.lawful A.obliging A.offered A.refusals A.calls client_parts.old.agreement client_parts.new.agreement }
+        ensures client_hosts { KeepsHosts H.lawful H.obliging H.accepts H.trusts H.refused_sign H.refused_verify H.refused_check H.calls client_parts.old.hosts client_parts.new.hosts }
+        ensures client_groups { KeepsGroups G.lawful G.obliging G.group G.refusals G.calls client_parts.old.groups client_parts.new.groups }
+        ensures server_agreement { KeepsAgreement A.lawful A.obliging A.offered A.refusals A.calls server_parts.old.agreement server_parts.new.agreement }
+        ensures server_hosts { KeepsHosts H.lawful H.obliging H.accepts H.trusts H.refused_sign H.refused_verify H.refused_check H.calls server_parts.old.hosts server_parts.new.hosts }
+        ensures server_groups { KeepsGroups G.lawful G.obliging G.group G.refusals G.calls server_parts.old.groups server_parts.new.groups }
+    {
+        match side {
+            Side::Client => self
+                .client
+                .deliver(client_parts, self.server.output(), count),
+            Side::Server => self
+                .server
+                .deliver(server_parts, self.client.output(), count),
+        }
+    }
+
+    /// Asks a side for new keys.
+    #[tactic(auto, using(ssh_transport::proofs::Lemmas::agreement_same, ssh_transport::proofs::Lemmas::hosts_same, ssh_transport::proofs::Lemmas::groups_same))]
+    fn rekey<A: Agreement, H: HostKeys, G: GroupLookup, R: Rng>(
+        &mut self,
+        client_parts: &mut Parts<A, H, G, R>,
+        server_parts: &mut Parts<A, H, G, R>,
+        side: Side,
+    ) -> Result<(), Error>
+        ensures rekeys { OnOk result (StepsLink (says_of A.lawful A.offered A.client_makes A.server_makes A.agrees H.lawful H.obliging H.accepts H.trusts H.makes G.lawful G.group self.old.client.transport.config client_parts.old.agreement client_parts.old.hosts client_parts.old.groups) (says_of A.lawful A.offered A.client_makes A.server_makes A.agrees H.lawful H.obliging H.accepts H.trusts H.makes G.lawful G.group self.old.server.transport.config server_parts.old.agreement server_parts.old.hosts server_parts.old.groups) (Rekey side) (link_of self.old) (link_of self.new)) }
+        ensures client_agreement { KeepsAgreement A.lawful A.obliging A.offered A.refusals A.calls client_parts.old.agreement client_parts.new.agreement }
+        ensures client_hosts { KeepsHosts H.lawful H.obliging H.accepts H.trusts H.refused_sign H.refused_verify H.refused_check H.calls client_parts.old.hosts client_parts.new.hosts }
+        ensures client_groups { KeepsGroups G.lawful G.obliging G.group G.refusals G.calls client_parts.old.groups client_parts.new.groups }
+        ensures server_agreement { KeepsAgreement A.lawful A.obliging A.offered A.refusals A.calls server_parts.old.agreement server_parts.new.agreement }
+        ensures server_hosts { KeepsHosts H.lawful H.obliging H.accepts H.trusts H.refused_sign H.refused_verify H.refused_check H.calls server_parts.old.hosts server_parts.new.hosts }
+        ensures server_groups { KeepsGroups G.lawful G.obliging G.group G.refusals G.calls server_parts.old.groups server_parts.new.groups }
+    {
+        self.bound = self.bound.saturating_add(1);
+        match side {
+            Side::Client => self.client.rekey(client_parts),
+            Side::Server => self.server.rekey(server_parts),
+        }
+    }
+
     /// Lets the server take all that waits for it, then the client, until nothing waits.
+    #[tactic(auto, using(ssh_transport::proofs::Lemmas::agreement_same, ssh_transport::proofs::Lemmas::hosts_same, ssh_transport::proofs::Lemmas::groups_same))]
     fn settle<A: Agreement, H: HostKeys, G: GroupLookup, R: Rng>(
         &mut self,
         client_parts: &mut Parts<A, H, G, R>,
         server_parts: &mut Parts<A, H, G, R>,
-    ) -> Result<(), Error> {
+    ) -> Result<(), Error>
+        ensures settles { OnOk result (SettlesAll (says_of A.lawful A.offered A.client_makes A.server_makes A.agrees H.lawful H.obliging H.accepts H.trusts H.makes G.lawful G.group self.old.client.transport.config client_parts.old.agreement client_parts.old.hosts client_parts.old.groups) (says_of A.lawful A.offered A.client_makes A.server_makes A.agrees H.lawful H.obliging H.accepts H.trusts H.makes G.lawful G.group self.old.server.transport.config server_parts.old.agreement server_parts.old.hosts server_parts.old.groups) (link_of self.old) (link_of self.new)) }
+        ensures client_agreement { KeepsAgreement A.lawful A.obliging A.offered A.refusals A.calls client_parts.old.agreement client_parts.new.agreement }
+        ensures client_hosts { KeepsHosts H.lawful H.obliging H.accepts H.trusts H.refused_sign H.refused_verify H.refused_check H.calls client_parts.old.hosts client_parts.new.hosts }
+        ensures client_groups { KeepsGroups G.lawful G.obliging G.group G.refusals G.calls client_parts.old.groups client_parts.new.groups }
+        ensures server_agreement { KeepsAgreement A.lawful A.obliging A.offered A.refusals A.calls server_parts.old.agreement server_parts.new.agreement }
+        ensures server_hosts { KeepsHosts H.lawful H.obliging H.accepts H.trusts H.refused_sign H.refused_verify H.refused_check H.calls server_parts.old.hosts server_parts.new.hosts }
+        ensures server_groups { KeepsGroups G.lawful G.obliging G.group G.refusals G.calls server_parts.old.groups server_parts.new.groups }
+    {
         let mut turns = self.bound.saturating_mul(TURNS);
         while self.waits() {
             if turns == 0 || self.begun_too_many() {
@@ -124,19 +273,42 @@ impl<'c> Link<'c> {
         Ok(())
     }
 
+    /// Lets the server take all that waits for it, then the client.
     fn turn<A: Agreement, H: HostKeys, G: GroupLookup, R: Rng>(
         &mut self,
         client_parts: &mut Parts<A, H, G, R>,
         server_parts: &mut Parts<A, H, G, R>,
-    ) -> Result<(), Error> {
+    ) -> Result<(), Error>
+        ensures turns { OnOk result (TakesTurns (says_of A.lawful A.offered A.client_makes A.server_makes A.agrees H.lawful H.obliging H.accepts H.trusts H.makes G.lawful G.group self.old.client.transport.config client_parts.old.agreement client_parts.old.hosts client_parts.old.groups) (says_of A.lawful A.offered A.client_makes A.server_makes A.agrees H.lawful H.obliging H.accepts H.trusts H.makes G.lawful G.group self.old.server.transport.config server_parts.old.agreement server_parts.old.hosts server_parts.old.groups) (link_of self.old) (link_of self.new)) }
+        ensures client_agreement { KeepsAgreement A.lawful A.obliging A.offered A.refusals A.calls client_parts.old.agreement client_parts.new.agreement }
+        ensures client_hosts { KeepsHosts H.lawful H.obliging H.accepts H.trusts H.refused_sign H.refused_verify H.refused_check H.calls client_parts.old.hosts client_parts.new.hosts }
+        ensures client_groups { KeepsGroups G.lawful G.obliging G.group G.refusals G.calls client_parts.old.groups client_parts.new.groups }
+        ensures server_agreement { KeepsAgreement A.lawful A.obliging A.offered A.refusals A.calls server_parts.old.agreement server_parts.new.agreement }
+        ensures server_hosts { KeepsHosts H.lawful H.obliging H.accepts H.trusts H.refused_sign H.refused_verify H.refused_check H.calls server_parts.old.hosts server_parts.new.hosts }
+        ensures server_groups { KeepsGroups G.lawful G.obliging G.group G.refusals G.calls server_parts.old.groups server_parts.new.groups }
+    {
         self.server
             .deliver(server_parts, self.client.output(), u64::MAX)?;
         self.client
             .deliver(client_parts, self.server.output(), u64::MAX)
     }
 
+    /// What both sides did, with these marks. Memory.
+    fn report(self, alloc: Global, marks: Vec<Mark>) -> Result<LinkReport, AllocError>
+        ensures { IfOk result (λ report. report ≡ record (reported_link (link_of self.entry) []) { marks = marks.items }) }
+    {
+        Ok(LinkReport {
+            client: self.client.report(alloc)?,
+            server: self.server.report(alloc)?,
+            marks: MarkList::new(marks),
+        })
+    }
+
     /// Whether bytes wait for a side.
-    fn waits(&self) -> bool {
+    fn waits(&self) -> bool
+        ensures to_client { result ≡ false → length self.now.server.transport.output ≤ self.now.client.taken }
+        ensures to_server { result ≡ false → length self.now.client.transport.output ≤ self.now.server.taken }
+    {
         self.server.waiting(self.client.output()) > 0
             || self.client.waiting(self.server.output()) > 0
     }

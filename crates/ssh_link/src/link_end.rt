@@ -1,7 +1,6 @@
 //! One side of a link over an honest carrier.
 
-ghost use Rattle.std.specs.Prelude.{◌≡◌, IfOk, length};
-ghost use Rattle.ssh_link.specs.LinkEnds.{end_mark};
+ghost use Rattle.std.specs.Prelude.{◌≡◌, ◌++◌, ◌-◌, IfOk, OnOk, drop, length};
 
 use rand_core::Rng;
 use ssh_kex::{Agreement, GroupLookup, HostKeys, Parts};
@@ -21,8 +20,15 @@ pub(crate) struct LinkEnd<'c> {
 }
 
 impl<'c> LinkEnd<'c> {
+    ghost use Rattle.ssh_kex.specs.Parts.{KeepsAgreement, KeepsGroups, KeepsHosts};
+    ghost use Rattle.ssh_kex.specs.Stepping.{says_of};
+    ghost use Rattle.ssh_link.specs.Carrying.{AsksKeys, CarriesTo, SubmitsOne, first_end};
+    ghost use Rattle.ssh_link.specs.LinkEnds.{end_mark, end_of};
+
     /// A side that has sent its id line.
-    pub(crate) fn new(alloc: Global, transport: Transport<'c>) -> LinkEnd<'c> {
+    pub(crate) fn new(alloc: Global, transport: Transport<'c>) -> LinkEnd<'c>
+        ensures { end_of result ≡ first_end transport.entry }
+    {
         LinkEnd {
             transport,
             taken: 0,
@@ -39,26 +45,40 @@ impl<'c> LinkEnd<'c> {
     }
 
     /// How many bytes of the other's output it hasn't taken.
-    pub(crate) fn waiting(&self, wire: &[u8]) -> usize {
+    pub(crate) fn waiting(&self, wire: &[u8]) -> usize
+        ensures { result ≡ length wire.now - self.now.taken }
+    {
         wire.len().saturating_sub(self.taken)
     }
 
     /// Submits a payload.
+    #[tactic(auto, using(ssh_transport::proofs::Lemmas::agreement_same, ssh_transport::proofs::Lemmas::hosts_same, ssh_transport::proofs::Lemmas::groups_same))]
     pub(crate) fn submit<A: Agreement, H: HostKeys, G: GroupLookup, R: Rng>(
         &mut self,
         parts: &mut Parts<A, H, G, R>,
         payload: &[u8],
-    ) -> Result<(), Error> {
+    ) -> Result<(), Error>
+        ensures submits { OnOk result (SubmitsOne (says_of A.lawful A.offered A.client_makes A.server_makes A.agrees H.lawful H.obliging H.accepts H.trusts H.makes G.lawful G.group self.old.transport.config parts.old.agreement parts.old.hosts parts.old.groups) (end_of self.old) payload.now (end_of self.new)) }
+        ensures agreement { KeepsAgreement A.lawful A.obliging A.offered A.refusals A.calls parts.old.agreement parts.new.agreement }
+        ensures hosts { KeepsHosts H.lawful H.obliging H.accepts H.trusts H.refused_sign H.refused_verify H.refused_check H.calls parts.old.hosts parts.new.hosts }
+        ensures groups { KeepsGroups G.lawful G.obliging G.group G.refusals G.calls parts.old.groups parts.new.groups }
+    {
         self.transport.submit(parts, payload)?;
         self.submitted = self.submitted.saturating_add(1);
         Ok(())
     }
 
     /// Asks for new keys.
+    #[tactic(auto, using(ssh_transport::proofs::Lemmas::agreement_same, ssh_transport::proofs::Lemmas::hosts_same, ssh_transport::proofs::Lemmas::groups_same))]
     pub(crate) fn rekey<A: Agreement, H: HostKeys, G: GroupLookup, R: Rng>(
         &mut self,
         parts: &mut Parts<A, H, G, R>,
-    ) -> Result<(), Error> {
+    ) -> Result<(), Error>
+        ensures asks { OnOk result (AsksKeys (says_of A.lawful A.offered A.client_makes A.server_makes A.agrees H.lawful H.obliging H.accepts H.trusts H.makes G.lawful G.group self.old.transport.config parts.old.agreement parts.old.hosts parts.old.groups) (end_of self.old) (end_of self.new)) }
+        ensures agreement { KeepsAgreement A.lawful A.obliging A.offered A.refusals A.calls parts.old.agreement parts.new.agreement }
+        ensures hosts { KeepsHosts H.lawful H.obliging H.accepts H.trusts H.refused_sign H.refused_verify H.refused_check H.calls parts.old.hosts parts.new.hosts }
+        ensures groups { KeepsGroups G.lawful G.obliging G.group G.refusals G.calls parts.old.groups parts.new.groups }
+    {
         self.transport.rekey(parts)
     }
 
@@ -68,14 +88,18 @@ impl<'c> LinkEnd<'c> {
         parts: &mut Parts<A, H, G, R>,
         wire: &[u8],
         count: u64,
-    ) -> Result<(), Error> {
-        let waiting = wire.get(self.taken..).unwrap_or(&[]);
+    ) -> Result<(), Error>
+        ensures carries { OnOk result (CarriesTo (says_of A.lawful A.offered A.client_makes A.server_makes A.agrees H.lawful H.obliging H.accepts H.trusts H.makes G.lawful G.group self.old.transport.config parts.old.agreement parts.old.hosts parts.old.groups) (end_of self.old) wire.now count (end_of self.new)) }
+        ensures agreement { KeepsAgreement A.lawful A.obliging A.offered A.refusals A.calls parts.old.agreement parts.new.agreement }
+        ensures hosts { KeepsHosts H.lawful H.obliging H.accepts H.trusts H.refused_sign H.refused_verify H.refused_check H.calls parts.old.hosts parts.new.hosts }
+        ensures groups { KeepsGroups G.lawful G.obliging G.group G.refusals G.calls parts.old.groups parts.new.groups }
+    {
+        let waiting = rest_of(wire, self.taken);
         let count = count.min(waiting.len() as u64) as usize;
         self.transport.feed(parts, &waiting[..count])?;
         self.taken += count;
-        for payload in self.transport.take_delivered().into_vec() {
-            self.delivered.push(payload)?;
-        }
+        let delivered = self.transport.take_delivered();
+        keep(&mut self.delivered, delivered.into_vec())?;
         Ok(())
     }
 
@@ -110,13 +134,35 @@ impl<'c> LinkEnd<'c> {
         ensures delivered { IfOk result (λ r. r.delivered ≡ self.entry.delivered.items) }
         ensures exchanges { IfOk result (λ r. r.exchanges ≡ self.entry.transport.state.records) }
     {
+        let exchanges = exchanges(alloc, &self.transport)?;
         Ok(SideReport {
-            wire: Blob::copy_of(alloc, self.transport.output())?,
+            wire: Blob::new(self.transport.into_output()),
             taken: self.taken as u64,
-            exchanges: exchanges(alloc, &self.transport)?,
             delivered: PayloadList::new(self.delivered),
+            exchanges,
         })
     }
+}
+
+/// The bytes behind the first `taken` ones.
+fn rest_of(wire: &[u8], taken: usize) -> &[u8]
+    ensures { result.now ≡ drop taken wire.now }
+{
+    if taken < wire.len() {
+        &wire[taken..]
+    } else {
+        &[]
+    }
+}
+
+/// Keeps more payloads behind those that are kept. Memory.
+fn keep(kept: &mut Vec<Payload>, more: Vec<Payload>) -> Result<(), AllocError>
+    ensures { OnOk result (kept.new.items ≡ kept.old.items ++ more.items) }
+{
+    for payload in more {
+        kept.push(payload)?;
+    }
+    Ok(())
 }
 
 /// All finished exchanges, the first one first. Memory.

@@ -75,7 +75,7 @@ pub(crate) fn push_line_head(out: &mut Vec<u8>, side: Side, name: &[u8]) -> Resu
     put_u8(out, b' ')
 }
 
-fn name_of_side(side: Side) -> &'static [u8]
+pub(crate) fn name_of_side(side: Side) -> &'static [u8]
     ensures { result.now ≡ side_name side }
 {
     match side {

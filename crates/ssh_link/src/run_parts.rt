@@ -1,5 +1,7 @@
 //! The parts that a script's sides are handed: test parts that refuse the calls that the script names.
 
+ghost use Rattle.std.specs.Prelude.{◌≡◌, IfOk};
+
 use crate::setup::SideSetup;
 use rand_chacha::ChaCha20Rng;
 use rand_core::SeedableRng;
@@ -22,7 +24,9 @@ pub(crate) fn script_parts(
     alloc: Global,
     setup: &SideSetup,
     server: &ServerKeys,
-) -> Result<ScriptParts, AllocError> {
+) -> Result<ScriptParts, AllocError>
+    ensures { IfOk result (λ parts. parts.groups.inner.bits ≡ setup.now.group_bits) }
+{
     let trusted = trusted_hosts(alloc, server)?;
     Ok(Parts {
         agreement: refusing(TestAgreement::new(), setup.refuse_agreement),
@@ -38,7 +42,9 @@ pub(crate) fn script_parts(
 }
 
 /// A part that was never asked, and refuses the call with this number.
-fn refusing<T>(inner: T, refuse_at: u64) -> Refusing<T> {
+fn refusing<T>(inner: T, refuse_at: u64) -> Refusing<T>
+    ensures { result.inner ≡ inner }
+{
     Refusing {
         inner,
         refuse_at,

@@ -1,16 +1,19 @@
-//! What a command answers to the text of a script.
+//! What a command answers to the text of a script, or to a seed.
 
 ghost use Rattle.std.specs.Prelude.{◌≡◌, Ok, IfOk, IfErr};
 ghost use Rattle.ssh_wire.specs.declared.ssh_id.SshId.TheVariants.{Standard};
 ghost use Rattle.ssh_link.specs.Parsing.{IsRefusal};
-ghost use Rattle.ssh_link.specs.Program.{AnswersSteps, AnswersScript, AnswersLinkScript, AnswersPlan, AnswersText};
+ghost use Rattle.ssh_link.specs.Generated.{generated_plan};
+ghost use Rattle.ssh_link.specs.Program.{AnswersGen, AnswersSteps, AnswersScript, AnswersLinkScript, AnswersPlan, AnswersText};
 ghost use Rattle.ssh_link.specs.Script.{clear_script};
 ghost use Rattle.ssh_link.specs.RunScript.{run_script};
+ghost use Rattle.ssh_vectors.specs.Primes.{IsLawful};
 ghost use Rattle.ssh_link.specs.declared.stream.ReadError.TheVariants.{Memory};
 
 use crate::answer::Answer;
 use crate::clear_script::parse_clear;
-use crate::command::Command;
+use crate::command::ScriptCommand;
+use crate::generated::generated_script;
 use crate::link_script::parse_script;
 use crate::run::run_clear;
 use crate::script::ScriptError;
@@ -24,15 +27,15 @@ use std::alloc::{AllocError, Global};
 /// What a command answers to its script.
 pub(crate) fn text_answer(
     alloc: Global,
-    command: Command,
+    command: ScriptCommand,
     text: Vec<u8>,
 ) -> Result<Answer, ReadError>
     ensures answer { IfOk result (λ answer. AnswersText command text.items answer) }
     ensures err { IfErr result (λ e. e ≡ Memory) }
 {
     match command {
-        Command::Clear => clear_answer(alloc, text),
-        Command::Run => link_answer(alloc, text),
+        ScriptCommand::Clear => clear_answer(alloc, text),
+        ScriptCommand::Run => link_answer(alloc, text),
     }
 }
 
@@ -77,6 +80,7 @@ fn standard_id(alloc: Global, text: &str) -> Result<SshId, AllocError>
 }
 
 /// What is answered to a script of the command `run`.
+#[tactic(auto, using(crate::proofs::SmallGroups::script_lawful))]
 fn link_answer(alloc: Global, text: Vec<u8>) -> Result<Answer, ReadError>
     ensures answer { IfOk result (λ answer. AnswersLinkScript (run_script text.items) answer) }
     ensures err { IfErr result (λ e. e ≡ Memory) }
@@ -96,8 +100,26 @@ fn take_script(alloc: Global, text: Vec<u8>) -> Result<Script, ScriptError>
     parse_script(alloc, text.as_slice())
 }
 
+/// What is answered to a seed and a number of turns.
+#[tactic(auto, using(crate::proofs::PlanRuns::generated_link))]
+pub(crate) fn gen_answer(alloc: Global, seed: u64, count: u64) -> Result<Answer, ReadError>
+    ensures answer { IfOk result (λ answer. AnswersGen (generated_plan seed count) answer) }
+    ensures err { IfErr result (λ e. e ≡ Memory) }
+{
+    let Ok(script) = generated_script(alloc, seed, count) else {
+        return Err(ReadError::Memory);
+    };
+    match run_script(alloc, &script) {
+        Ok(report) => Ok(Answer::RanGen(report)),
+        Err(Error::Memory) => Err(ReadError::Memory),
+        Err(error) => Ok(Answer::Refused(error)),
+    }
+}
+
 /// Runs the script, which is freed before the report is printed.
+#[tactic(auto, using(crate::proofs::PlanRuns::lawful_link))]
 fn script_answer(alloc: Global, script: Script) -> Result<Answer, ReadError>
+    requires { IsLawful script.server.group_bits script.client.config.gex }
     ensures answer { IfOk result (λ answer. AnswersPlan script answer) }
     ensures err { IfErr result (λ e. e ≡ Memory) }
 {

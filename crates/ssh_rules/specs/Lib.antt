@@ -24,3 +24,4 @@ pub mod Standing
 pub mod Snapshots
 pub mod RunLaws
 pub mod Refused
+pub mod Refusing

@@ -122,7 +122,7 @@ pub record TakesInput (says : Says) (old : Standing) (piece : List ℕ) (new : S
   pub part : WaitsInPart new.state.reading new.waiting
   pub small : length (unfinished new) < 262245
 
--- A packet or a fault that is refused: `at` is the state in which it stood next, and `waiting` the bytes from it on.
+-- what a piece is refused for: a fault, a packet, a line that is no version line, or want of memory
 pub data RefusalCause : Type 0 where
   OfFault : (fault : Fault) → RefusalCause
   OfPacket : (item : Item) → RefusalCause
@@ -158,26 +158,29 @@ IsIdleBefore OfVersion config st = IsQuiet config st
 IsIdleBefore (OfFault fault) config st = IsQuiet config st
 IsIdleBefore (OfPacket i) config st = IsQuiet config st
 
--- A piece was refused: some events came before; then nothing more is done. What was delivered stays, nothing is left of
--- the input, and what the refused packet would write isn't written.
+-- A piece was refused: some events came before, up to the state in which what is refused stood next; then nothing more is
+-- done. What was delivered stays, nothing is left of the input, and what the refused packet would write isn't written. Of
+-- that state the exchanges that were recorded are all that is kept.
 pub record RefusesInput (says : Says) (old : Standing) (piece : List ℕ) (cause : RefusalCause)
     (new : Standing) : Type 0 where
+  pub at : SideState
   pub events : List Event
   pub side : new.side ≡ old.side
   pub config : new.config ≡ old.config
-  pub steps : Steps says old.side old.config (id_text old.config.id) old.state events new.state
+  pub steps : Steps says old.side old.config (id_text old.config.id) old.state events at
   pub input : IsInput events
   pub output : new.output ≡ old.output ++ sent_bytes old.side old.state.writing events
   pub delivered : new.delivered ≡ old.delivered ++ delivered_in events
+  pub records : new.state.records ≡ at.records
   pub failed : new.failed ≡ true
   pub nothing : unfinished new ≡ []
-  pub done : IsIdleBefore cause new.config new.state
+  pub done : IsIdleBefore cause new.config at
   pub line : IdReading
   pub behind : List ℕ
   pub heard : HearsBy cause old piece events line behind
   pub left : List ℕ
   pub read : behind ≡ read_bytes old.side old.state.reading events ++ left
-  pub next : StandsNext cause new.state left
+  pub next : StandsNext cause at left
 
 -- a payload was submitted: sealed outside an exchange, held inside one
 pub record Submitted (says : Says) (old : Standing) (payload : List ℕ) (new : Standing) : Type 0 where

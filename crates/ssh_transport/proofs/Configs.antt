@@ -1,9 +1,9 @@
 -- A configuration that passes the tests can be used.
-use Rattle.std.proofs.Common.{◌≡◌, ℕ, ◌+◌, ◌-◌, ◌<◌, ◌≤◌, ◌^◌, ◌==◌, Bool, true, false, not, if◌then◌else◌, ◌&&◌, ◌||◌, nat_le, nat_lt, List, [], ◌∷◌, ◌++◌, length, take, slice_index, Option, Some, None, IsTrue, ◌↔◌, refl, sym, ap, subst, ◌∙◌, arith, length-append}
+use Rattle.std.proofs.Common.{◌≡◌, ℕ, ◌+◌, ◌<◌, ◌≤◌, ◌^◌, Bool, true, false, not, if◌then◌else◌, ◌&&◌, ◌||◌, nat_le, nat_lt, List, [], ◌∷◌, ◌++◌, length, Option, Some, None, IsTrue, ◌↔◌, refl, sym, ap, subst, ◌∙◌, arith, length-append}
 use Rattle.std.proofs.lemmas.Bool.Decides.{nat_tests}
 use Rattle.std.proofs.lemmas.List.Elements.{All-nil, All-cons}
 use Rattle.std.specs.List.{All, list_any}
-use Rattle.ssh_wire.specs.Lines.{id_line, id_text, is_line_end, line_ending, before_trimmed_rest, without_line_ends}
+use Rattle.ssh_wire.specs.Lines.{id_text, is_line_end, line_ending, before_trimmed_rest, without_line_ends}
 use Rattle.ssh_wire.specs.declared.error.ConfigFault.{ConfigFault}
 use Rattle.ssh_wire.specs.declared.error.ConfigFault.TheVariants as faults
 use Rattle.ssh_wire.specs.declared.side.Side.{Side}
@@ -13,10 +13,9 @@ use Rattle.ssh_wire.specs.declared.ssh_id.SshId.TheVariants.{Standard, Raw}
 use Rattle.ssh_wire.specs.Forms.{joined_names}
 use Rattle.ssh_wire.specs.Names.{name_limit, name_list_limit}
 use Rattle.ssh_negotiate.specs.Advertised.{Offers, kex_texts, key_texts, cipher_texts, mac_texts, compression_texts}
-use Rattle.ssh_negotiate.specs.Laws.{AreShort, IsListed, IsWithin}
+use Rattle.ssh_negotiate.specs.Laws.{IsListed, IsWithin}
 use Rattle.ssh_negotiate.specs.declared.preferred.HostKey.{HostKey}
 use Rattle.ssh_negotiate.specs.declared.preferred.HostCertificate.{HostCertificate}
-use Rattle.ssh_kex.specs.ServerRows.{AreShortBlobs}
 use Rattle.ssh_kex.specs.Setting.{offers_of}
 use Rattle.ssh_kex.specs.declared.config.Config.{Config}
 use Rattle.ssh_rules.specs.Valid.{config_fault, is_good_id, is_good_limit, is_no_kex, is_id_line_text, id_line_text, is_long_list, longest_blob, some_blob_long, some_list_long}

@@ -1,5 +1,5 @@
 -- What is heard of the peer's version line.
-use Rattle.std.proofs.Common.{◌≡◌, ℕ, zero, suc, ◌+◌, ◌-◌, ◌<◌, ◌≤◌, ◌==◌, Bool, true, false, if◌then◌else◌, nat_le, nat_lt, List, [], ◌∷◌, ◌++◌, length, take, drop, slice_index, Option, Some, None, Result, Ok, Err, refl, sym, ap, ◌∙◌, subst, arith}
+use Rattle.std.proofs.Common.{◌≡◌, ℕ, zero, suc, ◌+◌, ◌-◌, ◌≤◌, ◌==◌, Bool, true, false, if◌then◌else◌, nat_le, nat_lt, List, [], ◌++◌, length, take, drop, slice_index, Option, Some, None, Result, Ok, refl, sym, ap, ◌∙◌, subst, arith}
 use Rattle.std.proofs.lemmas.Bool.Decides.{nat_tests}
 use Rattle.std.proofs.lemmas.List.{length-take}
 use Rattle.ssh_wire.specs.Lines as lines
@@ -8,7 +8,7 @@ use Rattle.ssh_wire.specs.Reading.{IdReading, Waiting, Heard, Failed, Decides, F
 use Rattle.ssh_wire.specs.declared.error.Error.{Error}
 use Rattle.ssh_wire.specs.declared.read_id.IdProgress.{IdProgress}
 use Rattle.ssh_wire.specs.declared.read_id.IdProgress.TheVariants as progress
-use Rattle.ssh_rules.specs.Machine.{IsQuiet, Silent, Inside, Outside, Spot, Where}
+use Rattle.ssh_rules.specs.Machine.{Silent, Inside, Where}
 use Rattle.ssh_transport.specs.Saying.{Begins, IsSettled}
 use Rattle.ssh_transport.specs.States.{WaitsBehind, heard_of, is_silent, stands_of}
 use Rattle.ssh_transport.specs.declared.session.Session.{Session}
@@ -117,7 +117,7 @@ unheard_end : (unfinished : IdReading) (other : ℕ → IdReading) (e : Option �
 unheard_end unfinished other None u o = u
 unheard_end unfinished other (Some m) u o = o m
 
-left_unheard : (k : ℕ) (bytes : List ℕ) (n : ℕ) → heard_of (reading_left k bytes n) ≡ None
+pub left_unheard : (k : ℕ) (bytes : List ℕ) (n : ℕ) → heard_of (reading_left k bytes n) ≡ None
 left_unheard zero bytes n = refl
 left_unheard (suc k) bytes n = unheard_end (Waiting bytes n) (λ m. reading_left k (drop m bytes) (n + 1)) (line_end bytes) refl (λ m. left_unheard k (drop m bytes) (n + 1))
 
@@ -126,7 +126,7 @@ decided_unheard lines.NotYet k bytes had n new d = ap heard_of d.1 ∙ left_unhe
 decided_unheard (lines.Id text end) k bytes had n new d = absurd (let e : Ok progress.NotYet ≡ Ok (progress.Id (end - had)) = d.0 in cc)
 decided_unheard lines.Version k bytes had n new d = absurd (let e = d.0 in cc)
 
-unheard_yet : (allow : Bool) (old : IdReading) (piece : List ℕ) (new : IdReading) → Feeds allow old piece (Ok progress.NotYet) new → heard_of new ≡ None
+pub unheard_yet : (allow : Bool) (old : IdReading) (piece : List ℕ) (new : IdReading) → Feeds allow old piece (Ok progress.NotYet) new → heard_of new ≡ None
 unheard_yet allow (Waiting bytes others) piece new h = decided_unheard (id_of (still_allowed allow others) (bytes ++ piece)) (still_allowed allow others) (bytes ++ piece) (length bytes) others new h
 unheard_yet allow (Heard text) piece new h = absurd (let e = h.0 in cc)
 unheard_yet allow Failed piece new h = absurd (let e = h.0 in cc)

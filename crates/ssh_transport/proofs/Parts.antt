@@ -1,5 +1,5 @@
 -- What the calls of the parts keep, one after the other.
-use Rattle.std.proofs.Common.{◌≡◌, ℕ, ◌≤◌, Bool, List, Option, refl, ◌∙◌, arith}
+use Rattle.std.proofs.Common.{ℕ, Bool, List, refl, ◌∙◌, arith}
 use Rattle.ssh_negotiate.specs.declared.kex.Name as kexes
 use Rattle.ssh_kex.specs.Parts.{KeepsAgreement, KeepsGroups, KeepsHosts, Setup}
 use Rattle.ssh_kex.specs.declared.exchange.ServerHost.{ServerHost}

@@ -1,5 +1,5 @@
 -- What a reader leaves where no packet is whole.
-use Rattle.std.proofs.Common.{◌≡◌, ℕ, Option, Some, None, Result, Ok, Err, IfSome, ap, subst}
+use Rattle.std.proofs.Common.{◌≡◌, ℕ, Option, Some, None, Result, Ok, IfSome, ap, subst}
 use Rattle.ssh_packet.specs.Reading.{LeavesNext, Reader}
 use Rattle.ssh_packet.specs.Sealing.{Sealing}
 use Rattle.ssh_packet.specs.declared.error.OpenError.{OpenError}

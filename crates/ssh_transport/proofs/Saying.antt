@@ -1,28 +1,28 @@
 -- What a side writes of itself, event by event.
-use Rattle.std.proofs.Common.{◌≡◌, ℕ, ◌+◌, ◌<◌, ◌≤◌, ◌==◌, Bool, true, false, not, ◌&&◌, ◌||◌, nat_le, nat_lt, List, [], ◌∷◌, ◌++◌, length, Option, Some, None, Result, Ok, Err, OnOk, refl, sym, ap, ◌∙◌, subst, arith, append_assoc, append-nil, ◌⊎◌, inl, inr}
+use Rattle.std.proofs.Common.{◌≡◌, ℕ, ◌<◌, ◌≤◌, ◌==◌, Bool, true, false, not, ◌&&◌, ◌||◌, nat_le, nat_lt, List, [], ◌∷◌, ◌++◌, length, None, Result, Ok, Err, OnOk, refl, sym, ap, ◌∙◌, subst, arith, append_assoc, append-nil, ◌⊎◌, inl, inr}
 use Rattle.std.proofs.lemmas.Bool.Decides.{nat_tests}
 use Rattle.std.specs.Borrow.{Bor}
 use Rattle.rand_core.specs.Stream.{Stream}
 use Rattle.ssh_wire.specs.Lines.{id_text}
-use Rattle.ssh_wire.specs.Reading.{IdReading, text_heard}
+use Rattle.ssh_wire.specs.Reading.{text_heard}
 use Rattle.ssh_wire.specs.declared.error.Error.{Error}
 use Rattle.ssh_wire.specs.declared.side.Side.TheVariants as sides
 use Rattle.ssh_wire.specs.declared.side.Side.{Side}
 use Rattle.ssh_packet.specs.Sealing.{Clear, Item, IsAdmissible, IsPadded, item_of, longest_payload, sealed_packet}
 use Rattle.ssh_packet.specs.Stream.{message_type}
-use Rattle.ssh_packet.specs.Writing.{Writer, Sends, with_item, writer_after}
-use Rattle.ssh_kex.specs.Setting.{Says, Setting}
+use Rattle.ssh_packet.specs.Writing.{Writer, Sends, with_item}
+use Rattle.ssh_kex.specs.Setting.{Says}
 use Rattle.ssh_negotiate.specs.declared.kex.KexCause.{KexCause}
 use Rattle.ssh_kex.specs.Stages.{Machine, Stage, Created}
 use Rattle.ssh_kex.specs.declared.config.Config.{Config}
-use Rattle.ssh_rules.specs.Log.{asked, asked_in, causes_in, delivered_in, handled, read_bytes, sent_bytes, submitted_in}
-use Rattle.ssh_rules.specs.Machine.{BeginsExchange, Cause, Event, ExchangeBegun, IdHeard, PayloadSubmitted, AnswerSent, PayloadSent, MessageTaken, GuessDropped, PayloadDelivered, PacketDropped, ExchangeFinished, Inside, IsQuiet, MayBegin, Outside, ReadLimit, SendsPayload, SideState, Silent, Spot, Steps, Where, WriteLimit, is_answering, writes, cause_of}
+use Rattle.ssh_rules.specs.Log.{asked, asked_in, causes_in, delivered_in, handled, sent_bytes, submitted_in}
+use Rattle.ssh_rules.specs.Machine.{BeginsExchange, Cause, Event, ExchangeBegun, IdHeard, PayloadSubmitted, AnswerSent, PayloadSent, MessageTaken, GuessDropped, PayloadDelivered, PacketDropped, ExchangeFinished, Inside, MayBegin, Outside, ReadLimit, SendsPayload, SideState, Silent, Spot, Steps, Where, WriteLimit, is_answering, cause_of}
 use Rattle.ssh_rules.specs.MessageTypes.{is_payload_type}
 use Rattle.ssh_rules.specs.Standing.{HearsNone, is_outside}
 use Rattle.ssh_rules.specs.Valid.{is_bad_size, is_good_payload}
 use Rattle.ssh_rules.proofs.Ran.{sent_join, steps_join}
 use Rattle.ssh_transport.specs.Kexinits.{SendsKexinit, setting_between}
-use Rattle.ssh_transport.specs.Saying.{AreGood, Begins, GoesOn, IsSettled, OnlyWrites, Opens, Writes, nothing_said, setting_of}
+use Rattle.ssh_transport.specs.Saying.{AreGood, Begins, GoesOn, GoesPart, IsSettled, IsUnsaid, OnlyWrites, Opens, Writes, nothing_said}
 use Rattle.ssh_transport.specs.States.{heard_of, stands_of, state_at}
 use Rattle.ssh_transport.specs.declared.session.Session.{Session}
 
@@ -165,11 +165,11 @@ pub good_some : (p : List ℕ) → is_good_payload p ≡ true → 0 < length p
 good_some [] h = cc
 good_some (b ∷ p) h = omega arith
 
-and_first : (a b : Bool) → (a && b) ≡ true → a ≡ true
+pub and_first : (a b : Bool) → (a && b) ≡ true → a ≡ true
 and_first true b e = refl
 and_first false b e = cc
 
-and_last : (a b : Bool) → (a && b) ≡ true → b ≡ true
+pub and_last : (a b : Bool) → (a && b) ≡ true → b ≡ true
 and_last true b e = e
 and_last false b e = cc
 
@@ -354,3 +354,15 @@ sends_first s mid s' read outside limit payload bytes stream oe o le l h held e 
 pub flipped_true : (r b : Bool) → r ≡ not b → r ≡ true → b ≡ false
 flipped_true r true e f = let g : false ≡ true = sym e ∙ f in cc
 flipped_true r false e f = refl
+
+-- what was written before memory was wanting
+pub goes_part : (s mid s' : Session) (read : ℕ) → (events : List Event) × Writes s read events mid → s'.writer.output ≡ mid.writer.output → s'.finished.items ≡ mid.finished.items → GoesPart s read s'
+goes_part s mid s' read w o f = record { events = w.0; mid = mid; writes = w.1; output = o; records = f }
+
+pub begins_part : (s mid s' : Session) (read : ℕ) (answer : Result (Unit {0}) Error) → (events : List Event) × Writes s read events mid → Rattle.std.proofs.Common.OnErr answer (IsUnsaid mid s') → Rattle.std.proofs.Common.OnErr answer (GoesPart s read s')
+begins_part s mid s' read (Ok u) w h = tt
+begins_part s mid s' read (Err e) w h = goes_part s mid s' read w (ap (λ (x : Session). x.writer.output) h) (ap (λ (x : Session). x.finished.items) h)
+
+pub on_err : {T : Type 0} (answer : Result T Error) (P : Type 0) → P → Rattle.std.proofs.Common.OnErr answer P
+on_err (Ok x) P h = tt
+on_err (Err e) P h = h

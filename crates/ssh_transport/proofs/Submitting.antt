@@ -1,18 +1,19 @@
 -- A payload that is submitted, and an exchange that is asked for.
-use Rattle.std.proofs.Common.{◌≡◌, ℕ, ◌<◌, Bool, true, false, List, [], ◌∷◌, ◌++◌, length, Result, Ok, Err, OnOk, OnErr, IfErr, refl, sym, ap, ◌∙◌, subst, arith, append-nil}
+use Rattle.std.proofs.Common.{◌≡◌, ℕ, ◌<◌, ◌^◌, Bool, true, false, List, [], ◌∷◌, ◌++◌, length, Result, Ok, Err, OnOk, OnErr, IfErr, refl, sym, ap, ◌∙◌, subst, arith, append-nil}
 use Rattle.std.specs.Borrow.{Bor}
 use Rattle.rand_core.specs.Stream.{Stream}
-use Rattle.ssh_wire.specs.Reading.{IdReading}
+use Rattle.ssh_wire.specs.Reading.{Failed, IdReading, IsShort}
 use Rattle.ssh_wire.specs.declared.error.Error.{Error}
 use Rattle.ssh_wire.specs.declared.error.Error.TheVariants.{Memory}
 use Rattle.ssh_kex.specs.declared.config.Config.{Config}
+use Rattle.ssh_transport.specs.Handling.{IsOpen}
 use Rattle.ssh_transport.specs.Kept.{IsLive}
 use Rattle.ssh_packet.specs.Sealing.{Item, IsAdmissible, IsPadded, item_of, sealed_packet}
 use Rattle.ssh_packet.specs.Writing.{Writer, Sends, with_item}
 use Rattle.ssh_kex.specs.Setting.{Says}
 use Rattle.ssh_rules.specs.Log.{delivered_in, submitted_in}
 use Rattle.ssh_rules.specs.Machine.{Asked, Event, ExchangeBegun, Outside, PayloadSent, PayloadSubmitted, SendsPayload, SideState, Silent, Spot, SubmitsPayload, Where}
-use Rattle.ssh_rules.specs.Standing.{Acts, BeginsAsked, Rekeyed, RekeyedFrom, Standing, Submitted, is_outside}
+use Rattle.ssh_rules.specs.Standing.{BeginsAsked, Rekeyed, RekeyedFrom, Standing, Submitted, is_outside}
 use Rattle.ssh_rules.specs.Valid.{is_good_payload}
 use Rattle.ssh_transport.specs.Saying.{AreGood, Begins, GoesOn, IsSettled, nothing_said}
 use Rattle.ssh_transport.specs.States.{CanBegin, WaitsBehind, heard_of, reading_of, standing_of, stands_of, state_at}
@@ -189,8 +190,8 @@ rekeyed_outside c c' i h = subst (λ (b : Bool). RekeyedFrom b nothing_said (sta
 
 -- ---- by what a call answers
 
-pub live_behind : (c : Connection) (s' : Session) (read : ℕ) (p : List ℕ) → read ≡ c.reader.count → CanBegin s' → WaitsBehind c.session.line c.reader.waiting → Submits c.session read p s' → IsLive (record c { session = s' })
-live_behind c s' read p e b w h = record { begins = b; behind = subst (λ (l : IdReading). WaitsBehind l c.reader.waiting) (sym h.line) w; settled = subst (λ (n : ℕ). IsSettled s' n) e h.settled; good = h.good }
+pub live_behind : (c : Connection) (s' : Session) (read : ℕ) (p : List ℕ) → read ≡ c.reader.count → CanBegin s' → WaitsBehind c.session.line c.reader.waiting → c.reader.number < 2 ^ 32 → IsShort c.session.line → (c.session.line ≡ Failed → ⊥) → c.reader.failed ≡ false → Submits c.session read p s' → IsOpen s' → IsLive (record c { session = s' })
+live_behind c s' read p e b w n q z u h o = record { short = subst IsShort (sym h.line) q; heeds = subst (λ (l : IdReading). l ≡ Failed → ⊥) (sym h.line) z; unbroken = u; begins = b; behind = subst (λ (l : IdReading). WaitsBehind l c.reader.waiting) (sym h.line) w; settled = subst (λ (n : ℕ). IsSettled s' n) e h.settled; good = h.good; opened = o; numbered = n }
 
 sent_by : (c c' : Connection) (s' : Session) (read : ℕ) (p : List ℕ) → c.failed ≡ false → read ≡ c.reader.count → c' ≡ record c { session = s' } → Submits c.session read p s' → Submitted nothing_said (standing_of c) p (standing_of c')
 sent_by c c' s' read p f r e h =

@@ -1,12 +1,11 @@
 -- What the parts say at a step, they say of themselves as they were before.
-use Rattle.std.proofs.Common.{◌≡◌, ℕ, Bool, true, false, List, [], ◌∷◌, Option, Some, None, IfSome, refl, sym, ap, ◌∙◌, subst}
+use Rattle.std.proofs.Common.{ℕ, Bool, true, false, List, [], ◌∷◌, Option, Some, None, IfSome, sym, ap, ◌∙◌}
 use Rattle.ssh_wire.specs.declared.side.Side.{Side}
 use Rattle.ssh_wire.specs.declared.side.Side.TheVariants.{Client, Server}
 use Rattle.ssh_negotiate.specs.declared.kex.Name as kexes
-use Rattle.ssh_kex.specs.Messages.{IsCanonical, is_gex}
+use Rattle.ssh_kex.specs.Messages.{is_gex}
 use Rattle.ssh_kex.specs.Parts.{KeepsAgreement, KeepsGroups, KeepsHosts, Setup}
 use Rattle.ssh_kex.specs.Setting.{Opened, Says, Setting}
-use Rattle.ssh_kex.specs.Stages as stages
 use Rattle.ssh_kex.specs.Stages.{AwaitsGroup, AwaitsNewkeys, AwaitsReply, AwaitsRequest, AwaitsValue, Created, OpensBy, Stage, Takes}
 use Rattle.ssh_kex.specs.Stepping.{says_of}
 use Rattle.ssh_kex.specs.declared.config.Config.{Config}

@@ -1,6 +1,7 @@
 -- What holds of a connection between calls.
-use Rattle.std.specs.Prelude.{◌≡◌, false, None}
-use Rattle.ssh_rules.specs.Valid.{config_fault}
+use Rattle.std.specs.Prelude.{◌≡◌, ◌<◌, ◌^◌, false}
+use Rattle.ssh_wire.specs.Reading.{Failed, IsShort}
+use Rattle.ssh_transport.specs.Handling.{IsOpen}
 use Rattle.ssh_transport.specs.Saying.{AreGood, IsSettled}
 use Rattle.ssh_transport.specs.States.{CanBegin, WaitsBehind}
 use Rattle.ssh_transport.specs.declared.connection.Connection.{Connection}
@@ -11,6 +12,11 @@ pub record IsLive (c : Connection) : Type 0 where
   pub behind : WaitsBehind c.session.line c.reader.waiting
   pub settled : IsSettled c.session c.reader.count
   pub good : AreGood c.session.held.items
+  pub opened : IsOpen c.session
+  pub numbered : c.reader.number < 2 ^ 32
+  pub short : IsShort c.session.line
+  pub heeds : c.session.line ≡ Failed → ⊥
+  pub unbroken : c.reader.failed ≡ false
 
 -- of every one
 pub record IsKept (c : Connection) : Type 0 where

@@ -1,7 +1,11 @@
 pub mod Kexinits
+pub mod Handling
+pub mod Hearing
 pub mod Kept
 pub mod Machines
 pub mod Saying
 pub mod States
+pub mod Stopping
 pub mod Submitting
+pub mod Taking
 pub mod Usable

@@ -1,9 +1,8 @@
 -- What a side writes of itself: KEXINITs and the payloads that it holds.
-use Rattle.std.specs.Prelude.{◌≡◌, ℕ, Bool, true, false, List, [], ◌∷◌, ◌++◌}
+use Rattle.std.specs.Prelude.{◌≡◌, ℕ, true, List, [], ◌∷◌, ◌++◌}
 use Rattle.ssh_wire.specs.Lines.{id_text}
 use Rattle.ssh_wire.specs.Reading.{text_heard}
 use Rattle.ssh_packet.specs.Sealing.{Item}
-use Rattle.ssh_packet.specs.Writing.{Writer}
 use Rattle.ssh_kex.specs.Setting.{Says, Setting}
 use Rattle.ssh_kex.specs.Stages.{Machine, Created}
 use Rattle.ssh_kex.specs.declared.session_state.SessionKexState.TheVariants.{InProgress}
@@ -98,3 +97,11 @@ pub record GoesOn (s : Session) (read : ℕ) (s' : Session) : Type 0 where
   pub events : List Event
   pub writes : Writes s read events s'
   pub settled : IsSettled s' read
+
+-- it wrote of itself a part of what was to be written
+pub record GoesPart (s : Session) (read : ℕ) (s' : Session) : Type 0 where
+  pub events : List Event
+  pub mid : Session
+  pub writes : Writes s read events mid
+  pub output : s'.writer.output ≡ mid.writer.output
+  pub records : s'.finished.items ≡ mid.finished.items

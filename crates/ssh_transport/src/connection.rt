@@ -1,10 +1,14 @@
 //! One side of a connection, with the packets that it reads.
 
-ghost use Rattle.std.specs.Prelude.{◌≡◌, ◌⊎◌, ◌<◌, ◌≤◌, true, false, [], None, Some, Err, Ok, IfErr, IfOk, IfSome, IsTrue, OnErr, OnOk, length};
+ghost use Rattle.std.specs.Prelude.{◌≡◌, ◌⊎◌, ◌<◌, ◌≤◌, ◌^◌, ◌++◌, true, false, [], None, Some, Err, Ok, IfErr, IfOk, IfSome, IsTrue, OnErr, OnOk, length};
 ghost use Rattle.ssh_kex.specs.Parts.{KeepsAgreement, KeepsGroups, KeepsHosts};
+ghost use Rattle.ssh_kex.specs.Stepping.{denies_of, says_of};
 ghost use Rattle.ssh_packet.specs.Stream.{message_type};
 ghost use Rattle.ssh_rules.specs.MessageTypes.{is_payload_type};
 ghost use Rattle.ssh_rules.specs.Valid.{config_fault, is_bad_size, is_good_payload};
+ghost use Rattle.ssh_transport.specs.Taking.{kept_by};
+ghost use Rattle.ssh_transport.specs.declared.session.Handled.TheVariants.{Delivers};
+ghost use Rattle.ssh_rules.specs.Refusing.{RefusesPiece, untrusted_of};
 ghost use Rattle.ssh_wire.specs.declared.error.ConfigFault.{ConfigFault};
 ghost use Rattle.ssh_wire.specs.declared.error.Error.TheVariants.{Disconnect, Inconsistent, InvalidConfig, Memory, PacketSize};
 
@@ -28,13 +32,17 @@ pub(crate) struct Connection<'c> {
 }
 
 impl<'c> Connection<'c> {
-    ghost use Rattle.ssh_rules.specs.Standing.{IsNew, Rekeyed, Submitted, is_outside, unfinished};
+    ghost use Rattle.ssh_rules.specs.Standing.{IsNew, Rekeyed, Submitted, TakesInput, WaitsInPart, is_outside, unfinished};
+    ghost use Rattle.ssh_transport.specs.Handling.{IsHeard, IsOpen};
     ghost use Rattle.ssh_transport.specs.Kept.{IsKept, IsLive};
-    ghost use Rattle.ssh_transport.specs.Saying.{AreGood, IsFixed, IsSettled, nothing_said};
-    ghost use Rattle.ssh_transport.specs.States.{CanBegin, WaitsBehind, standing_of};
+    ghost use Rattle.ssh_transport.specs.Saying.{IsFixed, nothing_said};
+    ghost use Rattle.ssh_transport.specs.States.{CanBegin, IsUnheard, reading_of, standing_of};
+    ghost use Rattle.ssh_transport.specs.Stopping.{Fails, FailsHearing, IsAsBefore, Stops};
     ghost use Rattle.ssh_transport.specs.Submitting.{Breaks};
+    ghost use Rattle.ssh_transport.specs.Taking.{Hears, Reads, Takes, TakesUp, Took};
 
     /// A side that has written its version line. InvalidConfig where the configuration may not be used; Memory.
+    #[tactic(auto, using(crate::proofs::Opened::open_fresh, crate::proofs::Opened::short_fresh, crate::proofs::Opened::heeds_fresh))]
     pub(crate) fn new(
         alloc: Global,
         side: Side,
@@ -69,6 +77,13 @@ impl<'c> Connection<'c> {
         ensures stays { IsFixed self.old.session self.new.session }
         ensures lives { self.old.failed ≡ false → OnOk result (self.new.failed ≡ false) }
         ensures ends { self.old.failed ≡ false → OnErr result ((self.new.failed ≡ true) × (unfinished (standing_of self.new) ≡ [])) }
+        ensures fed { OnOk result (TakesInput (says_of A.lawful A.offered A.client_makes A.server_makes A.agrees H.lawful H.obliging H.accepts H.trusts
+            H.makes G.lawful G.group self.old.session.config.now parts.old.agreement parts.old.hosts parts.old.groups) (standing_of self.old) piece.now (standing_of self.new)) }
+        ensures refused { self.old.failed ≡ false → IfErr result (λ e. RefusesPiece (says_of A.lawful A.offered A.client_makes A.server_makes A.agrees
+            H.lawful H.obliging H.accepts H.trusts H.makes G.lawful G.group self.old.session.config.now parts.old.agreement parts.old.hosts parts.old.groups)
+            (denies_of A.obliging A.offered A.client_makes A.server_makes A.refusals H.obliging H.accepts H.refused_sign H.refused_verify
+            G.obliging G.refusals parts.old.agreement parts.new.agreement parts.old.hosts parts.new.hosts parts.old.groups parts.new.groups)
+            (untrusted_of H.obliging H.trusts H.refused_check parts.old.hosts parts.new.hosts) (standing_of self.old) piece.now e (standing_of self.new)) }
         ensures agreement { KeepsAgreement A.lawful A.obliging A.offered A.refusals A.calls parts.old.agreement parts.new.agreement }
         ensures hosts { KeepsHosts H.lawful H.obliging H.accepts H.trusts H.refused_sign H.refused_verify H.refused_check H.calls parts.old.hosts parts.new.hosts }
         ensures groups { KeepsGroups G.lawful G.obliging G.group G.refusals G.calls parts.old.groups parts.new.groups }
@@ -145,6 +160,7 @@ impl<'c> Connection<'c> {
         ensures fixed { IsFixed self.old.session self.new.session }
         ensures same { OnOk done (self.new ≡ self.old) }
         ensures breaks { OnErr done (Breaks (standing_of self.old) (standing_of self.new)) }
+        ensures rests { OnErr done (IsAsBefore self.old.session self.new.session) }
     {
         if done.is_err() {
             self.failed = true;
@@ -155,7 +171,7 @@ impl<'c> Connection<'c> {
     }
 
     /// Takes a piece of what the other side sent, and handles what is whole.
-    #[tactic(auto, using(crate::proofs::Parts::agreement_same, crate::proofs::Parts::hosts_same, crate::proofs::Parts::groups_same, crate::proofs::Parts::agreement_after, crate::proofs::Parts::hosts_after, crate::proofs::Parts::groups_after))]
+    #[tactic(auto, using(crate::proofs::Parts::agreement_same, crate::proofs::Parts::hosts_same, crate::proofs::Parts::groups_same))]
     fn take<A: Agreement, H: HostKeys, G: GroupLookup, R: Rng>(
         &mut self,
         parts: &mut Parts<A, H, G, R>,
@@ -163,89 +179,175 @@ impl<'c> Connection<'c> {
     ) -> Result<(), Error>
         requires { IsLive self.old }
         ensures begins { CanBegin self.new.session }
-        ensures behind { OnOk result (WaitsBehind self.new.session.line self.new.reader.waiting) }
-        ensures settled { OnOk result (IsSettled self.new.session self.new.reader.count) }
-        ensures good { OnOk result (AreGood self.new.session.held.items) }
+        ensures live { OnOk result (IsLive self.new) }
+        ensures took { OnOk result (Takes (says_of A.lawful A.offered A.client_makes A.server_makes A.agrees H.lawful H.obliging H.accepts H.trusts
+            H.makes G.lawful G.group self.old.session.config.now parts.old.agreement parts.old.hosts parts.old.groups) self.old piece.now self.new) }
+        ensures fails { IfErr result (λ e. Fails (says_of A.lawful A.offered A.client_makes A.server_makes A.agrees H.lawful H.obliging H.accepts H.trusts H.makes
+            G.lawful G.group self.old.session.config.now parts.old.agreement parts.old.hosts parts.old.groups)
+            (denies_of A.obliging A.offered A.client_makes A.server_makes A.refusals H.obliging H.accepts
+            H.refused_sign H.refused_verify G.obliging G.refusals parts.old.agreement parts.new.agreement parts.old.hosts parts.new.hosts parts.old.groups parts.new.groups)
+            (untrusted_of H.obliging H.trusts H.refused_check parts.old.hosts parts.new.hosts) self.old piece.now e self.new) }
         ensures fixed { IsFixed self.old.session self.new.session }
         ensures unfailed { self.new.failed ≡ self.old.failed }
         ensures agreement { KeepsAgreement A.lawful A.obliging A.offered A.refusals A.calls parts.old.agreement parts.new.agreement }
         ensures hosts { KeepsHosts H.lawful H.obliging H.accepts H.trusts H.refused_sign H.refused_verify H.refused_check H.calls parts.old.hosts parts.new.hosts }
         ensures groups { KeepsGroups G.lawful G.obliging G.group G.refusals G.calls parts.old.groups parts.new.groups }
     {
-        if let Some(used) = self.session.hear(&mut parts.rng, piece)? {
-            self.reader.push(&piece[used..])?;
-            'payloads: while self.read_payload(parts)? {}
+        let is_heard = self.hear(&mut parts.rng, piece)?;
+        if is_heard {
+            return self.read_packets(parts);
         }
         Ok(())
     }
 
-    /// Handles what is whole up to and with the first packet whose payload is delivered: whether there was one.
-    #[tactic(auto, using(crate::proofs::Parts::agreement_after, crate::proofs::Parts::hosts_after, crate::proofs::Parts::groups_after))]
-    fn read_payload<A: Agreement, H: HostKeys, G: GroupLookup, R: Rng>(
-        &mut self,
-        parts: &mut Parts<A, H, G, R>,
-    ) -> Result<bool, Error>
+    /// Reads of the peer's version line, and keeps what stands behind it: whether the line is read. Version; Memory.
+    fn hear<R: Rng>(&mut self, rng: &mut R, piece: &[u8]) -> Result<bool, Error>
         requires { IsLive self.old }
         ensures begins { CanBegin self.new.session }
-        ensures behind { OnOk result (WaitsBehind self.new.session.line self.new.reader.waiting) }
-        ensures settled { OnOk result (IsSettled self.new.session self.new.reader.count) }
-        ensures good { OnOk result (AreGood self.new.session.held.items) }
-        ensures shorter { IfOk result (λ delivers. IsTrue delivers → length self.new.reader.waiting < length self.old.reader.waiting) }
+        ensures live { OnOk result (IsLive self.new) }
+        ensures heard { OnOk result (Hears self.old piece.now self.new) }
+        ensures whole { result ≡ Ok true → IsHeard self.new.session.line }
+        ensures part { result ≡ Ok false → WaitsInPart (reading_of self.new) self.new.reader.waiting }
+        ensures fails { IfErr result (λ e. FailsHearing self.old piece.now e self.new) }
+        ensures fixed { IsFixed self.old.session self.new.session }
+        ensures unfailed { self.new.failed ≡ self.old.failed }
+    {
+        let Some(used) = self.session.hear(rng, piece)? else {
+            return Ok(false);
+        };
+        self.reader.push(&piece[used..])?;
+        Ok(true)
+    }
+
+    /// Handles all packets that are whole.
+    fn read_packets<A: Agreement, H: HostKeys, G: GroupLookup, R: Rng>(
+        &mut self,
+        parts: &mut Parts<A, H, G, R>,
+    ) -> Result<(), Error>
+        requires live { IsLive self.old }
+        requires heard { IsHeard self.old.session.line }
+        ensures begins { CanBegin self.new.session }
+        ensures live { OnOk result (IsLive self.new) }
+        ensures reads { OnOk result (Reads (says_of A.lawful A.offered A.client_makes A.server_makes A.agrees H.lawful H.obliging H.accepts H.trusts
+            H.makes G.lawful G.group self.old.session.config.now parts.old.agreement parts.old.hosts parts.old.groups) self.old self.new) }
+        ensures part { OnOk result (WaitsInPart (reading_of self.new) self.new.reader.waiting) }
+        ensures stops { IfErr result (λ e. Stops (says_of A.lawful A.offered A.client_makes A.server_makes A.agrees H.lawful H.obliging H.accepts H.trusts H.makes
+            G.lawful G.group self.old.session.config.now parts.old.agreement parts.old.hosts parts.old.groups)
+            (denies_of A.obliging A.offered A.client_makes A.server_makes A.refusals H.obliging H.accepts
+            H.refused_sign H.refused_verify G.obliging G.refusals parts.old.agreement parts.new.agreement parts.old.hosts parts.new.hosts parts.old.groups parts.new.groups)
+            (untrusted_of H.obliging H.trusts H.refused_check parts.old.hosts parts.new.hosts) self.old e self.new) }
         ensures fixed { IsFixed self.old.session self.new.session }
         ensures unfailed { self.new.failed ≡ self.old.failed }
         ensures agreement { KeepsAgreement A.lawful A.obliging A.offered A.refusals A.calls parts.old.agreement parts.new.agreement }
         ensures hosts { KeepsHosts H.lawful H.obliging H.accepts H.trusts H.refused_sign H.refused_verify H.refused_check H.calls parts.old.hosts parts.new.hosts }
         ensures groups { KeepsGroups G.lawful G.obliging G.group G.refusals G.calls parts.old.groups parts.new.groups }
     {
-        'packets: loop {
-            match self.read_packet(parts)? {
-                Some(true) => return Ok(true),
-                Some(false) => {}
-                None => return Ok(false),
-            }
-        }
+        'packets: while self.read_packet(parts)? {}
+        Ok(())
     }
 
-    /// Handles the next packet, where one is whole: whether its payload was delivered.
+    /// Opens the next packet, where one is whole, and does what it asks for by itself.
     #[tactic(auto, using(crate::proofs::Parts::agreement_same, crate::proofs::Parts::hosts_same, crate::proofs::Parts::groups_same))]
-    fn read_packet<A: Agreement, H: HostKeys, G: GroupLookup, R: Rng>(
+    fn take_packet<A: Agreement, H: HostKeys, G: GroupLookup, R: Rng>(
         &mut self,
         parts: &mut Parts<A, H, G, R>,
-    ) -> Result<Option<bool>, Error>
-        requires { IsLive self.old }
+    ) -> Result<Option<Handled>, Error>
+        requires live { IsLive self.old }
+        requires heard { IsHeard self.old.session.line }
         ensures begins { CanBegin self.new.session }
-        ensures behind { OnOk result (WaitsBehind self.new.session.line self.new.reader.waiting) }
-        ensures settled { OnOk result (IsSettled self.new.session self.new.reader.count) }
-        ensures good { OnOk result (AreGood self.new.session.held.items) }
-        ensures shorter { IfOk result (λ read. IfSome read (λ delivers. length self.new.reader.waiting < length self.old.reader.waiting)) }
+        ensures line { self.new.session.line ≡ self.old.session.line }
+        ensures held { self.new.session.held ≡ self.old.session.held }
+        ensures unheard { OnOk result (IsUnheard self.new.session) }
+        ensures opened { OnOk result (IsOpen self.new.session) }
         ensures fixed { IsFixed self.old.session self.new.session }
         ensures unfailed { self.new.failed ≡ self.old.failed }
         ensures agreement { KeepsAgreement A.lawful A.obliging A.offered A.refusals A.calls parts.old.agreement parts.new.agreement }
         ensures hosts { KeepsHosts H.lawful H.obliging H.accepts H.trusts H.refused_sign H.refused_verify H.refused_check H.calls parts.old.hosts parts.new.hosts }
         ensures groups { KeepsGroups G.lawful G.obliging G.group G.refusals G.calls parts.old.groups parts.new.groups }
+        ensures took { IfOk result (λ r. IfSome r (λ h. Took (says_of A.lawful A.offered A.client_makes A.server_makes A.agrees H.lawful H.obliging H.accepts H.trusts
+            H.makes G.lawful G.group self.old.session.config.now parts.old.agreement parts.old.hosts parts.old.groups) self.old h self.new)) }
+        ensures none { result ≡ Ok None → (self.new ≡ self.old) × WaitsInPart (reading_of self.old) self.old.reader.waiting }
+        ensures stops { IfErr result (λ e. Stops (says_of A.lawful A.offered A.client_makes A.server_makes A.agrees H.lawful H.obliging H.accepts H.trusts H.makes
+            G.lawful G.group self.old.session.config.now parts.old.agreement parts.old.hosts parts.old.groups)
+            (denies_of A.obliging A.offered A.client_makes A.server_makes A.refusals H.obliging H.accepts
+            H.refused_sign H.refused_verify G.obliging G.refusals parts.old.agreement parts.new.agreement parts.old.hosts parts.new.hosts parts.old.groups parts.new.groups)
+            (untrusted_of H.obliging H.trusts H.refused_check parts.old.hosts parts.new.hosts) self.old e self.new) }
     {
         let Some(incoming) = self.reader.next(&mut self.opening)? else {
             return Ok(None);
         };
-        let delivers = match self.session.handle(parts, incoming)? {
-            Handled::Delivers => {
-                self.delivered.push(Payload::new(Vec::from_slice(self.alloc, incoming.payload)?))?;
-                true
-            }
-            Handled::Done => false,
-            Handled::Rekeys {
-                opening,
-                reset_seqn,
-            } => {
-                self.opening = opening;
-                self.reader.reset_bytes();
-                if reset_seqn {
-                    self.reader.reset_seqn();
-                }
-                false
-            }
+        let handled = self.session.handle(parts, incoming)?;
+        keep_payload(self.alloc, &mut self.delivered, &handled, incoming.payload)?;
+        Ok(Some(handled))
+    }
+
+    /// Handles the next packet, where one is whole: whether there was one.
+    #[tactic(auto, using(crate::proofs::Parts::agreement_same, crate::proofs::Parts::hosts_same, crate::proofs::Parts::groups_same))]
+    fn read_packet<A: Agreement, H: HostKeys, G: GroupLookup, R: Rng>(
+        &mut self,
+        parts: &mut Parts<A, H, G, R>,
+    ) -> Result<bool, Error>
+        requires live { IsLive self.old }
+        requires heard { IsHeard self.old.session.line }
+        ensures begins { CanBegin self.new.session }
+        ensures live { OnOk result (IsLive self.new) }
+        ensures shorter { IfOk result (λ read. IsTrue read → length self.new.reader.waiting < length self.old.reader.waiting) }
+        ensures reads { OnOk result (Reads (says_of A.lawful A.offered A.client_makes A.server_makes A.agrees H.lawful H.obliging H.accepts H.trusts
+            H.makes G.lawful G.group self.old.session.config.now parts.old.agreement parts.old.hosts parts.old.groups) self.old self.new) }
+        ensures part { result ≡ Ok false → WaitsInPart (reading_of self.new) self.new.reader.waiting }
+        ensures stops { IfErr result (λ e. Stops (says_of A.lawful A.offered A.client_makes A.server_makes A.agrees H.lawful H.obliging H.accepts H.trusts H.makes
+            G.lawful G.group self.old.session.config.now parts.old.agreement parts.old.hosts parts.old.groups)
+            (denies_of A.obliging A.offered A.client_makes A.server_makes A.refusals H.obliging H.accepts
+            H.refused_sign H.refused_verify G.obliging G.refusals parts.old.agreement parts.new.agreement parts.old.hosts parts.new.hosts parts.old.groups parts.new.groups)
+            (untrusted_of H.obliging H.trusts H.refused_check parts.old.hosts parts.new.hosts) self.old e self.new) }
+        ensures fixed { IsFixed self.old.session self.new.session }
+        ensures unfailed { self.new.failed ≡ self.old.failed }
+        ensures agreement { KeepsAgreement A.lawful A.obliging A.offered A.refusals A.calls parts.old.agreement parts.new.agreement }
+        ensures hosts { KeepsHosts H.lawful H.obliging H.accepts H.trusts H.refused_sign H.refused_verify H.refused_check H.calls parts.old.hosts parts.new.hosts }
+        ensures groups { KeepsGroups G.lawful G.obliging G.group G.refusals G.calls parts.old.groups parts.new.groups }
+    {
+        let Some(handled) = self.take_packet(parts)? else {
+            return Ok(false);
         };
+        self.take_up(handled);
         self.session.go_on(&mut parts.rng, self.reader.bytes())?;
-        Ok(Some(delivers))
+        Ok(true)
+    }
+
+    /// Takes up the key of what comes behind a packet that ended an exchange.
+    fn take_up(&mut self, handled: Handled)
+        ensures { TakesUp handled self.old self.new }
+    {
+        if let Handled::Rekeys {
+            opening,
+            reset_seqn,
+        } = handled
+        {
+            self.opening = opening;
+            self.reader.reset_bytes();
+            if reset_seqn {
+                self.reader.reset_seqn();
+            }
+        }
+    }
+}
+
+/// Keeps a payload that is to be handed up. Memory.
+fn keep_payload(
+    alloc: Global,
+    delivered: &mut Vec<Payload>,
+    handled: &Handled,
+    payload: &[u8],
+) -> Result<(), Error>
+    ensures kept { OnOk result (delivered.new.items ≡ delivered.old.items ++ kept_by handled.now payload.now) }
+    ensures same { OnErr result ((delivered.new.items ≡ delivered.old.items) × (handled.now ≡ Delivers)) }
+    ensures err { IfErr result (λ e. e ≡ Memory) }
+{
+    match handled {
+        Handled::Delivers => {
+            delivered.push(Payload::new(Vec::from_slice(alloc, payload)?))?;
+            Ok(())
+        }
+        Handled::Done | Handled::Rekeys { .. } => Ok(()),
     }
 }

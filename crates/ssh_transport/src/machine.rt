@@ -1,9 +1,11 @@
 //! The machine of an exchange, of either side.
 
-ghost use Rattle.std.specs.Prelude.{◌≡◌, ◌<◌, ◌^◌, [], IfErr, IfOk, OnErr, OnOk, length, is_some};
+ghost use Rattle.std.specs.Prelude.{◌≡◌, ◌<◌, ◌^◌, [], Some, IfErr, IfOk, OnErr, OnOk, length, is_some};
 ghost use Rattle.ssh_kex.specs.Parts.{KeepsAgreement, KeepsGroups, KeepsHosts};
 ghost use Rattle.ssh_kex.specs.Refusals.{IsCreated};
 ghost use Rattle.ssh_kex.specs.Stages.{Created, is_strict, names_of};
+ghost use Rattle.ssh_kex.specs.Stepping.{Progresses, PutsFront, RefusesStep, denies_of, says_of};
+ghost use Rattle.ssh_transport.specs.Machines.{has_dropped};
 ghost use Rattle.ssh_packet.specs.Sealing.{Item};
 ghost use Rattle.ssh_packet.specs.Writing.{SameButRoom};
 ghost use Rattle.ssh_transport.specs.Kexinits.{SendsKexinit, setting_between};
@@ -112,7 +114,9 @@ impl<'c> SessionKex<'c> {
     }
 
     /// Whether a server has dropped a wrong guess of its client.
-    pub(crate) fn guess_ignored(&self) -> bool {
+    pub(crate) fn guess_ignored(&self) -> bool
+        ensures { result ≡ has_dropped self.now.setting.side (names_of self.now.stage) }
+    {
         match &self.side {
             SideKex::Client(_) => false,
             SideKex::Server(kex) => kex.guess_ignored(),
@@ -130,6 +134,16 @@ impl<'c> SessionKex<'c> {
         ensures agreement { KeepsAgreement A.lawful A.obliging A.offered A.refusals A.calls parts.old.agreement parts.new.agreement }
         ensures hosts { KeepsHosts H.lawful H.obliging H.accepts H.trusts H.refused_sign H.refused_verify H.refused_check H.calls parts.old.hosts parts.new.hosts }
         ensures groups { KeepsGroups G.lawful G.obliging G.group G.refusals G.calls parts.old.groups parts.new.groups }
+        ensures goes { IfOk result (λ p. Progresses (says_of A.lawful A.offered A.client_makes A.server_makes A.agrees
+            H.lawful H.obliging H.accepts H.trusts H.makes G.lawful G.group self.entry.setting.config
+            parts.old.agreement parts.old.hosts parts.old.groups) self.entry (Some incoming.entry) output.old p output.new) }
+        ensures causes { IfErr result (λ e. RefusesStep (says_of A.lawful A.offered A.client_makes A.server_makes A.agrees
+            H.lawful H.obliging H.accepts H.trusts H.makes G.lawful G.group self.entry.setting.config
+            parts.old.agreement parts.old.hosts parts.old.groups)
+            (denies_of A.obliging A.offered A.client_makes A.server_makes A.refusals H.obliging H.accepts
+            H.refused_sign H.refused_verify G.obliging G.refusals parts.old.agreement parts.new.agreement parts.old.hosts parts.new.hosts parts.old.groups parts.new.groups)
+            self.entry (Some incoming.entry) e) }
+        ensures front { OnErr result (PutsFront self.entry.stage output.old output.new) }
     {
         match self.side {
             SideKex::Client(kex) => Ok(client_progress(kex.step(parts, Some(incoming), output)?)),

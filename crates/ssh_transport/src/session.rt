@@ -1,11 +1,20 @@
 //! What a side says: its version line, its messages of exchanges, the payloads that it seals or holds.
 
-ghost use Rattle.std.specs.Prelude.{◌≡◌, ◌<◌, ◌≤◌, ◌^◌, ◌||◌, ◌⊎◌, ℕ, nat_le, not, List, Some, Err, true, IfErr, IfOk, IfSome, OnErr, OnOk, length};
+ghost use Rattle.std.specs.Prelude.{◌≡◌, ◌<◌, ◌≤◌, ◌-◌, if◌then◌else◌, ◌^◌, ◌||◌, ◌&&◌, ◌⊎◌, ℕ, nat_le, not, List, Some, Ok, Err, true, false, IfErr, IfOk, IfSome, OnErr, OnOk, length, take};
+ghost use Rattle.ssh_rules.specs.MessageTypes.{is_payload_type};
+ghost use Rattle.ssh_transport.specs.Stopping.{IsDistrusted};
+ghost use Rattle.ssh_transport.specs.declared.session.Handled.TheVariants.{Delivers};
 ghost use Rattle.ssh_kex.specs.Parts.{KeepsAgreement, KeepsGroups, KeepsHosts};
-ghost use Rattle.ssh_rules.specs.Machine.{cause_of};
-ghost use Rattle.ssh_rules.specs.Standing.{is_outside};
+ghost use Rattle.ssh_kex.specs.Stepping.{denies_of, says_of};
+ghost use Rattle.ssh_packet.specs.Sealing.{next_number};
+ghost use Rattle.ssh_packet.specs.Stream.{message_type as message_type_of};
+ghost use Rattle.ssh_wire.specs.Orders.{is_kex};
+ghost use Rattle.ssh_rules.specs.Machine.{cause_of, is_violation, names_now};
+ghost use Rattle.ssh_rules.specs.Refusing.{untrusted_of};
+ghost use Rattle.ssh_rules.specs.Standing.{is_outside, lets_pass};
 ghost use Rattle.ssh_rules.specs.Valid.{config_fault, is_good_payload};
-ghost use Rattle.ssh_wire.specs.declared.error.Error.TheVariants.{InvalidConfig, Memory};
+ghost use Rattle.ssh_wire.specs.Sides.{other_side};
+ghost use Rattle.ssh_wire.specs.declared.error.Error.TheVariants.{Inconsistent, InvalidConfig, Memory, StrictKeyExchangeViolation, UnknownKey};
 ghost use Rattle.ssh_wire.specs.declared.error.ConfigFault.{ConfigFault};
 
 use crate::config::config_fault;
@@ -52,8 +61,11 @@ pub(crate) enum Handled {
 }
 
 impl<'c> Session<'c> {
-    ghost use Rattle.ssh_transport.specs.Saying.{AreGood, Begins, GoesOn, IsFixed, IsSettled, IsUnsaid, Opens};
+    ghost use Rattle.ssh_transport.specs.Handling.{Handles, Installs, IsBegun, IsFor, IsOpen, Moves, Passes, counts_guess, is_ordered, may_deliver_by};
+    ghost use Rattle.ssh_transport.specs.Saying.{AreGood, Begins, GoesOn, GoesPart, IsFixed, IsSettled, IsUnsaid, Opens};
+    ghost use Rattle.ssh_transport.specs.Hearing.{HearsLine};
     ghost use Rattle.ssh_transport.specs.States.{CanBegin, IsFresh, IsUnheard, WaitsBehind, is_silent, stands_of};
+    ghost use Rattle.ssh_transport.specs.Stopping.{Appends, BreaksAt, HearsNot, IsAsBefore, IsForNone, Refuses, RefusesMove};
     ghost use Rattle.ssh_transport.specs.Submitting.{Submits};
 
     /// A side that has sent its version line. InvalidConfig where the configuration may not be used; Memory.
@@ -105,9 +117,11 @@ impl<'c> Session<'c> {
         ensures behind { (waiting : List ℕ) → WaitsBehind self.old.line waiting → WaitsBehind self.new.line waiting }
         ensures heard { IfOk result (λ used. IfSome used (λ n. (waiting : List ℕ) → WaitsBehind self.new.line waiting)) }
         ensures fixed { IsFixed self.old self.new }
+        ensures opened { IsOpen self.old → OnOk result (IsOpen self.new) }
+        ensures line { IfOk result (λ used. HearsLine self.old piece.now used self.new) }
+        ensures unheard { IfErr result (λ e. HearsNot self.old piece.now e self.new) }
     {
-        let lets_pass = self.side == Side::Client;
-        match self.line.feed(piece, lets_pass)? {
+        match self.line.feed(piece, passes_others(self.side))? {
             IdProgress::NotYet => Ok(None),
             IdProgress::Id { used } => {
                 if self.is_first_due() {
@@ -173,6 +187,8 @@ impl<'c> Session<'c> {
         requires good { AreGood self.old.held.items }
         requires settled { IsSettled self.old read }
         requires payload { is_good_payload payload.now ≡ true }
+        requires opened { IsOpen self.old }
+        ensures opened { OnOk result (IsOpen self.new) }
         ensures sent { OnOk result (Submits self.old read payload.now self.new) }
         ensures fixed { IsFixed self.old self.new }
         ensures begins { CanBegin self.new }
@@ -193,7 +209,10 @@ impl<'c> Session<'c> {
         requires begins { CanBegin self.old }
         requires good { AreGood self.old.held.items }
         requires unheard { IsUnheard self.old }
+        requires opened { IsOpen self.old }
+        ensures opened { OnOk result (IsOpen self.new) }
         ensures ok { OnOk result (GoesOn self.old read self.new) }
+        ensures wanting { OnErr result (GoesPart self.old read self.new) }
         ensures fixed { IsFixed self.old self.new }
         ensures begins { CanBegin self.new }
         ensures line { self.new.line ≡ self.old.line }
@@ -230,6 +249,8 @@ impl<'c> Session<'c> {
         requires begins { CanBegin self.old }
         requires unheard { IsUnheard self.old }
         requires short { length incoming.payload.now < 2 ^ 31 }
+        requires opened { IsOpen self.old }
+        requires begun { IsBegun self.old }
         ensures begins { CanBegin self.new }
         ensures line { self.new.line ≡ self.old.line }
         ensures held { self.new.held ≡ self.old.held }
@@ -238,13 +259,33 @@ impl<'c> Session<'c> {
         ensures agreement { KeepsAgreement A.lawful A.obliging A.offered A.refusals A.calls parts.old.agreement parts.new.agreement }
         ensures hosts { KeepsHosts H.lawful H.obliging H.accepts H.trusts H.refused_sign H.refused_verify H.refused_check H.calls parts.old.hosts parts.new.hosts }
         ensures groups { KeepsGroups G.lawful G.obliging G.group G.refusals G.calls parts.old.groups parts.new.groups }
+        ensures handled { IfOk result (λ h. Handles (says_of A.lawful A.offered A.client_makes A.server_makes A.agrees H.lawful H.obliging H.accepts H.trusts H.makes
+            G.lawful G.group self.old.config.now parts.old.agreement parts.old.hosts parts.old.groups) self.old incoming.entry.seqn incoming.entry.payload.now h self.new) }
+        ensures refuses { IfErr result (λ e. Refuses (says_of A.lawful A.offered A.client_makes A.server_makes A.agrees H.lawful H.obliging H.accepts H.trusts H.makes
+            G.lawful G.group self.old.config.now parts.old.agreement parts.old.hosts parts.old.groups)
+            (denies_of A.obliging A.offered A.client_makes A.server_makes A.refusals H.obliging H.accepts
+            H.refused_sign H.refused_verify G.obliging G.refusals parts.old.agreement parts.new.agreement parts.old.hosts parts.new.hosts parts.old.groups parts.new.groups)
+            (untrusted_of H.obliging H.trusts H.refused_check parts.old.hosts parts.new.hosts) self.old incoming.entry.seqn incoming.entry.payload.now e) }
+        ensures rests { OnErr result (IsAsBefore self.old self.new) }
+        ensures delivers { result ≡ Ok Delivers → self.new ≡ self.old }
+        ensures opened { OnOk result (IsOpen self.new) }
     {
         let sent = self.writer.output().len();
-        let handled = self.treat(parts, incoming);
-        if handled.is_err() {
-            self.writer.buffer().buffer.truncate(sent);
+        match self.treat(parts, incoming) {
+            Ok(handled) => Ok(handled),
+            Err(error) => {
+                self.cut_output(sent);
+                Err(error)
+            }
         }
-        handled
+    }
+
+    /// Drops what was written behind so many bytes of output.
+    fn cut_output(&mut self, sent: usize)
+        ensures output { self.new.writer.output ≡ take sent self.old.writer.output }
+        ensures rest { self.new ≡ record self.old { writer = self.new.writer } }
+    {
+        self.writer.buffer().buffer.truncate(sent);
     }
 
     /// The same, where a refusal may have sent something.
@@ -257,6 +298,8 @@ impl<'c> Session<'c> {
         requires begins { CanBegin self.old }
         requires unheard { IsUnheard self.old }
         requires short { length incoming.payload.now < 2 ^ 31 }
+        requires opened { IsOpen self.old }
+        requires begun { IsBegun self.old }
         ensures begins { CanBegin self.new }
         ensures line { self.new.line ≡ self.old.line }
         ensures held { self.new.held ≡ self.old.held }
@@ -265,6 +308,16 @@ impl<'c> Session<'c> {
         ensures agreement { KeepsAgreement A.lawful A.obliging A.offered A.refusals A.calls parts.old.agreement parts.new.agreement }
         ensures hosts { KeepsHosts H.lawful H.obliging H.accepts H.trusts H.refused_sign H.refused_verify H.refused_check H.calls parts.old.hosts parts.new.hosts }
         ensures groups { KeepsGroups G.lawful G.obliging G.group G.refusals G.calls parts.old.groups parts.new.groups }
+        ensures handled { IfOk result (λ h. Handles (says_of A.lawful A.offered A.client_makes A.server_makes A.agrees H.lawful H.obliging H.accepts H.trusts H.makes
+            G.lawful G.group self.old.config.now parts.old.agreement parts.old.hosts parts.old.groups) self.old incoming.entry.seqn incoming.entry.payload.now h self.new) }
+        ensures refuses { IfErr result (λ e. Refuses (says_of A.lawful A.offered A.client_makes A.server_makes A.agrees H.lawful H.obliging H.accepts H.trusts H.makes
+            G.lawful G.group self.old.config.now parts.old.agreement parts.old.hosts parts.old.groups)
+            (denies_of A.obliging A.offered A.client_makes A.server_makes A.refusals H.obliging H.accepts
+            H.refused_sign H.refused_verify G.obliging G.refusals parts.old.agreement parts.new.agreement parts.old.hosts parts.new.hosts parts.old.groups parts.new.groups)
+            (untrusted_of H.obliging H.trusts H.refused_check parts.old.hosts parts.new.hosts) self.old incoming.entry.seqn incoming.entry.payload.now e) }
+        ensures appends { OnErr result (Appends self.old self.new) }
+        ensures delivers { result ≡ Ok Delivers → self.new ≡ self.old }
+        ensures opened { OnOk result (IsOpen self.new) }
     {
         let message_type = type_of(incoming.payload);
         if message_type == msg::DISCONNECT {
@@ -275,38 +328,63 @@ impl<'c> Session<'c> {
             return Ok(Handled::Done);
         }
         if is_kex_msg(message_type) {
-            let kex = self.take_kex(&mut parts.rng, message_type)?;
-            return self.step(kex, parts, incoming);
+            return self.take_message(parts, incoming, message_type);
         }
-        if is_payload(message_type) && self.may_deliver() {
+        if self.delivers(message_type) {
             return Ok(Handled::Delivers);
         }
         Err(Error::Inconsistent)
     }
 
+    /// Whether a message of this type is a payload that may come.
+    fn delivers(&self, message_type: u8) -> bool
+        requires { IsOpen self.now }
+        ensures { result ≡ (is_payload_type message_type && may_deliver_by self.now.finished.items (stands_of self.now.finished.items self.now.kex)) }
+    {
+        is_payload(message_type) && self.may_deliver()
+    }
+
     /// Under strict key exchange the first exchange has its messages in order and no other ones (OpenSSH's strict key
     /// exchange). StrictKeyExchangeViolation.
-    fn check_order(&self, message_type: u8, seqn: u32) -> Result<(), Error> {
-        let SessionKexState::InProgress(kex) = &self.kex else {
-            return Ok(());
-        };
-        if !self.finished.is_empty() || !kex.strict_kex() {
+    fn check_order(&self, message_type: u8, seqn: u32) -> Result<(), Error>
+        requires { IsOpen self.now }
+        ensures passes { OnOk result (Passes self.now seqn message_type) }
+        ensures breaks { IfErr result (λ e. BreaksAt self.now seqn message_type e) }
+    {
+        if !self.is_first_strict() {
             return Ok(());
         }
-        let number = seqn.wrapping_sub(1) as usize;
-        let place = if kex.guess_ignored() {
-            number.saturating_sub(1)
-        } else {
-            number
-        };
-        match self.side {
-            Side::Client => validate_server_msg_strict_kex(message_type, place),
-            Side::Server => validate_client_msg_strict_kex(message_type, place),
+        let place = order_place(seqn, self.has_dropped_guess());
+        check_place(self.side, message_type, place)
+    }
+
+    /// Whether the first exchange runs, under strict key exchange as far as the peer's KEXINIT was read.
+    fn is_first_strict(&self) -> bool
+        requires { IsOpen self.now }
+        ensures { result ≡ is_ordered self.now.finished.items (names_now (stands_of self.now.finished.items self.now.kex)) }
+    {
+        match &self.kex {
+            SessionKexState::InProgress(kex) => self.finished.is_empty() && kex.strict_kex(),
+            SessionKexState::Idle | SessionKexState::Taken => false,
+        }
+    }
+
+    /// Whether a server has dropped a wrong guess in the exchange that runs.
+    fn has_dropped_guess(&self) -> bool
+        requires { IsOpen self.now }
+        ensures { result ≡ counts_guess (names_now (stands_of self.now.finished.items self.now.kex)) }
+    {
+        match &self.kex {
+            SessionKexState::InProgress(kex) => kex.guess_ignored(),
+            SessionKexState::Idle | SessionKexState::Taken => false,
         }
     }
 
     /// Whether payloads may come: outside an exchange, or in a later one before the peer's KEXINIT.
-    fn may_deliver(&self) -> bool {
+    fn may_deliver(&self) -> bool
+        requires { IsOpen self.now }
+        ensures { result ≡ may_deliver_by self.now.finished.items (stands_of self.now.finished.items self.now.kex) }
+    {
         match &self.kex {
             SessionKexState::Idle => !self.finished.is_empty(),
             SessionKexState::InProgress(kex) => {
@@ -320,6 +398,9 @@ impl<'c> Session<'c> {
     /// is begun for it. Inconsistent where there is none; Memory.
     fn take_kex<R: Rng>(&mut self, rng: &mut R, message_type: u8) -> Result<SessionKex<'c>, Error>
         requires { CanBegin self.old }
+        ensures taken { IfOk result (λ k. IsFor self.old k self.new) }
+        ensures refused { IfErr result (λ e. (e ≡ Memory) ⊎ ((e ≡ Inconsistent) × IsForNone self.old message_type)) }
+        ensures rests { OnErr result (IsAsBefore self.old self.new) }
         ensures begins { CanBegin self.new }
         ensures line { self.new.line ≡ self.old.line }
         ensures held { self.new.held ≡ self.old.held }
@@ -332,6 +413,44 @@ impl<'c> Session<'c> {
             SessionKexState::InProgress(kex) => Ok(kex),
             SessionKexState::Idle | SessionKexState::Taken => Err(Error::Inconsistent),
         }
+    }
+
+    /// Takes a message of an exchange.
+    #[tactic(auto, using(crate::proofs::Parts::agreement_same, crate::proofs::Parts::hosts_same, crate::proofs::Parts::groups_same))]
+    fn take_message<A: Agreement, H: HostKeys, G: GroupLookup, R: Rng>(
+        &mut self,
+        parts: &mut Parts<A, H, G, R>,
+        incoming: Incoming<'_>,
+        message_type: u8,
+    ) -> Result<Handled, Error>
+        requires begins { CanBegin self.old }
+        requires short { length incoming.payload.now < 2 ^ 31 }
+        requires opened { IsOpen self.old }
+        requires begun { IsBegun self.old }
+        requires kind { message_type ≡ message_type_of incoming.payload.now }
+        requires kex { is_kex message_type ≡ true }
+        requires passes { Passes self.old incoming.seqn message_type }
+        ensures begins { CanBegin self.new }
+        ensures line { self.new.line ≡ self.old.line }
+        ensures held { self.new.held ≡ self.old.held }
+        ensures unheard { OnOk result (IsUnheard self.new) }
+        ensures fixed { IsFixed self.old self.new }
+        ensures agreement { KeepsAgreement A.lawful A.obliging A.offered A.refusals A.calls parts.old.agreement parts.new.agreement }
+        ensures hosts { KeepsHosts H.lawful H.obliging H.accepts H.trusts H.refused_sign H.refused_verify H.refused_check H.calls parts.old.hosts parts.new.hosts }
+        ensures groups { KeepsGroups G.lawful G.obliging G.group G.refusals G.calls parts.old.groups parts.new.groups }
+        ensures handled { IfOk result (λ h. Handles (says_of A.lawful A.offered A.client_makes A.server_makes A.agrees H.lawful H.obliging H.accepts H.trusts H.makes
+            G.lawful G.group self.old.config.now parts.old.agreement parts.old.hosts parts.old.groups) self.old incoming.entry.seqn incoming.entry.payload.now h self.new) }
+        ensures refuses { IfErr result (λ e. Refuses (says_of A.lawful A.offered A.client_makes A.server_makes A.agrees H.lawful H.obliging H.accepts H.trusts H.makes
+            G.lawful G.group self.old.config.now parts.old.agreement parts.old.hosts parts.old.groups)
+            (denies_of A.obliging A.offered A.client_makes A.server_makes A.refusals H.obliging H.accepts
+            H.refused_sign H.refused_verify G.obliging G.refusals parts.old.agreement parts.new.agreement parts.old.hosts parts.new.hosts parts.old.groups parts.new.groups)
+            (untrusted_of H.obliging H.trusts H.refused_check parts.old.hosts parts.new.hosts) self.old incoming.entry.seqn incoming.entry.payload.now e) }
+        ensures appends { OnErr result (Appends self.old self.new) }
+        ensures takes { result ≡ Ok Delivers → ⊥ }
+        ensures opened { OnOk result (IsOpen self.new) }
+    {
+        let kex = self.take_kex(&mut parts.rng, message_type)?;
+        self.step(kex, parts, incoming)
     }
 
     /// Hands a message to the machine. What the machine refuses; UnknownKey; Memory.
@@ -352,6 +471,15 @@ impl<'c> Session<'c> {
         ensures agreement { KeepsAgreement A.lawful A.obliging A.offered A.refusals A.calls parts.old.agreement parts.new.agreement }
         ensures hosts { KeepsHosts H.lawful H.obliging H.accepts H.trusts H.refused_sign H.refused_verify H.refused_check H.calls parts.old.hosts parts.new.hosts }
         ensures groups { KeepsGroups G.lawful G.obliging G.group G.refusals G.calls parts.old.groups parts.new.groups }
+        ensures moves { IfOk result (λ h. Moves (says_of A.lawful A.offered A.client_makes A.server_makes A.agrees
+            H.lawful H.obliging H.accepts H.trusts H.makes G.lawful G.group kex.entry.setting.config
+            parts.old.agreement parts.old.hosts parts.old.groups) self.old kex.entry incoming.entry h self.new) }
+        ensures refuses { IfErr result (λ e. RefusesMove (says_of A.lawful A.offered A.client_makes A.server_makes A.agrees H.lawful H.obliging H.accepts H.trusts H.makes
+            G.lawful G.group kex.entry.setting.config parts.old.agreement parts.old.hosts parts.old.groups)
+            (denies_of A.obliging A.offered A.client_makes A.server_makes A.refusals H.obliging H.accepts
+            H.refused_sign H.refused_verify G.obliging G.refusals parts.old.agreement parts.new.agreement parts.old.hosts parts.new.hosts parts.old.groups parts.new.groups)
+            (untrusted_of H.obliging H.trusts H.refused_check parts.old.hosts parts.new.hosts) kex.entry incoming.entry e) }
+        ensures appends { OnErr result (Appends self.old self.new) }
     {
         match kex.step(parts, incoming, &mut self.writer)? {
             KexProgress::NeedsReply { kex, reset_seqn } => {
@@ -364,11 +492,31 @@ impl<'c> Session<'c> {
             KexProgress::Done {
                 server_host,
                 newkeys,
-            } => {
-                check_host(self.alloc, &mut parts.hosts, server_host)?;
-                self.finish(newkeys)
-            }
+            } => self.end_exchange(&mut parts.hosts, server_host, newkeys),
         }
+    }
+
+    /// Ends an exchange whose host is trusted. UnknownKey where it isn't; Memory.
+    fn end_exchange<H: HostKeys>(
+        &mut self,
+        hosts: &mut H,
+        host: Option<ServerHost>,
+        newkeys: NewKeys,
+    ) -> Result<Handled, Error>
+        requires { CanBegin self.old }
+        ensures begins { CanBegin self.new }
+        ensures line { self.new.line ≡ self.old.line }
+        ensures held { self.new.held ≡ self.old.held }
+        ensures unheard { OnOk result (IsUnheard self.new) }
+        ensures fixed { IsFixed self.old self.new }
+        ensures keeps { KeepsHosts H.lawful H.obliging H.accepts H.trusts H.refused_sign H.refused_verify H.refused_check H.calls hosts.old hosts.new }
+        ensures trusted { OnOk result (IfSome host (λ h. H.trusts hosts.old h ≡ true)) }
+        ensures installs { IfOk result (λ h. Installs self.old newkeys h self.new) }
+        ensures refused { IfErr result (λ e. (e ≡ Memory) ⊎ ((e ≡ UnknownKey) × IsDistrusted (untrusted_of H.obliging H.trusts H.refused_check hosts.old hosts.new) host)) }
+        ensures rests { OnErr result (IsAsBefore self.old self.new) }
+    {
+        check_host(self.alloc, hosts, host)?;
+        self.finish(newkeys)
     }
 
     /// Records an exchange, and goes on under its keys. Memory.
@@ -379,6 +527,9 @@ impl<'c> Session<'c> {
         ensures held { self.new.held ≡ self.old.held }
         ensures unheard { OnOk result (IsUnheard self.new) }
         ensures fixed { IsFixed self.old self.new }
+        ensures installs { IfOk result (λ h. Installs self.old newkeys h self.new) }
+        ensures err { IfErr result (λ e. e ≡ Memory) }
+        ensures rests { OnErr result (IsAsBefore self.old self.new) }
     {
         let NewKeys {
             names,
@@ -403,6 +554,39 @@ impl<'c> Session<'c> {
     }
 }
 
+/// Whether other lines may stand before the peer's version line (RFC 4253 section 4.2).
+fn passes_others(side: Side) -> bool
+    ensures { result ≡ lets_pass side }
+{
+    match side {
+        Side::Client => true,
+        Side::Server => false,
+    }
+}
+
+/// The place of the packet whose number plus one is given, without a dropped guess before it.
+fn order_place(seqn: u32, dropped: bool) -> usize
+    ensures { (number : ℕ) → number < 2 ^ 32 → seqn ≡ next_number number → result ≡ number - (if dropped then 1 else 0) }
+{
+    let number = seqn.wrapping_sub(1) as usize;
+    if dropped {
+        number.saturating_sub(1)
+    } else {
+        number
+    }
+}
+
+/// A message of the other side in its place. StrictKeyExchangeViolation.
+fn check_place(side: Side, message_type: u8, place: usize) -> Result<(), Error>
+    ensures ok { OnOk result (is_violation (other_side side) message_type place ≡ false) }
+    ensures err { IfErr result (λ e. (is_violation (other_side side) message_type place ≡ true) × (e ≡ StrictKeyExchangeViolation message_type place)) }
+{
+    match side {
+        Side::Client => validate_server_msg_strict_kex(message_type, place),
+        Side::Server => validate_client_msg_strict_kex(message_type, place),
+    }
+}
+
 /// Asks a client's host keys whether the server's host is trusted. UnknownKey where it isn't; Memory.
 #[tactic(auto, using(crate::proofs::Parts::hosts_same))]
 fn check_host<H: HostKeys>(
@@ -410,7 +594,9 @@ fn check_host<H: HostKeys>(
     hosts: &mut H,
     host: Option<ServerHost>,
 ) -> Result<(), Error>
-    ensures { KeepsHosts H.lawful H.obliging H.accepts H.trusts H.refused_sign H.refused_verify H.refused_check H.calls hosts.old hosts.new }
+    ensures keeps { KeepsHosts H.lawful H.obliging H.accepts H.trusts H.refused_sign H.refused_verify H.refused_check H.calls hosts.old hosts.new }
+    ensures trusted { OnOk result (IfSome host (λ h. H.trusts hosts.old h ≡ true)) }
+    ensures refused { IfErr result (λ e. (e ≡ Memory) ⊎ ((e ≡ UnknownKey) × IsDistrusted (untrusted_of H.obliging H.trusts H.refused_check hosts.old hosts.new) host)) }
 {
     let Some(host) = host else {
         return Ok(());

@@ -3,7 +3,8 @@
 ghost use Rattle.std.specs.Prelude.{◌≡◌, ◌⊎◌, ◌≤◌, ◌-◌, true, false, [], drop, length, not, IfErr, IfOk, IfSome, IsTrue, OnErr, OnOk, Ok, Err, Some};
 ghost use Rattle.std.specs.List.{slice_get};
 ghost use Rattle.ssh_kex.specs.Parts.{KeepsAgreement, KeepsGroups, KeepsHosts};
-ghost use Rattle.ssh_kex.specs.Stepping.{says_of};
+ghost use Rattle.ssh_kex.specs.Stepping.{denies_of, says_of};
+ghost use Rattle.ssh_rules.specs.Refusing.{RefusesPiece, untrusted_of};
 ghost use Rattle.ssh_packet.specs.Stream.{message_type};
 ghost use Rattle.ssh_rules.specs.MessageTypes.{is_payload_type};
 ghost use Rattle.ssh_rules.specs.Valid.{config_fault, is_bad_size, is_good_payload};
@@ -38,7 +39,7 @@ impl<'c> Model for Transport<'c> {
 }
 
 impl<'c> Transport<'c> {
-    ghost use Rattle.ssh_rules.specs.Standing.{IsNew, Rekeyed, Submitted, is_outside, unfinished};
+    ghost use Rattle.ssh_rules.specs.Standing.{IsNew, Rekeyed, Submitted, TakesInput, is_outside, unfinished};
     ghost use Rattle.ssh_transport.specs.Submitting.{Breaks};
 
     /// A client that has written its version line. InvalidConfig names the first test that refuses its configuration:
@@ -89,6 +90,12 @@ impl<'c> Transport<'c> {
         ensures stays { (self.new.side ≡ self.old.side) × (self.new.config ≡ self.old.config) }
         ensures lives { self.old.failed ≡ false → OnOk result (self.new.failed ≡ false) }
         ensures ends { self.old.failed ≡ false → OnErr result ((self.new.failed ≡ true) × (unfinished self.new ≡ [])) }
+        ensures fed { OnOk result (TakesInput (says_of A.lawful A.offered A.client_makes A.server_makes A.agrees H.lawful H.obliging H.accepts H.trusts H.makes G.lawful G.group self.old.config parts.old.agreement parts.old.hosts parts.old.groups) self.old piece.now self.new) }
+        ensures refused { self.old.failed ≡ false → IfErr result (λ e. RefusesPiece (says_of A.lawful A.offered A.client_makes A.server_makes A.agrees
+            H.lawful H.obliging H.accepts H.trusts H.makes G.lawful G.group self.old.config parts.old.agreement parts.old.hosts parts.old.groups)
+            (denies_of A.obliging A.offered A.client_makes A.server_makes A.refusals H.obliging H.accepts H.refused_sign H.refused_verify
+            G.obliging G.refusals parts.old.agreement parts.new.agreement parts.old.hosts parts.new.hosts parts.old.groups parts.new.groups)
+            (untrusted_of H.obliging H.trusts H.refused_check parts.old.hosts parts.new.hosts) self.old piece.now e self.new) }
         ensures agreement { KeepsAgreement A.lawful A.obliging A.offered A.refusals A.calls parts.old.agreement parts.new.agreement }
         ensures hosts { KeepsHosts H.lawful H.obliging H.accepts H.trusts H.refused_sign H.refused_verify H.refused_check H.calls parts.old.hosts parts.new.hosts }
         ensures groups { KeepsGroups G.lawful G.obliging G.group G.refusals G.calls parts.old.groups parts.new.groups }
@@ -141,6 +148,18 @@ impl<'c> Transport<'c> {
         ensures { result.now ≡ self.now.output }
     {
         self.connection.session.writer.output()
+    }
+
+    /// The output itself, from the front on, of a transport that is done with: nothing is copied.
+    pub fn into_output(self) -> Vec<u8>
+        ensures { result.items ≡ self.entry.output }
+    {
+        let mut connection = self.connection;
+        let alloc = connection.alloc;
+        mem::replace(
+            &mut connection.session.writer.buffer().buffer,
+            Vec::new(alloc),
+        )
     }
 
     /// Drops the first n bytes of the output, once they are sent.

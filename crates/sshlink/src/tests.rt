@@ -9,7 +9,7 @@ use std::io::{Cursor, Write};
 use std::test::Fail;
 
 /// The words, the calls at which source and sink fail, the sink's room, the status, and what is written.
-const FAULTS: [(&str, &[u64], &[u64], usize, u8, &str); 13] = [
+const FAULTS: [(&str, &[u64], &[u64], usize, u8, &str); 15] = [
     ("attack", &[1], &[], 64, 2, "usage\n"),
     ("hop", &[], &[1], 64, 5, ""),
     ("hop", &[], &[], 4, 5, "usag"),
@@ -25,6 +25,15 @@ const FAULTS: [(&str, &[u64], &[u64], usize, u8, &str); 13] = [
         0,
         "client wire 5353482d322e302d7373686c696e6b5f636c69656e740d0a\nclient taken 1\nclient finished 0\nserver wire 5353482d322e302d7373686c696e6b5f7365727665720d0a\nserver taken 0\nserver finished 0\n",
     ),
+    (
+        "gen 1 0",
+        &[1],
+        &[],
+        128,
+        0,
+        "steps 1\nclient sent 856 finished 1 delivered 0 bytes 0\nserver sent 840 finished 1 delivered 0 bytes 0\n",
+    ),
+    ("gen 1 0", &[], &[1], 64, 5, ""),
     ("clear", &[1], &[], 64, 4, ""),
     ("clear", &[2], &[], 64, 4, ""),
     ("clear", &[], &[1], 64, 5, ""),
@@ -39,24 +48,26 @@ const FAULTS: [(&str, &[u64], &[u64], usize, u8, &str); 13] = [
     ),
 ];
 
-/// A list of one word.
-fn one_word(alloc: Global, text: &str) -> Result<Vec<Word>, AllocError> {
+/// The words of a text, between single spaces.
+fn words_in(alloc: Global, text: &str) -> Result<Vec<Word>, AllocError> {
     let mut words = Vec::new(alloc);
-    words.push(Word::new(String::from_str(alloc, text)?))?;
+    for word in text.split(' ') {
+        words.push(Word::new(String::from_str(alloc, word)?))?;
+    }
     Ok(words)
 }
 
 #[test]
 fn faults_answered(rt: HostRuntime) -> Result<(), Fail> {
     let alloc = rt.alloc();
-    for (word, source_fails, sink_fails, room, status, text) in FAULTS {
-        let words = one_word(alloc, word)?;
+    for (call, source_fails, sink_fails, room, status, text) in FAULTS {
+        let words = words_in(alloc, call)?;
         let script = Vec::from_slice(alloc, b"deliver client 1\n")?;
         let mut source = MemorySource::new(script, Vec::from_slice(alloc, source_fails)?);
         let mut sink = MemorySink::new(alloc, Vec::from_slice(alloc, sink_fails)?, room)?;
         let end = link_main(alloc, words.as_slice(), &mut source, &mut sink);
-        assert_eq!(rt; end.status, status, "{word}, {status}");
-        assert_eq!(rt; sink.held(), text.as_bytes(), "{word}, {status}");
+        assert_eq!(rt; end.status, status, "{call}, {status}");
+        assert_eq!(rt; sink.held(), text.as_bytes(), "{call}, {status}");
     }
     Ok(())
 }

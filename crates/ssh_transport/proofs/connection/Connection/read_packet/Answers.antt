@@ -1,14 +1,42 @@
-use Rattle.std.proofs.Common.{ℕ, sym, subst}
-use Rattle.ssh_packet.specs.Sealing.{Clear}
+use Rattle.std.proofs.Common.{ℕ, Ok, Option, ap, ◌∙◌, subst, sym}
+use Rattle.ssh_transport.specs.Handling.{IsHeard}
+use Rattle.ssh_transport.specs.Kept.{IsLive}
 use Rattle.ssh_transport.specs.Saying.{IsSettled}
-use Rattle.ssh_transport.proofs.Reading.{none_count}
+use Rattle.ssh_transport.specs.declared.connection.Connection.{Connection}
+use Rattle.ssh_transport.specs.declared.session.Handled.{Handled}
+use Rattle.std.proofs.lemmas.Result.{err_from_is_err_and}
+use Rattle.ssh_transport.proofs.Refusing.{from_err}
+use Rattle.ssh_transport.proofs.Stopping.{stops_wanting}
+use Rattle.ssh_transport.proofs.Opened.{heeds_heard, short_heard}
+use Rattle.ssh_transport.proofs.Taking.{behind_line, numbered_up, reads_same, reads_taken, some_is}
 use Rattle.ssh_transport.proofs.connection.Connection.read_packet.Goals as goal
 
-pub returns-in_default-clause-settled : goal.returns-in_default-clause-settled
-returns-in_default-clause-settled g c = subst (λ (n : ℕ). IsSettled c.args.self.now.session n) (sym (none_count c.args.self.now.reader _ _ _ c.next.result _ c.next.follows.holds-at-none c.in_ok-incoming.was c.in_default.is)) c.requires.settled
+pub returns-clause-live : goal.returns-clause-live
+returns-clause-live g c =
+    let line = c.go_on.ensures.line ∙ ap (λ (x : Connection). x.session.line) c.take_up.ensures.rest ∙ c.take_packet.ensures.line in
+    let heard : IsHeard c.go_on.new.self.line = subst IsHeard (sym line) c.requires.heard in
+    record {
+      begins = c.go_on.ensures.begins;
+      behind = behind_line c.go_on.new.self.line c.take_up.new.self.reader.waiting heard;
+      settled = subst (λ (n : ℕ). IsSettled c.go_on.new.self n) c.bytes.ensures c.in_ok-go_on.ensures.ok.settled;
+      good = c.in_ok-go_on.ensures.ok.writes.good;
+      opened = c.in_ok-go_on.ensures.opened;
+      numbered = numbered_up _ c.args.self.now c.take_packet.new.self c.take_up.new.self c.in-Some.handled (some_is c.in_ok-handled.field-0 c.in-Some.handled _ c.in_ok-handled.ensures.took c.in-Some.is) c.take_up.ensures;
+      short = short_heard c.go_on.new.self.line heard;
+      heeds = heeds_heard c.go_on.new.self.line heard;
+      unbroken = c.take_up.ensures.failed ∙ (some_is c.in_ok-handled.field-0 c.in-Some.handled _ c.in_ok-handled.ensures.took c.in-Some.is).unbroken;
+    }
 
-pub handle-requires-clause-unheard : goal.handle-requires-clause-unheard
-handle-requires-clause-unheard g c = λ e. (c.requires.settled (record { sealing = Clear; number = 0 })).silent e
+pub returns-clause-reads : goal.returns-clause-reads
+returns-clause-reads g c = reads_taken _ c.args.self.now c.take_packet.new.self c.take_up.new.self c.go_on.new.self c.bytes.result c.in-Some.handled c.requires.live (some_is c.in_ok-handled.field-0 c.in-Some.handled _ c.in_ok-handled.ensures.took c.in-Some.is) c.take_packet.ensures.fixed c.take_packet.ensures.line c.take_up.ensures c.bytes.ensures c.in_ok-go_on.ensures.ok
 
-pub returns-clause-settled : goal.returns-clause-settled
-returns-clause-settled g c = subst (λ (n : ℕ). IsSettled c.go_on.new.self n) c.bytes.ensures c.in_ok-go_on.ensures.ok.settled
+pub returns-in_default-clause-live : goal.returns-in_default-clause-live
+returns-in_default-clause-live g c = subst IsLive (sym (c.take_packet.ensures.none (c.in_ok-handled.was ∙ ap (λ (o : Option Handled). Ok o) c.in_default.is)).0) c.requires.live
+
+pub returns-in_default-clause-reads : goal.returns-in_default-clause-reads
+returns-in_default-clause-reads g c = reads_same _ c.args.self.now _ (c.take_packet.ensures.none (c.in_ok-handled.was ∙ ap (λ (o : Option Handled). Ok o) c.in_default.is)).0
+
+pub returns-in_err-go_on-clause-stops : goal.returns-in_err-go_on-clause-stops
+returns-in_err-go_on-clause-stops g c =
+    let p = err_from_is_err_and c.from_residual-in_err-go_on.result c.from_residual-in_err-go_on.ensures.1 in
+    from_err c.from_residual-in_err-go_on.result _ c.in_err-go_on.field-0.0 p.0 p.1 p.2 (stops_wanting _ _ _ c.args.self.now c.take_packet.new.self c.take_up.new.self c.go_on.new.self c.bytes.result c.in-Some.handled c.in_err-go_on.field-0.0 c.requires.live (some_is c.in_ok-handled.field-0 c.in-Some.handled _ c.in_ok-handled.ensures.took c.in-Some.is) c.take_packet.ensures.fixed c.take_packet.ensures.line c.take_up.ensures c.bytes.ensures c.in_err-go_on.ensures.wanting c.in_err-go_on.ensures.err)

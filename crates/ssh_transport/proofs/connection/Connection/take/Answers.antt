@@ -1,30 +1,29 @@
-use Rattle.std.proofs.Common.{ℕ, List, refl, sym, ap, subst}
-use Rattle.ssh_transport.proofs.Parts.{agreement_same, hosts_same, groups_same}
-use Rattle.ssh_packet.specs.Reading.{Reader}
-use Rattle.ssh_transport.specs.Saying.{AreGood, IsSettled}
-use Rattle.ssh_transport.specs.States.{WaitsBehind}
-use Rattle.ssh_transport.specs.declared.connection.Connection.{Connection}
-use Rattle.ssh_transport.proofs.Reading.{some_of}
+use Rattle.std.proofs.Common.{Bool, Ok, ap, ◌∙◌}
+use Rattle.ssh_kex.specs.Stepping.{says_of}
+use Rattle.ssh_kex.specs.declared.config.Config.{Config}
+use Rattle.std.proofs.lemmas.Result.{err_from_is_err_and}
+use Rattle.ssh_transport.proofs.Failing.{fails_heard, fails_read}
+use Rattle.ssh_transport.proofs.Refusing.{from_err, if_err}
+use Rattle.ssh_transport.proofs.Inputs.{takes_none, takes_read}
 use Rattle.ssh_transport.proofs.connection.Connection.take.Goals as goal
-use Rattle.ssh_transport.proofs.connection.Connection.take.Goals.{in-Some+in_ok-push+in_ok-read_payload+else-branch, in_default}
 
-pub payloads-init : goal.payloads-init
-payloads-init g c = record {
-  live = record {
-    begins = c.hear.ensures.begins;
-    behind = some_of c.in_ok-used.field-0 c.in-Some.used ((waiting : List ℕ) → WaitsBehind c.hear.new.self.line waiting) c.in-Some.is c.in_ok-used.ensures.heard c.push.new.self.waiting;
-    settled = subst (λ (n : ℕ). IsSettled c.hear.new.self n) (sym (ap (λ (r : Reader). r.count) c.in_ok-push.ensures.ok)) (c.in_ok-used.ensures.settled c.args.self.now.reader.count c.requires.settled);
-    good = rw c.hear.ensures.held c.requires.good;
-  };
-  fixed = c.hear.ensures.fixed;
-  unfailed = refl;
-  agreement = agreement_same _ _ _ _ _ _;
-  hosts = hosts_same _ _ _ _ _ _ _ _ _;
-  groups = groups_same _ _ _ _ _ _;
-}
+pub returns-then-is_heard-clause-took : goal.returns-then-is_heard-clause-took
+returns-then-is_heard-clause-took g c = takes_read
+    (λ (x : Config). says_of g.A.Agreement.lawful g.A.Agreement.offered g.A.Agreement.client_makes g.A.Agreement.server_makes g.A.Agreement.agrees g.H.HostKeys.lawful g.H.HostKeys.obliging g.H.HostKeys.accepts g.H.HostKeys.trusts g.H.HostKeys.makes g.G.GroupLookup.lawful g.G.GroupLookup.group x c.args.parts.now.agreement c.args.parts.now.hosts c.args.parts.now.groups)
+    c.args.self.now c.hear.new.self c.read_packets.new.self c.args.piece.now c.read_packets.result c.in_ok-is_heard.ensures.heard
+    (c.hear.ensures.whole (c.in_ok-is_heard.was ∙ ap (λ (b : Bool). Ok b) c.if-is_heard.true)) c.read_packets.ensures.reads c.read_packets.ensures.part
 
-pub returns-clause-settled : goal.returns-clause-settled
-returns-clause-settled g c = elim c.match-branch-2.branch [
-  | in-Some+in_ok-push+in_ok-read_payload+else-branch w ↦ subst (λ (x : Connection). IsSettled x.session x.reader.count) (sym w.self-is) w.in_ok-read_payload.ensures.settled
-  | in_default w ↦ subst (λ (x : Connection). IsSettled x.session x.reader.count) (sym w.self-is) (c.in_ok-used.ensures.settled c.args.self.now.reader.count c.requires.settled)
-]
+pub returns-clause-took : goal.returns-clause-took
+returns-clause-took g c = takes_none _ c.args.self.now c.hear.new.self c.args.piece.now c.in_ok-is_heard.ensures.heard
+    (c.hear.ensures.part (c.in_ok-is_heard.was ∙ ap (λ (b : Bool). Ok b) c.if-is_heard.false))
+
+pub returns-in_err-is_heard-clause-fails : goal.returns-in_err-is_heard-clause-fails
+returns-in_err-is_heard-clause-fails g c =
+    let p = err_from_is_err_and c.from_residual.result c.from_residual.ensures.1 in
+    from_err c.from_residual.result _ c.in_err-is_heard.field-0.0 p.0 p.1 p.2 (fails_heard _ _ _ c.args.self.now c.hear.new.self c.args.piece.now c.in_err-is_heard.field-0.0 c.requires c.in_err-is_heard.ensures.fails)
+
+pub returns-then-is_heard-clause-fails : goal.returns-then-is_heard-clause-fails
+returns-then-is_heard-clause-fails g c = if_err c.read_packets.result _ _ (λ e h. fails_read
+    (λ (x : Config). says_of g.A.Agreement.lawful g.A.Agreement.offered g.A.Agreement.client_makes g.A.Agreement.server_makes g.A.Agreement.agrees g.H.HostKeys.lawful g.H.HostKeys.obliging g.H.HostKeys.accepts g.H.HostKeys.trusts g.H.HostKeys.makes g.G.GroupLookup.lawful g.G.GroupLookup.group x c.args.parts.now.agreement c.args.parts.now.hosts c.args.parts.now.groups) _ _
+    c.args.self.now c.hear.new.self c.read_packets.new.self c.args.piece.now e c.in_ok-is_heard.ensures.heard
+    (c.hear.ensures.whole (c.in_ok-is_heard.was ∙ ap (λ (b : Bool). Ok b) c.if-is_heard.true)) h) c.read_packets.ensures.stops

@@ -1,14 +1,26 @@
-use Rattle.std.proofs.Common.{refl}
-use Rattle.ssh_transport.proofs.Saying.{goes_on_begun, on_ok, sends_first}
+use Rattle.std.proofs.Common.{ap, refl}
+use Rattle.ssh_packet.specs.Writing.{Writer}
+use Rattle.ssh_transport.proofs.Saying.{begins_part, flipped, goes_on_begun, goes_part, on_err, on_ok, outside_is, sends_first}
+use Rattle.ssh_transport.proofs.Opened.{heard_outside, open_begun}
 use Rattle.ssh_transport.proofs.session.Session.go_on.Goals as goal
 
 pub returns-then-is_at_limit-clause-ok : goal.returns-then-is_at_limit-clause-ok
 returns-then-is_at_limit-clause-ok g c = on_ok c.begin.result _ _ (λ b. goes_on_begun c.args.self.now c.held.self c.begin.new.self c.args.read c.is_inside.result c.is_at_limit.result c.is_inside.ensures c.held-test.true c.is_at_limit.ensures c.if-is_at_limit.true c.held.invariant.written b) c.begin.ensures.begun
+
+pub returns-then-is_at_limit-clause-opened : goal.returns-then-is_at_limit-clause-opened
+returns-then-is_at_limit-clause-opened g c = on_ok c.begin.result _ _ (λ b. open_begun c.held.self c.begin.new.self (heard_outside c.held.self (outside_is _ (flipped c.is_inside.result _ c.is_inside.ensures c.held-test.true)) c.held.invariant.opened) b) c.begin.ensures.begun
 
 pub held-preserved : goal.held-preserved
 held-preserved g c = record {
   begins = record { valid = c.held.invariant.begins.valid; short = c.held.invariant.begins.short };
   line = c.held.invariant.line;
   unheard = c.held.invariant.unheard;
+  opened = record { machine = c.held.invariant.opened.machine; heard = c.held.invariant.opened.heard };
   written = sends_first c.args.self.now c.held.self _ c.args.read c.is_inside.result c.is_at_limit.result c.in-Some.payload c.as_slice.result.now _ c.is_inside.ensures c.held-test.true c.is_at_limit.ensures c.if-is_at_limit.false c.held.invariant.written c.in-Some.ensures.items c.as_slice.ensures c.in_ok-packet_raw.ensures.sent c.in_ok-packet_raw.ensures.admissible c.in_ok-packet_raw.ensures.padded refl;
 }
+
+pub returns-then-is_at_limit-clause-wanting : goal.returns-then-is_at_limit-clause-wanting
+returns-then-is_at_limit-clause-wanting g c = begins_part c.args.self.now c.held.self c.begin.new.self c.args.read c.begin.result c.held.invariant.written c.begin.ensures.unsaid
+
+pub returns-in_err-packet_raw-clause-wanting : goal.returns-in_err-packet_raw-clause-wanting
+returns-in_err-packet_raw-clause-wanting g c = on_err _ _ (goes_part c.args.self.now c.held.self _ c.args.read c.held.invariant.written (ap (λ (w : Writer). w.output) c.in_err-packet_raw.ensures.unchanged) refl)

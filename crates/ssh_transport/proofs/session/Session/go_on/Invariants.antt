@@ -1,6 +1,7 @@
 use Rattle.std.proofs.Common.{◌≡◌, List}
 use Rattle.std.specs.VecDeque.{deque_len}
 use Rattle.ssh_rules.specs.Machine.{Event}
+use Rattle.ssh_transport.specs.Handling.{IsOpen}
 use Rattle.ssh_transport.specs.Saying.{Writes}
 use Rattle.ssh_transport.specs.States.{CanBegin, IsUnheard}
 use Rattle.ssh_transport.proofs.session.Session.go_on.Given as goal
@@ -10,6 +11,7 @@ invariant-held g l = record {
   begins : CanBegin l.self;
   line : l.self.line ≡ l.fn.self.line;
   unheard : IsUnheard l.self;
+  opened : IsOpen l.self;
   written : (events : List Event) × Writes l.fn.self l.read events l.self;
 }
 

@@ -1,6 +1,5 @@
 use Rattle.std.proofs.Common.{ap}
 use Rattle.ssh_packet.specs.Writing.{Writer}
-use Rattle.ssh_transport.specs.declared.connection.Connection.{Connection}
 use Rattle.ssh_transport.proofs.Kept.{kept_output}
 use Rattle.ssh_transport.proofs.transport.Transport.consume_output.Goals as goal
 

@@ -1,0 +1,180 @@
+-- A piece that is refused, as contracts see it.
+use Rattle.std.proofs.Common.{◌≡◌, ℕ, List, [], ◌++◌, drop, Some, Result, Ok, Err, IfErr, OnErr, refl, sym, ap, ◌∙◌, subst, append_assoc, append-nil, ◌⊎◌, inl, inr}
+use Rattle.std.specs.Borrow.{Bor}
+use Rattle.ssh_wire.specs.Lines as lines
+use Rattle.ssh_wire.specs.Lines.{IdFound, id_of, id_text}
+use Rattle.ssh_wire.specs.Reading.{IdReading, Waiting, Heard, Failed, Decides, Feeds, still_allowed}
+use Rattle.ssh_wire.specs.declared.error.Error.{Error}
+use Rattle.ssh_wire.specs.declared.error.Error.TheVariants as errors
+use Rattle.ssh_wire.specs.declared.side.Side.{Side}
+use Rattle.ssh_kex.specs.Refusals.{Denies}
+use Rattle.ssh_kex.specs.Setting.{Says}
+use Rattle.ssh_kex.specs.declared.config.Config.{Config}
+use Rattle.ssh_kex.specs.declared.exchange.ServerHost.{ServerHost}
+use Rattle.ssh_rules.specs.Log.{delivered_in, read_bytes, sent_bytes}
+use Rattle.ssh_rules.specs.Machine.{Event, Steps}
+use Rattle.ssh_rules.specs.Refusing.{AnswersCause, RefusesPiece}
+use Rattle.ssh_rules.specs.Standing.{HearsBy, IsIdleBefore, IsNoId, OfFault, OfMemory, OfPacket, OfVersion, ReadsLineFrom, RefusalCause, Standing, lets_pass}
+use Rattle.ssh_rules.proofs.Moved.{delivered_more}
+use Rattle.ssh_rules.proofs.Ran.{read_join, sent_join, steps_join}
+use Rattle.ssh_transport.specs.Handling.{IsHeard}
+use Rattle.ssh_transport.specs.Hearing.{HearsLine}
+use Rattle.ssh_transport.specs.Kept.{IsLive}
+use Rattle.ssh_transport.specs.Saying.{IsFixed, nothing_said}
+use Rattle.ssh_transport.specs.States.{reading_of, standing_of, state_at}
+use Rattle.ssh_transport.specs.Stopping.{Fails, FailsHearing, HearsNot, IsAsBefore, Stops}
+use Rattle.ssh_transport.specs.Submitting.{Breaks}
+use Rattle.ssh_transport.specs.Taking.{Hears}
+use Rattle.ssh_transport.specs.declared.connection.Connection.{Connection}
+use Rattle.ssh_transport.specs.declared.session.Session.{Session}
+use Rattle.ssh_transport.proofs.Answering.{spot_of}
+use Rattle.ssh_transport.proofs.Heard.{hears_some}
+use Rattle.ssh_transport.proofs.Inputs.{line_more}
+use Rattle.ssh_transport.proofs.Saying.{unread_steps}
+use Rattle.ssh_transport.proofs.Stopping.{stops_memory}
+use Rattle.ssh_transport.proofs.Taking.{input_more}
+
+-- ---- no version line
+
+decided_err : (found : IdFound) (had : ℕ) (left new : IdReading) (error : Error) → Decides found had left (Err error) new → (found ≡ lines.Version) × (error ≡ errors.Version)
+decided_err lines.NotYet had left new error d = absurd (let e = d.0 in cc)
+decided_err (lines.Id text end) had left new error d = absurd (let e = d.0 in cc)
+decided_err lines.Version had left new error d = (refl, (let e : Err error ≡ Err errors.Version = d.0 in cc))
+
+no_id : (side : Side) (line : IdReading) (piece : List ℕ) (error : Error) (new : IdReading) → (line ≡ Failed → ⊥) → Feeds (lets_pass side) line piece (Err error) new → IsNoId side line piece [] × (error ≡ errors.Version)
+no_id side (Waiting bytes others) piece error new n h =
+    let d = decided_err (id_of (still_allowed (lets_pass side) others) (bytes ++ piece)) _ _ new error h in ((refl, d.0), d.1)
+no_id side (Heard text) piece error new n h = absurd (let e = h.0 in cc)
+no_id side Failed piece error new n h = absurd (n refl)
+
+fails_unheard : (says : Says) (denies : Denies) (untrusted : ServerHost → Type 0) (c c' : Connection) (piece : List ℕ) (error : Error) (line : IdReading) → IsLive c → IsAsBefore c.session c'.session → c'.delivered.items ≡ c.delivered.items → Feeds (lets_pass c.session.side) c.session.line piece (Err error) line → Fails says denies untrusted c piece error c'
+fails_unheard says denies untrusted c c' piece error line live b d h =
+    let n = no_id c.session.side c.session.line piece error line live.heeds h in
+    record {
+      cause = OfVersion;
+      state = state_at c.session (reading_of c) c.reader.count;
+      events = [];
+      steps = refl;
+      output = b.output ∙ sym (append-nil c.session.writer.output);
+      delivered = d ∙ sym (append-nil c.delivered.items);
+      records = b.records;
+      input = (refl, refl);
+      done = live.settled (reading_of c);
+      line = line;
+      behind = [];
+      heard = n.0;
+      left = [];
+      read = refl;
+      next = tt;
+      why = n.1;
+    }
+
+fails_begin : (says : Says) (denies : Denies) (untrusted : ServerHost → Type 0) (c c' : Connection) (piece : List ℕ) (error : Error) → IsAsBefore c.session c'.session → c'.delivered.items ≡ c.delivered.items → error ≡ errors.Memory → Fails says denies untrusted c piece error c'
+fails_begin says denies untrusted c c' piece error b d e = record {
+  cause = OfMemory;
+  state = state_at c.session (reading_of c) c.reader.count;
+  events = [];
+  steps = refl;
+  output = b.output ∙ sym (append-nil c.session.writer.output);
+  delivered = d ∙ sym (append-nil c.delivered.items);
+  records = b.records;
+  input = (refl, refl);
+  done = tt;
+  line = Failed;
+  behind = [];
+  heard = tt;
+  left = [];
+  read = refl;
+  next = tt;
+  why = e;
+}
+
+pub fails_hearing : (says : Says) (denies : Denies) (untrusted : ServerHost → Type 0) (c c' : Connection) (piece : List ℕ) (error : Error) → IsLive c → HearsNot c.session piece error c'.session → c'.delivered.items ≡ c.delivered.items → Fails says denies untrusted c piece error c'
+fails_hearing says denies untrusted c c' piece error live h d = by h.1
+  where
+    by : ((line : IdReading) × Feeds (lets_pass c.session.side) c.session.line piece (Err error) line) ⊎ (error ≡ errors.Memory) → Fails says denies untrusted c piece error c'
+    by (inl l) = fails_unheard says denies untrusted c c' piece error l.0 live h.0 d l.1
+    by (inr e) = fails_begin says denies untrusted c c' piece error h.0 d e
+
+-- ---- behind the line
+
+hears_cause : (cause : RefusalCause) (t : Standing) (piece : List ℕ) (events : List Event) (line : IdReading) (behind : List ℕ) → (cause ≡ OfVersion → ⊥) → ReadsLineFrom t.side t.line t.waiting piece events line behind → HearsBy cause t piece events line behind
+hears_cause (OfFault fault) t piece events line behind n h = h
+hears_cause (OfPacket i) t piece events line behind n h = h
+hears_cause OfVersion t piece events line behind n h = absurd (n refl)
+hears_cause OfMemory t piece events line behind n h = tt
+
+pub fails_behind : (says : Says) (denies : Denies) (untrusted : ServerHost → Type 0) (c mid c' : Connection) (piece : List ℕ) (error : Error) → Hears c piece mid → IsHeard mid.session.line → Stops says denies untrusted mid error c' → Fails says denies untrusted c piece error c'
+fails_behind says denies untrusted c mid c' piece error h i k = record {
+  cause = k.cause;
+  state = k.state;
+  events = h.events ++ k.events;
+  steps = steps_join says c.session.side c.session.config.now (id_text c.session.config.now.id) h.events k.events (state_at c.session (reading_of c) c.reader.count) (state_at mid.session (reading_of mid) mid.reader.count) k.state first moved;
+  output = k.output ∙ ap (λ (b : List ℕ). b ++ sent_bytes mid.session.side (spot_of mid.session.writer) k.events) h.output ∙ append_assoc c.session.writer.output (sent_bytes c.session.side (spot_of c.session.writer) h.events) (sent_bytes mid.session.side (spot_of mid.session.writer) k.events)
+      ∙ ap (λ (x : Side). c.session.writer.output ++ (sent_bytes c.session.side (spot_of c.session.writer) h.events ++ sent_bytes x (spot_of mid.session.writer) k.events)) h.side
+      ∙ ap (λ (b : List ℕ). c.session.writer.output ++ b) (sym (sent_join says c.session.side c.session.config.now (id_text c.session.config.now.id) h.events k.events (state_at c.session (reading_of c) c.reader.count) (state_at mid.session (reading_of mid) mid.reader.count) first));
+  delivered = k.delivered ∙ ap (λ (b : List (List ℕ)). b ++ delivered_in k.events) h.delivered ∙ append_assoc c.delivered.items (delivered_in h.events) (delivered_in k.events) ∙ ap (λ (b : List (List ℕ)). c.delivered.items ++ b) (sym (delivered_more h.events k.events));
+  records = k.records;
+  input = input_more h.events k.events h.input k.input;
+  done = subst (λ (x : Bor Config). IsIdleBefore k.cause x.now k.state) h.config k.done;
+  line = mid.session.line;
+  behind = mid.reader.waiting;
+  heard = hears_cause k.cause (standing_of c) piece (h.events ++ k.events) mid.session.line mid.reader.waiting k.line (line_more c.session.side c.session.line c.reader.waiting piece h.events k.events mid.session.line mid.reader.waiting k.silent (inl i) h.line);
+  left = k.left;
+  read = k.bytes ∙ ap (λ (x : Side). read_bytes x (reading_of mid) k.events ++ k.left) h.side
+      ∙ ap (λ (b : List ℕ). b ++ k.left) (sym (read_join says c.session.side c.session.config.now (id_text c.session.config.now.id) h.events k.events (state_at c.session (reading_of c) c.reader.count) (state_at mid.session (reading_of mid) mid.reader.count) first
+      ∙ ap (λ (b : List ℕ). b ++ read_bytes c.session.side (reading_of mid) k.events) (h.bytes (reading_of c))));
+  next = k.next;
+  why = subst (λ (x : Side). AnswersCause says denies untrusted x c.session.config.now k.cause k.state error) h.side (subst (λ (x : Bor Config). AnswersCause says denies untrusted mid.session.side x.now k.cause k.state error) h.config k.why);
+} where
+  first : Steps says c.session.side c.session.config.now (id_text c.session.config.now.id) (state_at c.session (reading_of c) c.reader.count) h.events (state_at mid.session (reading_of mid) mid.reader.count)
+  first = unread_steps nothing_said says c.session.side c.session.config.now (id_text c.session.config.now.id) h.events (state_at c.session (reading_of c) c.reader.count) (state_at mid.session (reading_of mid) mid.reader.count) h.unread h.steps
+
+  moved : Steps says c.session.side c.session.config.now (id_text c.session.config.now.id) (state_at mid.session (reading_of mid) mid.reader.count) k.events k.state
+  moved = subst (λ (x : Side). Steps says x c.session.config.now (id_text c.session.config.now.id) (state_at mid.session (reading_of mid) mid.reader.count) k.events k.state) h.side
+      (subst (λ (b : Bor Config). Steps says mid.session.side b.now (id_text b.now.id) (state_at mid.session (reading_of mid) mid.reader.count) k.events k.state) h.config k.steps)
+
+-- memory is wanting for what stands behind the line
+pub fails_push : (says : Says) (denies : Denies) (untrusted : ServerHost → Type 0) (c c' : Connection) (s' : Session) (used : ℕ) (piece : List ℕ) (error : Error) → IsLive c → HearsLine c.session piece (Some used) s' → IsHeard s'.line → c'.session ≡ s' → c'.delivered.items ≡ c.delivered.items → error ≡ errors.Memory → Fails says denies untrusted c piece error c'
+fails_push says denies untrusted c c' s' used piece error live h i e d m = fails_behind says denies untrusted c (record c { session = s'; reader = record c.reader { waiting = c.reader.waiting ++ drop used piece } }) c' piece error
+    (hears_some c s' used piece (record c.reader { waiting = c.reader.waiting ++ drop used piece }) live h refl) i
+    (stops_memory says denies untrusted (record c { session = s'; reader = record c.reader { waiting = c.reader.waiting ++ drop used piece } }) c' error m (ap (λ (x : Session). x.writer.output) e) d (ap (λ (x : Session). x.finished.items) e))
+
+pub fails_heard : (says : Says) (denies : Denies) (untrusted : ServerHost → Type 0) (c c' : Connection) (piece : List ℕ) (error : Error) → IsLive c → FailsHearing c piece error c' → Fails says denies untrusted c piece error c'
+fails_heard says denies untrusted c c' piece error live (inl h) = fails_hearing says denies untrusted c c' piece error live h.not h.delivered
+fails_heard says denies untrusted c c' piece error live (inr h) = fails_push says denies untrusted c c' c'.session h.used piece error live h.heard h.line refl h.delivered h.error_is
+
+-- ---- as contracts see it
+
+refuses_piece : (says : Says) (denies : Denies) (untrusted : ServerHost → Type 0) (c mid c' : Connection) (piece : List ℕ) (error : Error) → IsFixed c.session mid.session → Breaks (standing_of mid) (standing_of c') → IsAsBefore mid.session c'.session → Fails says denies untrusted c piece error mid → RefusesPiece says denies untrusted (standing_of c) piece error (standing_of c')
+refuses_piece says denies untrusted c mid c' piece error x b r f = record {
+  cause = f.cause;
+  refuses = record {
+    at = f.state;
+    events = f.events;
+    side = b.side ∙ x.0;
+    config = b.config ∙ ap (λ (y : Bor Config). y.now) x.1;
+    steps = f.steps;
+    input = f.input;
+    output = r.output ∙ f.output;
+    delivered = b.delivered ∙ f.delivered;
+    records = r.records ∙ f.records;
+    failed = b.failed;
+    nothing = b.nothing;
+    done = subst (λ (y : Config). IsIdleBefore f.cause y f.state) (sym (b.config ∙ ap (λ (y : Bor Config). y.now) x.1)) f.done;
+    line = f.line;
+    behind = f.behind;
+    heard = f.heard;
+    left = f.left;
+    read = f.read;
+    next = f.next;
+  };
+  answers = f.why;
+}
+
+pub refused_answer : (says : Says) (denies : Denies) (untrusted : ServerHost → Type 0) (c mid c' : Connection) (piece : List ℕ) (answer done : Result (Unit {0}) Error) → done ≡ answer → IsFixed c.session mid.session → OnErr answer (Breaks (standing_of mid) (standing_of c')) → OnErr answer (IsAsBefore mid.session c'.session) → IfErr answer (λ e. Fails says denies untrusted c piece e mid) → IfErr done (λ e. RefusesPiece says denies untrusted (standing_of c) piece e (standing_of c'))
+refused_answer says denies untrusted c mid c' piece (Ok u) done d x b r f = subst (λ (y : Result (Unit {0}) Error). IfErr y (λ e. RefusesPiece says denies untrusted (standing_of c) piece e (standing_of c'))) (sym d) tt
+refused_answer says denies untrusted c mid c' piece (Err e) done d x b r f = subst (λ (y : Result (Unit {0}) Error). IfErr y (λ e. RefusesPiece says denies untrusted (standing_of c) piece e (standing_of c'))) (sym d) (refuses_piece says denies untrusted c mid c' piece e x b r f)
+
+pub fails_read : (says : Config → Says) (denies : Denies) (untrusted : ServerHost → Type 0) (c mid c' : Connection) (piece : List ℕ) (error : Error) → Hears c piece mid → IsHeard mid.session.line → Stops (says mid.session.config.now) denies untrusted mid error c' → Fails (says c.session.config.now) denies untrusted c piece error c'
+fails_read says denies untrusted c mid c' piece error h i k = fails_behind (says c.session.config.now) denies untrusted c mid c' piece error h i (subst (λ (b : Bor Config). Stops (says b.now) denies untrusted mid error c') h.config k)

@@ -1,0 +1,4 @@
+-- What crates above cite: what the parts keep over calls, and that they say of themselves as they were before what they
+-- say later. Declares nothing.
+pub use Rattle.ssh_transport.proofs.Parts.{agreement_same, agreement_after, hosts_same, hosts_after, groups_same, groups_after}
+pub use Rattle.ssh_transport.proofs.Weaker.{Weaker, kept_weaker, steps_weaker}

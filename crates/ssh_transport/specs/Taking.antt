@@ -1,0 +1,93 @@
+-- What a connection reads and does, packet by packet.
+use Rattle.std.specs.Prelude.{◌≡◌, ◌⊎◌, ℕ, ◌<◌, false, List, [], ◌∷◌, ◌++◌, length}
+use Rattle.ssh_wire.specs.Lines.{id_text}
+use Rattle.ssh_packet.specs.Keys.{opening_of}
+use Rattle.ssh_packet.specs.Sealing.{Item, moved_on, next_number, sealed_packet}
+use Rattle.ssh_packet.specs.Writing.{count_after}
+use Rattle.ssh_kex.specs.Setting.{Says}
+use Rattle.ssh_rules.specs.Log.{delivered_in, handled, read_bytes, sent_bytes}
+use Rattle.ssh_rules.specs.Machine.{Event, Spot, Steps, spot_renumbered}
+use Rattle.ssh_rules.specs.Standing.{HearsNone, IsInput, ReadsLineFrom, WaitsInPart}
+use Rattle.ssh_transport.specs.Handling.{Handles, IsHeard, IsReadAt, delivered_by}
+use Rattle.ssh_transport.specs.Saying.{nothing_said}
+use Rattle.ssh_transport.specs.States.{reading_of, state_at}
+use Rattle.ssh_transport.specs.declared.connection.Connection.{Connection}
+use Rattle.ssh_transport.specs.declared.session.Handled.{Handled}
+use Rattle.ssh_transport.specs.declared.session.Handled.TheVariants.{Delivers, Done, Rekeys}
+
+-- Some packets that waited were read, and all that they ask for was done.
+pub record Reads (says : Says) (c c' : Connection) : Type 0 where
+  pub events : List Event
+  pub side : c'.session.side ≡ c.session.side
+  pub config : c'.session.config ≡ c.session.config
+  pub line : c'.session.line ≡ c.session.line
+  pub steps : Steps says c.session.side c.session.config.now (id_text c.session.config.now.id)
+      (state_at c.session (reading_of c) c.reader.count) events (state_at c'.session (reading_of c') c'.reader.count)
+  pub output : c'.session.writer.output ≡ c.session.writer.output
+      ++ sent_bytes c.session.side (record { sealing = c.session.writer.sealing; number = c.session.writer.number }) events
+  pub bytes : c.reader.waiting ≡ read_bytes c.session.side (reading_of c) events ++ c'.reader.waiting
+  pub delivered : c'.delivered.items ≡ c.delivered.items ++ delivered_in events
+  pub input : IsInput events
+  pub silent : HearsNone events
+
+-- a packet was opened, and done with what it asks for by itself; the keys of an exchange that it ends aren't taken up yet
+pub record Took (says : Says) (c : Connection) (answer : Handled) (c' : Connection) : Type 0 where
+  pub seqn : ℕ
+  pub item : Item
+  pub at : IsReadAt (reading_of c) seqn item.payload item
+  pub handles : Handles says c.session seqn item.payload answer c'.session
+  pub number : c'.reader.number ≡ next_number c.reader.number
+  pub count : c'.reader.count ≡ count_after c.reader.count (length item.payload)
+  pub sealing : opening_of c'.opening ≡ moved_on (opening_of c.opening) item
+  pub bytes : c.reader.waiting ≡ sealed_packet (opening_of c.opening) c.reader.number item ++ c'.reader.waiting
+  pub shorter : length c'.reader.waiting < length c.reader.waiting
+  pub unbroken : c'.reader.failed ≡ false
+  pub delivered : c'.delivered.items ≡ c.delivered.items ++ delivered_by answer item
+
+-- a payload that is delivered is kept
+abbrev pub kept_by : Handled → List ℕ → List (List ℕ)
+kept_by Delivers payload = payload ∷ []
+kept_by Done payload = []
+kept_by (Rekeys opening again) payload = []
+
+-- the next packet's spot, once the keys of an ended exchange are taken up
+abbrev pub spot_up : Handled → Spot → Spot
+spot_up Delivers at = at
+spot_up Done at = at
+spot_up (Rekeys opening again) at = spot_renumbered again (record at { sealing = opening_of opening })
+
+abbrev pub count_up : Handled → ℕ → ℕ
+count_up Delivers n = n
+count_up Done n = n
+count_up (Rekeys opening again) n = 0
+
+-- the keys of an ended exchange were taken up
+pub record TakesUp (answer : Handled) (c c' : Connection) : Type 0 where
+  pub reading : reading_of c' ≡ spot_up answer (reading_of c)
+  pub count : c'.reader.count ≡ count_up answer c.reader.count
+  pub waiting : c'.reader.waiting ≡ c.reader.waiting
+  pub failed : c'.reader.failed ≡ c.reader.failed
+  pub rest : c' ≡ record c { opening = c'.opening; reader = c'.reader }
+
+-- A piece of the peer's version line was heard, and what it begins was done; what stands behind the line waits.
+pub record Hears (c : Connection) (piece : List ℕ) (c' : Connection) : Type 0 where
+  pub events : List Event
+  pub side : c'.session.side ≡ c.session.side
+  pub config : c'.session.config ≡ c.session.config
+  pub steps : Steps nothing_said c.session.side c.session.config.now (id_text c.session.config.now.id)
+      (state_at c.session (reading_of c) c.reader.count) events (state_at c'.session (reading_of c') c'.reader.count)
+  pub output : c'.session.writer.output ≡ c.session.writer.output
+      ++ sent_bytes c.session.side (record { sealing = c.session.writer.sealing; number = c.session.writer.number }) events
+  pub unread : handled events ≡ []
+  pub bytes : (at : Spot) → read_bytes c.session.side at events ≡ []
+  pub delivered : c'.delivered.items ≡ c.delivered.items ++ delivered_in events
+  pub input : IsInput events
+  pub line : ReadsLineFrom c.session.side c.session.line c.reader.waiting piece events c'.session.line c'.reader.waiting
+
+-- A piece was heard, and of what waits behind the version line all that is whole was read.
+pub record Takes (says : Says) (c : Connection) (piece : List ℕ) (c' : Connection) : Type 0 where
+  pub mid : Connection
+  pub heard : Hears c piece mid
+  pub reads : Reads says mid c'
+  pub line : IsHeard mid.session.line ⊎ (reads.events ≡ [])
+  pub part : WaitsInPart (reading_of c') c'.reader.waiting
