@@ -2,6 +2,7 @@
 
 use crate::play::trusted_by;
 use crate::replay::side_of;
+use crate::transport::{feed, rekey, submit};
 use ssh_kex::{Config, GexParams, Parts};
 use ssh_mac::mac;
 use ssh_negotiate::{HostKey, ServerKeys};
@@ -161,15 +162,15 @@ fn answer_to(
     call: &str,
 ) -> Result<Result<(), Error>, Fault> {
     if call == "rekey" {
-        return Ok(transport.rekey(parts));
+        return Ok(rekey(transport, parts));
     }
     let Some((call, digits)) = call.split_once(':') else {
         return Err(Fault::Malformed);
     };
     let bytes = Row::of(alloc, digits)?.bytes()?;
     match call {
-        "feed" => Ok(transport.feed(parts, bytes.as_slice())),
-        "submit" => Ok(transport.submit(parts, bytes.as_slice())),
+        "feed" => Ok(feed(transport, parts, bytes.as_slice())),
+        "submit" => Ok(submit(transport, parts, bytes.as_slice())),
         _ => Err(Fault::Malformed),
     }
 }

@@ -2,6 +2,7 @@
 
 use crate::replay::{cookie_of, give_agreed, set_up, side_of};
 use crate::talk::{Packet, Talk};
+use crate::transport::{feed, rekey, submit};
 use ssh_kex::Parts;
 use ssh_transport::Transport;
 use ssh_vectors::TestGroups;
@@ -100,13 +101,13 @@ fn carried(
     for packet in packets {
         if packet.message_type() >= 50 || matches!(packet.message_type(), 5..=7) {
             feed_exchange(transport, parts, wire)?;
-            transport.submit(parts, packet.payload.as_slice())?;
+            submit(transport, parts, packet.payload.as_slice())?;
         } else if packet.message_type() == 20 && transport.finished() > 0 {
             feed_exchange(transport, parts, wire)?;
-            transport.rekey(parts)?;
+            rekey(transport, parts)?;
         }
     }
-    transport.feed(parts, *wire)
+    feed(transport, parts, *wire)
 }
 
 /// Feeds a transport byte by byte until it is outside an exchange, or no byte is left.
@@ -122,7 +123,7 @@ fn feed_exchange(
         let Some((byte, rest)) = wire.split_at_checked(1) else {
             return Ok(());
         };
-        transport.feed(parts, byte)?;
+        feed(transport, parts, byte)?;
         *wire = rest;
     }
     Ok(())

@@ -10,6 +10,7 @@ mod machine;
 mod play;
 mod replay;
 mod talk;
+mod transport;
 mod without;
 
 use crate::talk::Talk;

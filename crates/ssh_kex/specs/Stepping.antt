@@ -91,21 +91,25 @@ at_kexinit Client None = 1
 at_kexinit Client (Some next) = if awaits_group next then 0 else 1
 at_kexinit Server next = 0
 
+-- of a wrong guess, which is dropped, nothing is asked
+abbrev pub once_unless : Bool → ℕ
+once_unless dropped = if dropped then 0 else 1
+
 abbrev pub asks_agreement : Side → Stage → Option Stage → ℕ
 asks_agreement side (Created own) next = at_kexinit side next
 asks_agreement side (AwaitsGroup o) next = 1
-asks_agreement side (AwaitsReply o gex local public) next = 1
+asks_agreement side (AwaitsReply o gex local public) next = once_unless o.names.ignore_guessed
 asks_agreement side (AwaitsRequest o) next = 0
-asks_agreement side (AwaitsValue o gex) next = 1
+asks_agreement side (AwaitsValue o gex) next = once_unless o.names.ignore_guessed
 asks_agreement side (AwaitsNewkeys exchange made host) next = 0
 
 -- a client's host keys are asked for the reply, a server's for its own
 abbrev pub asks_hosts : Stage → ℕ
 asks_hosts (Created own) = 0
 asks_hosts (AwaitsGroup o) = 0
-asks_hosts (AwaitsReply o gex local public) = 1
+asks_hosts (AwaitsReply o gex local public) = once_unless o.names.ignore_guessed
 asks_hosts (AwaitsRequest o) = 0
-asks_hosts (AwaitsValue o gex) = 1
+asks_hosts (AwaitsValue o gex) = once_unless o.names.ignore_guessed
 asks_hosts (AwaitsNewkeys exchange made host) = 0
 
 abbrev pub asks_groups : Stage → ℕ

@@ -12,6 +12,7 @@ ghost use Rattle.ssh_kex.specs.Agreeing.{IsWhole};
 ghost use Rattle.ssh_kex.specs.Signature.{judged, or_same};
 ghost use Rattle.ssh_kex.specs.Messages.{host_with, is_gex, reply_message};
 ghost use Rattle.ssh_kex.specs.Parts.{KeepsAgreement, KeepsHosts, Setup};
+ghost use Rattle.ssh_kex.specs.Stepping.{once_unless};
 ghost use Rattle.ssh_kex.specs.Views.{HasShortSides};
 
 use crate::algorithm::KexAlgorithm;
@@ -210,10 +211,10 @@ pub(crate) fn take_reply<'c, A: Agreement, H: HostKeys, R: Rng>(
     requires sides { HasShortSides exchange }
     requires value { HasValue exchange names algorithm }
     ensures agreement { KeepsAgreement A.lawful A.obliging A.offered A.refusals A.calls agreement.old agreement.new }
-    ensures agreement_calls { A.calls agreement.new ≤ A.calls agreement.old + 1 }
+    ensures agreement_calls { A.calls agreement.new ≤ A.calls agreement.old + once_unless names.ignore_guessed }
     ensures hosts { KeepsHosts H.lawful H.obliging H.accepts H.trusts H.refused_sign H.refused_verify H.refused_check
         H.calls hosts.old hosts.new }
-    ensures hosts_calls { H.calls hosts.new ≤ H.calls hosts.old + 1 }
+    ensures hosts_calls { H.calls hosts.new ≤ H.calls hosts.old + once_unless names.ignore_guessed }
     ensures ok { IfOk result (λ p. AnswersOrDrops names.ignore_guessed (λ l v x. (s : Setup) (public : List ℕ)
         → A.lawful agreement.old s → A.client_makes algorithm.name algorithm.group l public
         → A.agrees algorithm.name algorithm.group public v x)

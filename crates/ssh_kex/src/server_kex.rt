@@ -21,7 +21,7 @@ ghost use Rattle.ssh_kex.specs.ServerViews.{Begins, CanAsk, CanBegin, IsFresh, S
 ghost use Rattle.ssh_kex.specs.Setting.{behind_guess, group_of, offers_of};
 ghost use Rattle.ssh_kex.specs.Stages.{Created as created_stage, has_ignored, is_strict, names_of};
 ghost use Rattle.ssh_kex.specs.declared.progress.KexProgress.TheVariants.{NeedsReply};
-ghost use Rattle.ssh_kex.specs.Stepping.{asks_agreement, asks_hosts, asks_groups, next_of, says_of, denies_of, Progresses, RefusesStep, PutsFront};
+ghost use Rattle.ssh_kex.specs.Stepping.{asks_agreement, asks_hosts, asks_groups, next_of, says_of, denies_of, once_unless, Progresses, RefusesStep, PutsFront};
 
 use crate::algorithm::KexAlgorithm;
 use crate::config::Config;
@@ -364,8 +364,8 @@ fn take_value<'c, A: Agreement, H: HostKeys, G, R: Rng>(
     ensures hosts { KeepsHosts H.lawful H.obliging H.accepts H.trusts H.refused_sign H.refused_verify H.refused_check
         H.calls parts.old.hosts parts.new.hosts }
     ensures groups { parts.new.groups ≡ parts.old.groups }
-    ensures agreement_calls { A.calls parts.new.agreement ≤ A.calls parts.old.agreement + 1 }
-    ensures hosts_calls { H.calls parts.new.hosts ≤ H.calls parts.old.hosts + 1 }
+    ensures agreement_calls { A.calls parts.new.agreement ≤ A.calls parts.old.agreement + once_unless names.ignore_guessed }
+    ensures hosts_calls { H.calls parts.new.hosts ≤ H.calls parts.old.hosts + once_unless names.ignore_guessed }
     ensures ok { IfOk result (λ p. AnswersOrDrops names.ignore_guessed
         (λ v. (s : Setup) → A.lawful parts.old.agreement s → A.server_makes names.kex (group_of exchange.gex) v)
         (λ c v x. (s : Setup) → A.lawful parts.old.agreement s

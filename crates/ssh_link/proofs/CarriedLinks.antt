@@ -68,7 +68,7 @@ new_side says config side t whole e = record {
 new_mark : (side : Side) (config : Config) (t : Standing) → IsNew side config t → Rattle.ssh_rules.specs.Snapshots.first_mark (length (id_line config.id)) ≡ side_mark (first_end t)
 new_mark side config t e = ap (λ (x : Standing). side_mark (first_end x)) (sym e)
 
-first_tied : (says : Side → Says) (config : Side → Config) (kind : Bool) (l : CarriedLink) → ((s : Side) → IsWholeId (config s)) → IsNewLink (config Client) (config Server) l → IsTied says config kind (first_snapshot (talkers says config)) l
+pub first_tied : (says : Side → Says) (config : Side → Config) (kind : Bool) (l : CarriedLink) → ((s : Side) → IsWholeId (config s)) → IsNewLink (config Client) (config Server) l → IsTied says config kind (first_snapshot (talkers says config)) l
 first_tied says config kind l whole n = record {
   of_client = subst (λ e. IsSide says config Client [] turns.first_end turns.first_end e) (sym n.of_client.2) (new_side says config Client n.of_client.0 whole n.of_client.1);
   of_server = subst (λ e. IsSide says config Server [] turns.first_end turns.first_end e) (sym n.of_server.2) (new_side says config Server n.of_server.0 whole n.of_server.1);
@@ -77,7 +77,7 @@ first_tied says config kind l whole n = record {
   known = λ k. start_is_snapshot (talkers says config) kind (line_has (config Client) (whole Client)) (line_has (config Server) (whole Server));
 }
 
-nothing_submitted : (client server : Config) (l : CarriedLink) → IsNewLink client server l → l.client.submitted + l.server.submitted ≡ 0
+pub nothing_submitted : (client server : Config) (l : CarriedLink) → IsNewLink client server l → l.client.submitted + l.server.submitted ≡ 0
 nothing_submitted client server l n = let a = ap (λ (e : CarriedEnd). e.submitted) n.of_client.2 in let b = ap (λ (e : CarriedEnd). e.submitted) n.of_server.2 in omega (arith, a, b)
 
 all_follow : (says : Side → Says) (config : Side → Config) (kind : Bool) (steps : List Step) (report : LinkReport) → ((s : Side) → IsWholeId (config s)) → length steps < 2 ^ 64 → (c : IsCarried (says Client) (says Server) (config Client) (config Server) steps report) → Follows says config kind steps (first_snapshot (talkers says config)) c.first c.links

@@ -1,6 +1,7 @@
 pub mod Carried
 pub mod Cutting
 pub mod GeneratedTurns
+pub mod GivenBlobs
 pub mod Growing
 pub mod Judging
 pub mod Names
@@ -18,8 +19,13 @@ pub mod Stored
 pub mod SideTurns
 pub mod LinkTurns
 pub mod CarriedLinks
+pub mod SettleEnds
+pub mod GoodSubmits
+pub mod RefusedLinks
 pub mod WholeIds
 pub mod LinkSoFar
 pub mod PlanRuns
+pub mod FaultlessPlans
+pub mod RefusedPlans
 pub mod SmallGroups
 pub mod SummaryLines

@@ -110,7 +110,7 @@ client_ask says config kind s l l' i d same = by (is_outside l.client.transport.
     leads = leads_stay (talkers says config) (Some (Rekey Client)) s;
   }
 
-client_carry : (says : Side → Says) (config : Side → Config) (kind : Bool) (s : Snapshot) (l l' : CarriedLink) (n : ℕ) → IsWholeId (config Server) → IsTied says config kind s l → CarriesTo (says Client) l.client l.server.transport.output n l'.client → l'.server ≡ l.server → CarriesOn says config kind Client s l'
+pub client_carry : (says : Side → Says) (config : Side → Config) (kind : Bool) (s : Snapshot) (l l' : CarriedLink) (n : ℕ) → IsWholeId (config Server) → IsTied says config kind s l → CarriesTo (says Client) l.client l.server.transport.output n l'.client → l'.server ≡ l.server → CarriesOn says config kind Client s l'
 client_carry says config kind s l l' n whole i carried same =
     let d = subst (λ w. CarriesTo (says Client) l.client w n l'.client) i.of_server.output carried in
     let g = carry_goes says config Client s.cl s.world.client s.world.server n l.client l'.client whole i.of_client d in
@@ -183,7 +183,7 @@ server_ask says config kind s l l' i d same = by (is_outside l.server.transport.
     leads = leads_stay (talkers says config) (Some (Rekey Server)) s;
   }
 
-server_carry : (says : Side → Says) (config : Side → Config) (kind : Bool) (s : Snapshot) (l l' : CarriedLink) (n : ℕ) → IsWholeId (config Client) → IsTied says config kind s l → CarriesTo (says Server) l.server l.client.transport.output n l'.server → l'.client ≡ l.client → CarriesOn says config kind Server s l'
+pub server_carry : (says : Side → Says) (config : Side → Config) (kind : Bool) (s : Snapshot) (l l' : CarriedLink) (n : ℕ) → IsWholeId (config Client) → IsTied says config kind s l → CarriesTo (says Server) l.server l.client.transport.output n l'.server → l'.client ≡ l.client → CarriesOn says config kind Server s l'
 server_carry says config kind s l l' n whole i carried same =
     let d = subst (λ w. CarriesTo (says Server) l.server w n l'.server) i.of_client.output carried in
     let g = carry_goes says config Server s.sl s.world.server s.world.client n l.server l'.server whole i.of_server d in
@@ -214,14 +214,14 @@ server_deliver says config kind s l l' n whole i d same =
 -- ---- a settle
 
 -- turns till all is taken
-record Settles (says : Side → Says) (config : Side → Config) (kind : Bool) (s : Snapshot) (l' : CarriedLink) : Type 0 where
+pub record Settles (says : Side → Says) (config : Side → Config) (kind : Bool) (s : Snapshot) (l' : CarriedLink) : Type 0 where
   pub next : Snapshot
   pub tied : IsTied says config kind next l'
   pub leads : LeadsOn (talkers says config) (Some Settle) s next
   pub cl : submitted_in next.cl ≡ submitted_in s.cl
   pub sl : submitted_in next.sl ≡ submitted_in s.sl
 
-repeated : (says : Side → Says) (config : Side → Config) (kind : Bool) (n : ℕ) (s : Snapshot) (l l' : CarriedLink) → ((side : Side) → IsWholeId (config side)) → IsTied says config kind s l → Repeats (says Client) (says Server) n l l' → Settles says config kind s l'
+pub repeated : (says : Side → Says) (config : Side → Config) (kind : Bool) (n : ℕ) (s : Snapshot) (l l' : CarriedLink) → ((side : Side) → IsWholeId (config side)) → IsTied says config kind s l → Repeats (says Client) (says Server) n l l' → Settles says config kind s l'
 repeated says config kind zero s l l' whole i e = record { next = s; tied = subst (λ q. IsTied says config kind s q) (sym e) i; leads = leads_stay (talkers says config) (Some Settle) s; cl = refl; sl = refl }
 repeated says config kind (suc n) s l l' whole i r =
     let a = repeated says config kind n s l r.0 whole i r.1 in
@@ -266,7 +266,7 @@ step_to says config kind (Rekey Server) s l l' whole room i d = server_ask says 
 step_to says config kind Settle s l l' whole room i d = settle_to says config kind s l l' whole i d
 
 -- at most one payload more is submitted
-abbrev all_submitted : CarriedLink → ℕ
+abbrev pub all_submitted : CarriedLink → ℕ
 all_submitted l = l.client.submitted + l.server.submitted
 
 few_repeated : (client server : Says) (n : ℕ) (l l' : CarriedLink) → Repeats client server n l l' → all_submitted l' ≡ all_submitted l

@@ -163,7 +163,7 @@ begin_goes says config side log h peer e e' s b taken delivered submitted =
 -- ---- bytes that are carried
 
 -- what was taken and the next piece are a front of the wire
-next_front : (wire : List ℕ) (n k : ℕ) → HasFront wire (take n wire ++ take k (drop n wire))
+pub next_front : (wire : List ℕ) (n k : ℕ) → HasFront wire (take n wire ++ take k (drop n wire))
 next_front wire n k = (drop (n + k) wire, ap (λ q. q ++ drop (n + k) wire) (sym (take-add n k wire)) ∙ take-append-drop (n + k) wire)
 
 pub carry_goes : (says : Side → Says) (config : Side → Config) (side : Side) (log : List Event) (h peer : LinkEnd) (n : ℕ) (e e' : CarriedEnd) → IsWholeId (config (other_side side)) → IsSide says config side log h peer e → (d : CarriesTo (says side) e (wire_by (config (other_side side)) peer.sent) n e') → SideGoes says config side log d.call.events h peer e'

@@ -1,11 +1,12 @@
 -- What the calls on a link do: a step submits a payload, asks for an exchange, or carries bytes of one side's output to
 -- the other.
-use Rattle.std.specs.Prelude.{◌≡◌, ℕ, zero, suc, ◌+◌, ◌-◌, ◌^◌, ◌≤◌, List, [], ◌∷◌, ◌++◌, length, map, take, drop, min, not, false}
+use Rattle.std.specs.Prelude.{◌≡◌, ◌⊎◌, ℕ, zero, suc, ◌+◌, ◌-◌, ◌^◌, ◌<◌, ◌≤◌, List, [], ◌∷◌, ◌++◌, length, map, take, drop, min, not, true}
 use Rattle.ssh_wire.specs.declared.side.Side.TheVariants.{Client, Server}
 use Rattle.ssh_wire.specs.declared.ssh_id.SshId.{SshId}
 use Rattle.ssh_wire.specs.declared.ssh_id.SshId.TheVariants.{Standard, Raw}
 use Rattle.ssh_kex.specs.Setting.{Says}
-use Rattle.ssh_rules.specs.Standing.{IsNew, Rekeyed, Standing, Submitted, TakesInput, is_outside}
+use Rattle.ssh_rules.specs.Standing.{IsNew, Rekeyed, Standing, Submitted, TakesInput, is_outside, unfinished}
+use Rattle.ssh_rules.specs.Valid.{is_good_payload}
 use Rattle.ssh_rules.specs.declared.link.LinkReport.{LinkReport}
 use Rattle.ssh_rules.specs.declared.link.Mark.{Mark}
 use Rattle.ssh_rules.specs.declared.link.SideMark.{SideMark}
@@ -50,8 +51,9 @@ both_marks l = record { client = side_mark l.client; server = side_mark l.server
 abbrev pub first_end : Standing → CarriedEnd
 first_end t = record { transport = t; taken = 0; delivered = []; submitted = 0 }
 
--- a payload was submitted
+-- a good payload was submitted
 pub record SubmitsOne (says : Says) (old : CarriedEnd) (payload : List ℕ) (new : CarriedEnd) : Type 0 where
+  pub good : is_good_payload payload ≡ true
   pub call : Submitted says old.transport payload new.transport
   pub taken : new.taken ≡ old.taken
   pub delivered : new.delivered ≡ old.delivered
@@ -84,19 +86,32 @@ all_bytes = 2 ^ 64 - 1
 -- the server takes all that waits for it, then the client
 pub record TakesTurns (client server : Says) (old new : CarriedLink) : Type 0 where
   pub to_server : CarriesTo server old.server old.client.transport.output all_bytes new.server
+  pub all_to_server : length old.client.transport.output ≤ new.server.taken
   pub to_client : CarriesTo client old.client new.server.transport.output all_bytes new.client
+  pub all_to_client : length new.server.transport.output ≤ new.client.taken
 
--- so many times
+-- bytes wait for the client or for the server
+abbrev pub HasWaiting : CarriedLink → Type 0
+HasWaiting l = (l.client.taken < length l.server.transport.output) ⊎ (l.server.taken < length l.client.transport.output)
+
+-- so many times, as long as bytes wait
 abbrev pub Repeats : (client server : Says) → ℕ → CarriedLink → CarriedLink → Type 0
 Repeats client server zero old new = new ≡ old
-Repeats client server (suc n) old new = (mid : CarriedLink) × Repeats client server n old mid × TakesTurns client server mid new
+Repeats client server (suc n) old new = (mid : CarriedLink) × Repeats client server n old mid × TakesTurns client server mid new × HasWaiting mid
 
--- until no byte waits
+-- it is outside an exchange and holds no unfinished input
+pub record Rests (e : CarriedEnd) : Type 0 where
+  pub outside : is_outside e.transport.state.stands ≡ true
+  pub none : unfinished e.transport ≡ []
+
+-- until no byte waits, and both sides rest
 pub record SettlesAll (client server : Says) (old new : CarriedLink) : Type 0 where
   pub times : ℕ
   pub turns : Repeats client server times old new
   pub to_client : length new.server.transport.output ≤ new.client.taken
   pub to_server : length new.client.transport.output ≤ new.server.taken
+  pub client_rests : Rests new.client
+  pub server_rests : Rests new.server
 
 -- what each step does
 abbrev pub StepsLink : (client server : Says) → Step → CarriedLink → CarriedLink → Type 0

@@ -13,7 +13,11 @@ pub mod RunReport
 pub mod Generated
 pub mod Summary
 pub mod RunScript
+pub mod GivenBlobs
 pub mod Program
 pub mod PlanRun
+pub mod PlanParts
 pub mod Carrying
+pub mod RefusedCarrying
+pub mod RunCauses
 pub mod LinkEnds

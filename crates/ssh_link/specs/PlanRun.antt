@@ -1,7 +1,5 @@
 -- What is told of the run of a script: a mark before the first step and one behind each, and what both sides did.
-use Rattle.std.specs.Prelude.{◌≡◌, ◌≢◌, ℕ, ◌+◌, List, length, slice_get, Some}
-use Rattle.ssh_wire.specs.declared.error.Error.{Error}
-use Rattle.ssh_wire.specs.declared.error.Error.TheVariants.{Memory}
+use Rattle.std.specs.Prelude.{◌≡◌, ◌+◌, List, length, slice_get, Some}
 use Rattle.ssh_rules.specs.Headline.{IsLastMark, IsLink}
 use Rattle.ssh_rules.specs.declared.link.LinkReport.{LinkReport}
 use Rattle.ssh_rules.specs.declared.link.Mark.{Mark}
@@ -27,7 +25,3 @@ pub record IsPlanRun (plan : Plan) (report : LinkReport) : Type 0 where
 pub record IsLinkRun (plan : Plan) (report : LinkReport) : Type 0 where
   pub whole : IsWholeReport plan.steps report
   pub link : IsLink ClientMakes ServerMakes Agrees plan.client.config plan.server.config plan.steps report
-
--- want of memory is no refusal
-abbrev pub IsRefusedPlan : Plan → Error → Type 0
-IsRefusedPlan plan e = e ≢ Memory

@@ -1,5 +1,5 @@
 -- The top call of the program: what it answers, and how it ends.
-use Rattle.std.specs.Prelude.{◌≡◌, ℕ, ◌⊎◌, Bool, true, false, if◌then◌else◌, nat_lt, List, [], ◌∷◌, codes, drop, map, Option, Some, None, IfSome, Result, Ok, Err}
+use Rattle.std.specs.Prelude.{◌≡◌, ◌≢◌, ℕ, ◌⊎◌, Bool, true, false, if◌then◌else◌, nat_lt, List, [], ◌∷◌, codes, drop, map, Option, Some, None, IfSome, Result, Ok, Err}
 use Rattle.std.specs.Global.{Global}
 use Rattle.std.specs.Str.{bytes_eq}
 use Rattle.std.specs.String.{string_bytes}
@@ -8,11 +8,13 @@ use Rattle.std.specs.declared.string.String.{String}
 use Rattle.std.specs.declared.vec.IntoIter.{IntoIter}
 use Rattle.ssh_wire.specs.Outside.{Appends, Rose, AppendsFront}
 use Rattle.ssh_wire.specs.declared.error.Error.{Error}
+use Rattle.ssh_wire.specs.declared.error.Error.TheVariants.{Memory}
 use Rattle.ssh_wire.specs.declared.ssh_id.SshId.{SshId}
 use Rattle.ssh_wire.specs.declared.ssh_id.SshId.TheVariants.{Standard}
 use Rattle.ssh_link.specs.ClearRun.{IsClearRun, IsRefusedSize, first_refused}
 use Rattle.ssh_rules.specs.declared.link.LinkReport.{LinkReport}
-use Rattle.ssh_link.specs.PlanRun.{IsLinkRun, IsRefusedPlan}
+use Rattle.ssh_link.specs.PlanParts.{IsRefusedPlan}
+use Rattle.ssh_link.specs.PlanRun.{IsLinkRun}
 use Rattle.ssh_link.specs.Plans.{Plan}
 use Rattle.ssh_link.specs.RunReport.{link_report_text}
 use Rattle.ssh_link.specs.RunScript.{run_script}
@@ -98,6 +100,10 @@ abbrev pub AnswersScript : Result (List ClearStep) ScriptFault → Answer → Ty
 AnswersScript (Err fault) answer = answer ≡ Faulty fault
 AnswersScript (Ok steps) answer = AnswersSteps steps answer
 
+-- the answer is an error, which isn't want of memory
+abbrev pub IsRefusal : Error → Answer → Type 0
+IsRefusal e answer = (answer ≡ Refused e) × (e ≢ Memory)
+
 -- what is answered to a plan of a link: why its run was refused, or the report of its run
 abbrev pub AnswersPlan : Plan → Answer → Type 0
 AnswersPlan plan Usage = ⊥
@@ -107,11 +113,11 @@ AnswersPlan plan (Ran report) = ⊥
 AnswersPlan plan (RanLink report) = IsLinkRun plan report
 AnswersPlan plan (RanGen report) = ⊥
 
--- what is answered to a plan that was made of a seed
+-- what is answered to a plan that was made of a seed: it is never refused
 abbrev pub AnswersGen : Plan → Answer → Type 0
 AnswersGen plan Usage = ⊥
 AnswersGen plan (Faulty fault) = ⊥
-AnswersGen plan (Refused e) = IsRefusedPlan plan e
+AnswersGen plan (Refused e) = ⊥
 AnswersGen plan (Ran report) = ⊥
 AnswersGen plan (RanLink report) = ⊥
 AnswersGen plan (RanGen report) = IsLinkRun plan report

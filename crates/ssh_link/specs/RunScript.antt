@@ -1,5 +1,5 @@
 -- The text of a script of the command `run`: what each line says, and what it makes of those before it.
-use Rattle.std.specs.Prelude.{◌≡◌, ℕ, ◌+◌, ◌^◌, ◌||◌, nat_lt, Bool, true, false, ◌++◌, refl, if◌then◌else◌, List, [], ◌∷◌, length, find, codes, Option, Some, None, Result, Ok, Err}
+use Rattle.std.specs.Prelude.{◌≡◌, ℕ, ◌+◌, ◌^◌, ◌||◌, nat_lt, Bool, ◌++◌, refl, if◌then◌else◌, List, [], ◌∷◌, length, find, codes, Option, Some, None, Result, Ok, Err}
 use Rattle.std.specs.List.{list_any}
 use Rattle.std.specs.Option.{option_map}
 use Rattle.std.specs.Str.{bytes_eq, is_utf8}
@@ -27,7 +27,7 @@ use Rattle.ssh_kex.specs.declared.group.GexParams.{GexParams}
 use Rattle.ssh_rules.specs.declared.link.Step.{Step}
 use Rattle.ssh_rules.specs.declared.link.Step.TheVariants.{Submit, Deliver, Rekey, Settle}
 use Rattle.ssh_link.specs.Plans.{Plan}
-use Rattle.ssh_link.specs.Script.{pieces, is_filled, words_of, is_comment, side_of, hex_of, number_of, longest_script}
+use Rattle.ssh_link.specs.Script.{pieces, words_of, is_comment, side_of, hex_of, number_of, longest_script}
 use Rattle.ssh_link.specs.declared.script.ScriptFault.{ScriptFault}
 use Rattle.ssh_link.specs.declared.script.ScriptKind.{ScriptKind}
 use Rattle.ssh_link.specs.declared.script.ScriptKind.TheVariants.{NotBuilt, Malformed, TooLong}

@@ -9,6 +9,7 @@ mod clear_script;
 mod command;
 mod fields;
 mod generated;
+mod given_blobs;
 mod line_fault;
 mod lines;
 mod link;

@@ -1,6 +1,6 @@
 //! One side of a link over an honest carrier.
 
-ghost use Rattle.std.specs.Prelude.{◌≡◌, ◌++◌, ◌-◌, IfOk, OnOk, drop, length};
+ghost use Rattle.std.specs.Prelude.{◌≡◌, ◌≤◌, ◌++◌, ◌-◌, IfErr, IfOk, OnOk, drop, false, length, true};
 
 use rand_core::Rng;
 use ssh_kex::{Agreement, GroupLookup, HostKeys, Parts};
@@ -22,8 +22,10 @@ pub(crate) struct LinkEnd<'c> {
 impl<'c> LinkEnd<'c> {
     ghost use Rattle.ssh_kex.specs.Parts.{KeepsAgreement, KeepsGroups, KeepsHosts};
     ghost use Rattle.ssh_kex.specs.Stepping.{says_of};
-    ghost use Rattle.ssh_link.specs.Carrying.{AsksKeys, CarriesTo, SubmitsOne, first_end};
+    ghost use Rattle.ssh_link.specs.Carrying.{AsksKeys, CarriesTo, Rests, SubmitsOne, all_bytes, first_end};
     ghost use Rattle.ssh_link.specs.LinkEnds.{end_mark, end_of};
+    ghost use Rattle.ssh_link.specs.RefusedCarrying.{IsRestless, RefusesCarrying, RefusesSubmit, begun_by, telling_of};
+    ghost use Rattle.ssh_wire.specs.declared.error.Error.TheVariants.{Memory};
 
     /// A side that has sent its id line.
     pub(crate) fn new(alloc: Global, transport: Transport<'c>) -> LinkEnd<'c>
@@ -59,6 +61,7 @@ impl<'c> LinkEnd<'c> {
         payload: &[u8],
     ) -> Result<(), Error>
         ensures submits { OnOk result (SubmitsOne (says_of A.lawful A.offered A.client_makes A.server_makes A.agrees H.lawful H.obliging H.accepts H.trusts H.makes G.lawful G.group self.old.transport.config parts.old.agreement parts.old.hosts parts.old.groups) (end_of self.old) payload.now (end_of self.new)) }
+        ensures refused { self.old.transport.failed ≡ false → IfErr result (λ e. RefusesSubmit payload.now e) }
         ensures agreement { KeepsAgreement A.lawful A.obliging A.offered A.refusals A.calls parts.old.agreement parts.new.agreement }
         ensures hosts { KeepsHosts H.lawful H.obliging H.accepts H.trusts H.refused_sign H.refused_verify H.refused_check H.calls parts.old.hosts parts.new.hosts }
         ensures groups { KeepsGroups G.lawful G.obliging G.group G.refusals G.calls parts.old.groups parts.new.groups }
@@ -75,6 +78,7 @@ impl<'c> LinkEnd<'c> {
         parts: &mut Parts<A, H, G, R>,
     ) -> Result<(), Error>
         ensures asks { OnOk result (AsksKeys (says_of A.lawful A.offered A.client_makes A.server_makes A.agrees H.lawful H.obliging H.accepts H.trusts H.makes G.lawful G.group self.old.transport.config parts.old.agreement parts.old.hosts parts.old.groups) (end_of self.old) (end_of self.new)) }
+        ensures refused { self.old.transport.failed ≡ false → IfErr result (λ e. e ≡ Memory) }
         ensures agreement { KeepsAgreement A.lawful A.obliging A.offered A.refusals A.calls parts.old.agreement parts.new.agreement }
         ensures hosts { KeepsHosts H.lawful H.obliging H.accepts H.trusts H.refused_sign H.refused_verify H.refused_check H.calls parts.old.hosts parts.new.hosts }
         ensures groups { KeepsGroups G.lawful G.obliging G.group G.refusals G.calls parts.old.groups parts.new.groups }
@@ -90,6 +94,8 @@ impl<'c> LinkEnd<'c> {
         count: u64,
     ) -> Result<(), Error>
         ensures carries { OnOk result (CarriesTo (says_of A.lawful A.offered A.client_makes A.server_makes A.agrees H.lawful H.obliging H.accepts H.trusts H.makes G.lawful G.group self.old.transport.config parts.old.agreement parts.old.hosts parts.old.groups) (end_of self.old) wire.now count (end_of self.new)) }
+        ensures all { OnOk result (count ≡ all_bytes → length wire.now ≤ self.new.taken) }
+        ensures refused { self.old.transport.failed ≡ false → IfErr result (λ e. RefusesCarrying (telling_of A.lawful A.obliging A.offered A.client_makes A.server_makes A.agrees A.refusals H.lawful H.obliging H.accepts H.trusts H.makes H.refused_sign H.refused_verify H.refused_check G.lawful G.obliging G.group G.refusals self.old.transport.config parts.old.agreement parts.new.agreement parts.old.hosts parts.new.hosts parts.old.groups parts.new.groups) (end_of self.old) wire.now count e) }
         ensures agreement { KeepsAgreement A.lawful A.obliging A.offered A.refusals A.calls parts.old.agreement parts.new.agreement }
         ensures hosts { KeepsHosts H.lawful H.obliging H.accepts H.trusts H.refused_sign H.refused_verify H.refused_check H.calls parts.old.hosts parts.new.hosts }
         ensures groups { KeepsGroups G.lawful G.obliging G.group G.refusals G.calls parts.old.groups parts.new.groups }
@@ -103,13 +109,18 @@ impl<'c> LinkEnd<'c> {
         Ok(())
     }
 
-    /// How many exchanges it has begun.
-    pub(crate) fn begun(&self) -> u64 {
-        (self.transport.finished() as u64).saturating_add(u64::from(self.transport.inside()))
+    /// How many exchanges it has begun, with the first, inside which it is from its start on.
+    pub(crate) fn begun(&self) -> u128
+        ensures { result ≡ begun_by (end_of self.now) }
+    {
+        self.transport.finished() as u128 + u128::from(self.transport.inside())
     }
 
     /// Whether it is outside an exchange and holds no unfinished input.
-    pub(crate) fn rests(&self) -> bool {
+    pub(crate) fn rests(&self) -> bool
+        ensures rests { result ≡ true → Rests (end_of self.now) }
+        ensures restless { result ≡ false → IsRestless (end_of self.now) }
+    {
         !self.transport.inside() && self.transport.unfinished() == 0
     }
 

@@ -1,6 +1,7 @@
 //! Scripts of the command `run`.
 
 ghost use Rattle.std.specs.Prelude.{◌≡◌, ◌≤◌, Some, Ok, IfOk, IfErr, OnOk, length};
+ghost use Rattle.ssh_link.specs.GivenBlobs.{AreBlobsOf};
 ghost use Rattle.ssh_link.specs.LineFaults.{AreWrong, IsLineFault};
 ghost use Rattle.ssh_link.specs.Parsing.{IsRefusal};
 ghost use Rattle.ssh_link.specs.RunScript.{run_script, plan_from, run_line, run_form, from_two, from_word, settle_of, rekey_by};
@@ -8,6 +9,7 @@ ghost use Rattle.ssh_link.specs.Script.{pieces, words_of, side_of, hex_of, numbe
 ghost use Rattle.ssh_rules.specs.declared.link.Step.TheVariants as step;
 
 use crate::fields::{hex_bytes, number, side};
+use crate::given_blobs::GivenBlobs;
 use crate::line_fault::LineFault;
 use crate::lines::{LONGEST_SCRIPT, begins_comment};
 use crate::script::{ScriptError, ScriptFault, ScriptKind};
@@ -50,14 +52,20 @@ pub fn parse_script(alloc: Global, text: &[u8]) -> Result<Script, ScriptError>
         Ok(script) => script,
         Err(_) => return Err(ScriptError::Memory),
     };
-    take_lines(alloc, &mut script, text)?;
+    take_lines(alloc, &mut script, &mut GivenBlobs::new(alloc), text)?;
     script.complete(alloc)?;
     Ok(script)
 }
 
 /// Takes all lines, in order.
-fn take_lines(alloc: Global, script: &mut Script, text: &[u8]) -> Result<(), ScriptError>
-    requires { length text.now ≤ longest_script }
+fn take_lines(
+    alloc: Global,
+    script: &mut Script,
+    given: &mut GivenBlobs,
+    text: &[u8],
+) -> Result<(), ScriptError>
+    requires small { length text.now ≤ longest_script }
+    requires given { AreBlobsOf script.old.server.config.host given.old }
     ensures read { OnOk result (plan_from 1 script.old (pieces 10 text.now) ≡ Ok script.new) }
     ensures fault { IfErr result (λ error. IsRefusal (plan_from 1 script.old (pieces 10 text.now)) error) }
 {
@@ -65,7 +73,7 @@ fn take_lines(alloc: Global, script: &mut Script, text: &[u8]) -> Result<(), Scr
     let mut rest = Some(text);
     while let Some(lines) = rest {
         let (line, behind) = cut(lines, b'\n');
-        match take_line(alloc, script, line) {
+        match take_line(alloc, script, given, line) {
             Ok(()) => {}
             Err(fault) => return Err(fault.at(line_number)),
         }
@@ -76,24 +84,39 @@ fn take_lines(alloc: Global, script: &mut Script, text: &[u8]) -> Result<(), Scr
 }
 
 /// Takes one line.
-fn take_line(alloc: Global, script: &mut Script, line: &[u8]) -> Result<(), LineFault>
+fn take_line(
+    alloc: Global,
+    script: &mut Script,
+    given: &mut GivenBlobs,
+    line: &[u8],
+) -> Result<(), LineFault>
+    requires { AreBlobsOf script.old.server.config.host given.old }
+    ensures given { OnOk result (AreBlobsOf script.new.server.config.host given.new) }
     ensures ok { OnOk result (run_line script.old (words_of line.now) ≡ Ok script.new) }
     ensures fault { IfErr result (IsLineFault (run_line script.old (words_of line.now))) }
 {
     let mut words = Words::of(line);
     match words.take() {
-        Some(word) if !begins_comment(word) => take_form(alloc, script, word, words),
+        Some(word) if !begins_comment(word) => take_form(alloc, script, given, word, words),
         _ => Ok(()),
     }
 }
 
 /// Takes a line that has words and is no comment.
-fn take_form(alloc: Global, script: &mut Script, word: &[u8], words: Words) -> Result<(), LineFault>
+fn take_form(
+    alloc: Global,
+    script: &mut Script,
+    given: &mut GivenBlobs,
+    word: &[u8],
+    words: Words,
+) -> Result<(), LineFault>
+    requires { AreBlobsOf script.old.server.config.host given.old }
+    ensures given { OnOk result (AreBlobsOf script.new.server.config.host given.new) }
     ensures ok { OnOk result (run_form script.old word.now words.entry ≡ Ok script.new) }
     ensures fault { IfErr result (IsLineFault (run_form script.old word.now words.entry)) }
 {
     if word == SET {
-        return set(alloc, script, words);
+        return set(alloc, script, given, words);
     }
     let step = if word == SUBMIT {
         submit(alloc, words)?

@@ -1,12 +1,13 @@
 //! The parts that a script's sides are handed: test parts that refuse the calls that the script names.
 
-ghost use Rattle.std.specs.Prelude.{◌≡◌, IfOk};
+ghost use Rattle.std.specs.Prelude.{◌≡◌, ◌++◌, IfOk, OnOk, map};
+ghost use Rattle.ssh_link.specs.PlanParts.{trusted_certificate, trusted_key, trusted_of};
 
 use crate::setup::SideSetup;
 use rand_chacha::ChaCha20Rng;
 use rand_core::SeedableRng;
 use ssh_kex::Parts;
-use ssh_negotiate::ServerKeys;
+use ssh_negotiate::{HostCertificate, HostKey, ServerKeys};
 use ssh_vectors::{Refusing, TestAgreement, TestGroups, TestHosts, TrustedHost};
 use ssh_wire::Blob;
 use std::alloc::{AllocError, Global};
@@ -25,7 +26,11 @@ pub(crate) fn script_parts(
     setup: &SideSetup,
     server: &ServerKeys,
 ) -> Result<ScriptParts, AllocError>
-    ensures { IfOk result (λ parts. parts.groups.inner.bits ≡ setup.now.group_bits) }
+    ensures agreement { IfOk result (λ parts. parts.agreement.refuse_at ≡ setup.now.refuse_agreement) }
+    ensures hosts { IfOk result (λ parts. parts.hosts.refuse_at ≡ setup.now.refuse_hosts) }
+    ensures groups { IfOk result (λ parts. parts.groups.refuse_at ≡ setup.now.refuse_groups) }
+    ensures trusted { IfOk result (λ parts. parts.hosts.inner.trusted ≡ trusted_of server.now) }
+    ensures bits { IfOk result (λ parts. parts.groups.inner.bits ≡ setup.now.group_bits) }
 {
     let trusted = trusted_hosts(alloc, server)?;
     Ok(Parts {
@@ -43,7 +48,8 @@ pub(crate) fn script_parts(
 
 /// A part that was never asked, and refuses the call with this number.
 fn refusing<T>(inner: T, refuse_at: u64) -> Refusing<T>
-    ensures { result.inner ≡ inner }
+    ensures inner { result.inner ≡ inner }
+    ensures refuse_at { result.refuse_at ≡ refuse_at }
 {
     Refusing {
         inner,
@@ -61,19 +67,45 @@ fn seed_bytes(seed: u64) -> [u8; 32] {
 }
 
 /// The server's keys and then its certificates, in their order. Memory.
-fn trusted_hosts(alloc: Global, server: &ServerKeys) -> Result<Vec<TrustedHost>, AllocError> {
+fn trusted_hosts(alloc: Global, server: &ServerKeys) -> Result<Vec<TrustedHost>, AllocError>
+    ensures { IfOk result (λ trusted. trusted.items ≡ trusted_of server.now) }
+{
     let mut trusted = Vec::new(alloc);
-    for key in &server.keys {
+    trust_keys(alloc, &mut trusted, server.keys.as_slice())?;
+    trust_certificates(alloc, &mut trusted, server.certificates.as_slice())?;
+    Ok(trusted)
+}
+
+/// Trusts each key as its own. Memory.
+fn trust_keys(
+    alloc: Global,
+    trusted: &mut Vec<TrustedHost>,
+    keys: &[HostKey],
+) -> Result<(), AllocError>
+    ensures { OnOk result (trusted.new.items ≡ trusted.old.items ++ map trusted_key keys.now) }
+{
+    for key in keys {
         trusted.push(TrustedHost {
             blob: Blob::copy_of(alloc, key.blob.as_slice())?,
             key_blob: Blob::copy_of(alloc, key.blob.as_slice())?,
         })?;
     }
-    for certificate in &server.certificates {
+    Ok(())
+}
+
+/// Trusts each certificate with the key that it names. Memory.
+fn trust_certificates(
+    alloc: Global,
+    trusted: &mut Vec<TrustedHost>,
+    certificates: &[HostCertificate],
+) -> Result<(), AllocError>
+    ensures { OnOk result (trusted.new.items ≡ trusted.old.items ++ map trusted_certificate certificates.now) }
+{
+    for certificate in certificates {
         trusted.push(TrustedHost {
             blob: Blob::copy_of(alloc, certificate.blob.as_slice())?,
             key_blob: Blob::copy_of(alloc, certificate.key_blob.as_slice())?,
         })?;
     }
-    Ok(trusted)
+    Ok(())
 }

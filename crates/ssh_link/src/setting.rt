@@ -1,15 +1,13 @@
 //! The lines `set` of a script.
 
 ghost use Rattle.std.specs.Prelude.{◌≡◌, ◌∷◌, [], Some, IfOk, IfErr, OnOk};
+ghost use Rattle.ssh_link.specs.GivenBlobs.{AreBlobsOf};
 ghost use Rattle.ssh_link.specs.LineFaults.{AreWrong};
-ghost use Rattle.ssh_link.specs.RunScript.{setting_of, part_of, set_before, set_server, set_side, with_refusal, with_limits, with_key, with_certificate, host_key, host_certificate, from_word, from_two, from_three, sizes, size_of, standard_of, raw_of, algorithm_of, utf8_of, list_of, has_blob};
-ghost use Rattle.std.specs.List.{list_any};
-ghost use Rattle.std.specs.Str.{bytes_eq};
-ghost use Rattle.ssh_negotiate.specs.declared.preferred.HostKey.{HostKey};
-ghost use Rattle.ssh_negotiate.specs.declared.preferred.HostCertificate.{HostCertificate};
+ghost use Rattle.ssh_link.specs.RunScript.{setting_of, part_of, set_before, set_server, set_side, with_refusal, with_limits, with_key, with_certificate, host_key, host_certificate, from_word, from_two, from_three, sizes, size_of, standard_of, raw_of, algorithm_of, utf8_of, list_of};
 ghost use Rattle.ssh_link.specs.Script.{hex_of, number_of};
 
 use crate::fields::{hex_bytes, number, side, size};
+use crate::given_blobs::GivenBlobs;
 use crate::line_fault::LineFault;
 use crate::name_lists::{HOST_KEY_NAMES, KEX_NAMES, named, names};
 use crate::setup::{Script, SideSetup};
@@ -100,8 +98,16 @@ fn part_named(word: &[u8]) -> Option<Part>
     }
 }
 
-/// The words behind `set`: SIDE, what is set, and its value. No line sets anything behind a step.
-pub(crate) fn set(alloc: Global, script: &mut Script, mut words: Words) -> Result<(), LineFault>
+/// The words behind `set`: SIDE, what is set, and its value. No line sets anything behind a step, and none gives a blob
+/// again.
+pub(crate) fn set(
+    alloc: Global,
+    script: &mut Script,
+    given: &mut GivenBlobs,
+    mut words: Words,
+) -> Result<(), LineFault>
+    requires { AreBlobsOf script.old.server.config.host given.old }
+    ensures given { OnOk result (AreBlobsOf script.new.server.config.host given.new) }
     ensures ok { OnOk result (set_before script.old.steps words.entry script.old ≡ Some script.new) }
     ensures fault { IfErr result (AreWrong (set_before script.old.steps words.entry script.old)) }
 {
@@ -116,7 +122,7 @@ pub(crate) fn set(alloc: Global, script: &mut Script, mut words: Words) -> Resul
     };
     match side {
         Side::Client => set_side(alloc, &mut script.client, setting, words),
-        Side::Server => set_server(alloc, &mut script.server, setting, words),
+        Side::Server => set_server(alloc, &mut script.server, given, setting, words),
     }
 }
 
@@ -124,15 +130,18 @@ pub(crate) fn set(alloc: Global, script: &mut Script, mut words: Words) -> Resul
 fn set_server(
     alloc: Global,
     setup: &mut SideSetup,
+    given: &mut GivenBlobs,
     setting: Setting,
     words: Words,
 ) -> Result<(), LineFault>
+    requires { AreBlobsOf setup.old.config.host given.old }
+    ensures given { OnOk result (AreBlobsOf setup.new.config.host given.new) }
     ensures ok { OnOk result (set_server setting words.entry setup.old ≡ Some setup.new) }
     ensures fault { IfErr result (AreWrong (set_server setting words.entry setup.old)) }
 {
     match setting {
-        Setting::Host => add_key(alloc, &mut setup.config.host, words),
-        Setting::HostCertificate => add_certificate(alloc, &mut setup.config.host, words),
+        Setting::Host => add_key(alloc, &mut setup.config.host, given, words),
+        Setting::HostCertificate => add_certificate(alloc, &mut setup.config.host, given, words),
         Setting::Group => {
             setup.group_bits = group_size(words)?;
             Ok(())
@@ -141,13 +150,14 @@ fn set_server(
     }
 }
 
-/// What is set of either side.
+/// What is set of either side, which leaves the host keys.
 fn set_side(
     alloc: Global,
     setup: &mut SideSetup,
     setting: Setting,
     words: Words,
 ) -> Result<(), LineFault>
+    ensures host { OnOk result (setup.new.config.host ≡ setup.old.config.host) }
     ensures ok { OnOk result (set_side setting words.entry setup.old ≡ Some setup.new) }
     ensures fault { IfErr result (AreWrong (set_side setting words.entry setup.old)) }
 {
@@ -315,9 +325,28 @@ fn set_refusal(setup: &mut SideSetup, mut words: Words) -> Result<(), LineFault>
 }
 
 /// ALGORITHM HEX
-fn add_key(alloc: Global, host: &mut ServerKeys, mut words: Words) -> Result<(), LineFault>
+fn add_key(
+    alloc: Global,
+    host: &mut ServerKeys,
+    given: &mut GivenBlobs,
+    words: Words,
+) -> Result<(), LineFault>
+    requires { AreBlobsOf host.old given.old }
+    ensures given { OnOk result (AreBlobsOf host.new given.new) }
     ensures ok { OnOk result (with_key host.old (from_two host_key algorithm_of hex_of words.entry) ≡ Some host.new) }
     ensures fault { IfErr result (AreWrong (with_key host.old (from_two host_key algorithm_of hex_of words.entry))) }
+{
+    let key = key_in(alloc, words)?;
+    if !given.add(alloc, key.blob.as_slice())? {
+        return Err(LineFault::Malformed);
+    }
+    host.keys.push(key)?;
+    Ok(())
+}
+
+fn key_in(alloc: Global, mut words: Words) -> Result<HostKey, LineFault>
+    ensures ok { IfOk result (λ key. from_two host_key algorithm_of hex_of words.entry ≡ Some key) }
+    ensures fault { IfErr result (AreWrong (from_two host_key algorithm_of hex_of words.entry)) }
 {
     let (Some(algorithm_word), Some(blob_word), None) = (words.take(), words.take(), words.take())
     else {
@@ -325,17 +354,32 @@ fn add_key(alloc: Global, host: &mut ServerKeys, mut words: Words) -> Result<(),
     };
     let algorithm = algorithm_in(algorithm_word)?;
     let blob = blob_in(alloc, blob_word)?;
-    if has_blob(host, blob.as_slice()) {
-        return Err(LineFault::Malformed);
-    }
-    host.keys.push(HostKey { algorithm, blob })?;
-    Ok(())
+    Ok(HostKey { algorithm, blob })
 }
 
 /// ALGORITHM HEX HEX
-fn add_certificate(alloc: Global, host: &mut ServerKeys, mut words: Words) -> Result<(), LineFault>
+fn add_certificate(
+    alloc: Global,
+    host: &mut ServerKeys,
+    given: &mut GivenBlobs,
+    words: Words,
+) -> Result<(), LineFault>
+    requires { AreBlobsOf host.old given.old }
+    ensures given { OnOk result (AreBlobsOf host.new given.new) }
     ensures ok { OnOk result (with_certificate host.old (from_three host_certificate algorithm_of hex_of hex_of words.entry) ≡ Some host.new) }
     ensures fault { IfErr result (AreWrong (with_certificate host.old (from_three host_certificate algorithm_of hex_of hex_of words.entry))) }
+{
+    let certificate = certificate_in(alloc, words)?;
+    if !given.add(alloc, certificate.blob.as_slice())? {
+        return Err(LineFault::Malformed);
+    }
+    host.certificates.push(certificate)?;
+    Ok(())
+}
+
+fn certificate_in(alloc: Global, mut words: Words) -> Result<HostCertificate, LineFault>
+    ensures ok { IfOk result (λ certificate. from_three host_certificate algorithm_of hex_of hex_of words.entry ≡ Some certificate) }
+    ensures fault { IfErr result (AreWrong (from_three host_certificate algorithm_of hex_of hex_of words.entry)) }
 {
     let (Some(algorithm_word), Some(blob_word), Some(key_word), None) = (
         words.take(),
@@ -348,15 +392,11 @@ fn add_certificate(alloc: Global, host: &mut ServerKeys, mut words: Words) -> Re
     let algorithm = algorithm_in(algorithm_word)?;
     let blob = blob_in(alloc, blob_word)?;
     let key_blob = blob_in(alloc, key_word)?;
-    if has_blob(host, blob.as_slice()) {
-        return Err(LineFault::Malformed);
-    }
-    host.certificates.push(HostCertificate {
+    Ok(HostCertificate {
         algorithm,
         blob,
         key_blob,
-    })?;
-    Ok(())
+    })
 }
 
 /// ALGORITHM
@@ -376,28 +416,4 @@ fn blob_in(alloc: Global, word: &[u8]) -> Result<Blob, LineFault>
         Some(bytes) => Ok(Blob::new(bytes)),
         None => Err(LineFault::Malformed),
     }
-}
-
-/// Whether a line gave this blob.
-fn has_blob(host: &ServerKeys, blob: &[u8]) -> bool
-    ensures { result ≡ has_blob host.now blob.now }
-{
-    is_key_blob(host.keys.as_slice(), blob)
-        || is_certificate_blob(host.certificates.as_slice(), blob)
-}
-
-/// Whether it is a key's blob.
-fn is_key_blob(keys: &[HostKey], blob: &[u8]) -> bool
-    ensures { result ≡ list_any (λ (key : HostKey). bytes_eq key.blob blob.now) keys.now }
-{
-    keys.iter().any(|key| key.blob.as_slice() == blob)
-}
-
-/// Whether it is a certificate's blob.
-fn is_certificate_blob(certificates: &[HostCertificate], blob: &[u8]) -> bool
-    ensures { result ≡ list_any (λ (certificate : HostCertificate). bytes_eq certificate.blob blob.now) certificates.now }
-{
-    certificates
-        .iter()
-        .any(|certificate| certificate.blob.as_slice() == blob)
 }

@@ -2,9 +2,9 @@
 
 ghost use Rattle.std.specs.Prelude.{◌≡◌, Ok, IfOk, IfErr};
 ghost use Rattle.ssh_wire.specs.declared.ssh_id.SshId.TheVariants.{Standard};
-ghost use Rattle.ssh_link.specs.Parsing.{IsRefusal};
+ghost use Rattle.ssh_link.specs.Parsing.{IsRefusal as IsScriptRefusal};
 ghost use Rattle.ssh_link.specs.Generated.{generated_plan};
-ghost use Rattle.ssh_link.specs.Program.{AnswersGen, AnswersSteps, AnswersScript, AnswersLinkScript, AnswersPlan, AnswersText};
+ghost use Rattle.ssh_link.specs.Program.{AnswersGen, AnswersSteps, AnswersScript, AnswersLinkScript, AnswersPlan, AnswersText, IsRefusal};
 ghost use Rattle.ssh_link.specs.Script.{clear_script};
 ghost use Rattle.ssh_link.specs.RunScript.{run_script};
 ghost use Rattle.ssh_vectors.specs.Primes.{IsLawful};
@@ -54,7 +54,7 @@ fn clear_answer(alloc: Global, text: Vec<u8>) -> Result<Answer, ReadError>
 /// The script's steps. The text is freed before they are run.
 fn take_steps(alloc: Global, text: Vec<u8>) -> Result<Vec<ClearStep>, ScriptError>
     ensures read { IfOk result (λ steps. clear_script text.items ≡ Ok steps.items) }
-    ensures fault { IfErr result (λ error. IsRefusal (clear_script text.items) error) }
+    ensures fault { IfErr result (λ error. IsScriptRefusal (clear_script text.items) error) }
 {
     parse_clear(alloc, text.as_slice())
 }
@@ -95,7 +95,7 @@ fn link_answer(alloc: Global, text: Vec<u8>) -> Result<Answer, ReadError>
 /// The script. The text is freed before it is run.
 fn take_script(alloc: Global, text: Vec<u8>) -> Result<Script, ScriptError>
     ensures read { IfOk result (λ script. run_script text.items ≡ Ok script) }
-    ensures fault { IfErr result (λ error. IsRefusal (run_script text.items) error) }
+    ensures fault { IfErr result (λ error. IsScriptRefusal (run_script text.items) error) }
 {
     parse_script(alloc, text.as_slice())
 }
@@ -111,8 +111,7 @@ pub(crate) fn gen_answer(alloc: Global, seed: u64, count: u64) -> Result<Answer,
     };
     match run_script(alloc, &script) {
         Ok(report) => Ok(Answer::RanGen(report)),
-        Err(Error::Memory) => Err(ReadError::Memory),
-        Err(error) => Ok(Answer::Refused(error)),
+        Err(error) => refused(error),
     }
 }
 
@@ -125,7 +124,17 @@ fn script_answer(alloc: Global, script: Script) -> Result<Answer, ReadError>
 {
     match run_script(alloc, &script) {
         Ok(report) => Ok(Answer::RanLink(report)),
-        Err(Error::Memory) => Err(ReadError::Memory),
-        Err(error) => Ok(Answer::Refused(error)),
+        Err(error) => refused(error),
+    }
+}
+
+/// What is answered to a refused run; want of memory is no refusal.
+fn refused(error: Error) -> Result<Answer, ReadError>
+    ensures answer { IfOk result (IsRefusal error) }
+    ensures err { IfErr result (λ e. e ≡ Memory) }
+{
+    match error {
+        Error::Memory => Err(ReadError::Memory),
+        error => Ok(Answer::Refused(error)),
     }
 }

@@ -1,6 +1,6 @@
 -- Each call on a transport that is a side of a link is a turn of it.
 use Rattle.std.proofs.Common.{◌≡◌, ℕ, List, [], ◌∷◌, ◌++◌, length, drop, refl, sym, ◌∙◌, ap, subst, Some, inl, inr, length-append, append-nil, append_assoc}
-use Rattle.ssh_wire.specs.Lines.{NotYet, Id, id_of, id_line, id_text}
+use Rattle.ssh_wire.specs.Lines.{NotYet, Id, Version, id_of, id_line, id_text}
 use Rattle.ssh_wire.specs.Reading.{IdReading, still_allowed}
 use Rattle.ssh_wire.specs.Sides.{other_side}
 use Rattle.ssh_wire.specs.declared.side.Side.{Side}
@@ -9,8 +9,8 @@ use Rattle.ssh_kex.specs.declared.config.Config.{Config}
 use Rattle.ssh_rules.specs.Log.{handled, sent_bytes, read_bytes}
 use Rattle.ssh_rules.specs.Machine.{Spot, SideState, Asked, Event, IdHeard, PayloadSubmitted, ExchangeBegun, AnswerSent, PayloadSent, MessageTaken, GuessDropped, PayloadDelivered, PacketDropped, ExchangeFinished, Steps, IsQuiet}
 use Rattle.ssh_rules.specs.Snapshots.{StandsAs, HasCome, IsInLine, IsBehindLine, IsWholeId, GivesTurn, IsAtRest, TookBytes}
-use Rattle.ssh_rules.specs.Standing.{Standing, Acts, HearsNone, HearsFrom, ReadsLineFrom, TakesInput, Submitted, BeginsAsked, lets_pass}
-use Rattle.ssh_rules.specs.Turns.{LinkEnd, HearsAs, talkers}
+use Rattle.ssh_rules.specs.Standing.{Standing, Acts, HearsNone, HearsFrom, IsNoId, ReadsIdLine, ReadsLineFrom, TakesInput, Submitted, BeginsAsked, lets_pass}
+use Rattle.ssh_rules.specs.Turns.{LinkEnd, HearsAs, TakesTurn, Talkers, talkers}
 use Rattle.ssh_rules.specs.Wire.{HasFront}
 use Rattle.ssh_rules.proofs.IdLines.{InLine, BehindLine, cut_line, part_is_none, whole_is_id, all_left, drop_line}
 use Rattle.ssh_rules.proofs.Starts.{rests_again}
@@ -98,47 +98,45 @@ took_bytes line took reading waiting h (inr p) = inr (p.text, p.heard, ap length
 
 -- ---- a piece that is taken
 
--- A piece of an honest peer's wire, taken by a transport that is a side of a link, is a turn of it.
-pub input_turn : (says : Side → Says) (config : Side → Config) (side : Side) (took piece : List ℕ) (h peer : LinkEnd) (old new : Standing) → IsWholeId (config (other_side side)) → StandsAs (talkers says config) side took old h → HasFront (id_line (config (other_side side)).id ++ peer.sent) (took ++ piece) → (i : TakesInput (says side) old piece new) → GivesTurn (talkers says config) side (took ++ piece) i.events old new h peer
-input_turn says config side took piece h peer old new whole s honest i = by s.come where
+-- the side behind events that a transport did
+abbrev pub end_behind : Side → LinkEnd → List Event → List ℕ → Standing → LinkEnd
+end_behind side h events piece new = record { state = new.state; sent = h.sent ++ sent_bytes side h.state.writing events; fed = h.fed ++ piece; unfinished = new.waiting }
+
+-- the turn that they are, and where the side stands behind it
+pub record TurnsBy (t : Talkers) (side : Side) (took : List ℕ) (events : List Event) (new : Standing) (h peer : LinkEnd) : Type 0 where
+  pub piece : List ℕ
+  pub turn : TakesTurn t side h piece events peer (end_behind side h events piece new)
+  pub stands : StandsAs t side took new (end_behind side h events piece new)
+
+-- Some events that a piece of an honest peer's wire led to, whether or not something whole is left.
+pub taken_turn : (says : Side → Says) (config : Side → Config) (side : Side) (took piece : List ℕ) (events : List Event) (behind : List ℕ) (h peer : LinkEnd) (old new : Standing) → IsWholeId (config (other_side side)) → StandsAs (talkers says config) side took old h → HasFront (id_line (config (other_side side)).id ++ peer.sent) (took ++ piece) → Acts (says side) old events new → ReadsIdLine old piece events new.line behind → behind ≡ read_bytes old.side old.state.reading events ++ new.waiting → TurnsBy (talkers says config) side (took ++ piece) events new h peer
+taken_turn says config side took piece events behind h peer old new whole s honest acts line_read read_is = by s.come where
   line : List ℕ
   line = id_line (config (other_side side)).id
 
   text : List ℕ
   text = id_text (config (other_side side)).id
 
-  a : ActsAt (says side) side (config side) i.events h old new
-  a = acts_at says config side took i.events h old new s i.acts
+  a : ActsAt (says side) side (config side) events h old new
+  a = acts_at says config side took events h old new s acts
 
-  written : List ℕ
-  written = sent_bytes side h.state.writing i.events
+  read : behind ≡ read_bytes side h.state.reading events ++ new.waiting
+  read = at_side (λ x y z. behind ≡ read_bytes x z.reading events ++ new.waiting) old.side side old.config (config side) old.state h.state s.side_is s.config_is s.state_is read_is
 
-  read : i.behind ≡ read_bytes side h.state.reading i.events ++ new.waiting
-  read = at_side (λ x y z. i.behind ≡ read_bytes x z.reading i.events ++ new.waiting) old.side side old.config (config side) old.state h.state s.side_is s.config_is s.state_is i.read
-
-  behind_with : List ℕ → LinkEnd
-  behind_with p = record { state = new.state; sent = h.sent ++ written; fed = h.fed ++ p; unfinished = new.waiting }
-
-  turn_with : (p : List ℕ) → h.unfinished ++ p ≡ i.behind → HasFront peer.sent (h.fed ++ p) → HearsAs text i.events → HasCome line (took ++ piece) new.line new.waiting (behind_with p) → GivesTurn (talkers says config) side (took ++ piece) i.events old new h peer
+  turn_with : (p : List ℕ) → h.unfinished ++ p ≡ behind → HasFront peer.sent (h.fed ++ p) → HearsAs text events → HasCome line (took ++ piece) new.line new.waiting (end_behind side h events p new) → TurnsBy (talkers says config) side (took ++ piece) events new h peer
   turn_with p e front heard come = record {
     piece = p;
-    written = written;
-    behind = behind_with p;
     turn = record { steps = a.steps; sends = refl; takes = refl; reads = e ∙ read; honest = front; heard = heard; answered = a.quiet.not_called };
-    stands = record { side_is = a.side_is; config_is = a.config_is; state_is = refl; live = i.acts.live; come = come };
-    rests = record { quiet = a.quiet; part = i.part };
-    sent_is = refl;
-    output_is = a.output;
-    delivered_is = i.acts.delivered;
+    stands = record { side_is = a.side_is; config_is = a.config_is; state_is = refl; live = acts.live; come = come };
   }
 
   allowed : ℕ
   allowed = still_allowed (lets_pass old.side) 0
 
-  at_none : IsInLine line took old.line old.waiting h → InLine line (took ++ piece) → HearsFrom old.side NotYet (took ++ piece) 0 i.events new.line i.behind → GivesTurn (talkers says config) side (took ++ piece) i.events old new h peer
+  at_none : IsInLine line took old.line old.waiting h → InLine line (took ++ piece) → HearsFrom old.side NotYet (took ++ piece) 0 events new.line behind → TurnsBy (talkers says config) side (took ++ piece) events new h peer
   at_none c p f =
       let same : new.state ≡ h.state = subst (λ es. Steps (says side) side (config side) (id_text (config side).id) h.state es new.state) f.0 a.steps in
-      let nothing : new.waiting ≡ [] = nil_behind (read_bytes side h.state.reading i.events) new.waiting (sym f.2 ∙ read) in
+      let nothing : new.waiting ≡ [] = nil_behind (read_bytes side h.state.reading events) new.waiting (sym f.2 ∙ read) in
       turn_with [] (ap (λ q. q ++ []) c.unfinished ∙ sym f.2) (subst (λ q. HasFront peer.sent (q ++ [])) (sym c.fed) (peer.sent, refl)) (subst (HearsAs text) (sym f.0) tt)
       (inl (record {
         reading_is = f.1 ∙ all_left allowed (took ++ piece) 0 (part_is_none line text (took ++ piece) 0 whole p);
@@ -149,39 +147,79 @@ input_turn says config side took piece h peer old new whole s honest i = by s.co
         waiting_is = nothing;
       }))
 
-  at_id : IsInLine line took old.line old.waiting h → (p : BehindLine line peer.sent (took ++ piece)) → HearsFrom old.side (Id text (length line)) (took ++ piece) 0 i.events new.line i.behind → GivesTurn (talkers says config) side (took ++ piece) i.events old new h peer
+  at_id : IsInLine line took old.line old.waiting h → (p : BehindLine line peer.sent (took ++ piece)) → HearsFrom old.side (Id text (length line)) (took ++ piece) 0 events new.line behind → TurnsBy (talkers says config) side (took ++ piece) events new h peer
   at_id c p f =
       let steps = subst (λ es. Steps (says side) side (config side) (id_text (config side).id) h.state es new.state) f.0.1 a.steps in
       let heard : new.state.heard ≡ Some text = heard_stays (says side) side (config side) (id_text (config side).id) f.0.0 steps.0 new.state f.0.2 steps.2 ∙ ap (λ (q : SideState). q.heard) steps.1.becomes in
-      let rest : i.behind ≡ p.rest = f.2 ∙ (ap (drop (length line)) p.whole ∙ drop_line line p.rest) in
+      let rest : behind ≡ p.rest = f.2 ∙ (ap (drop (length line)) p.whole ∙ drop_line line p.rest) in
       turn_with p.rest (ap (λ q. q ++ p.rest) c.unfinished ∙ sym rest) (subst (λ q. HasFront peer.sent (q ++ p.rest)) (sym c.fed) p.front) (subst (HearsAs text) (sym f.0.1) (refl, none_as text f.0.0 f.0.2))
       (inr (record { text = text; reading_is = f.1; heard = heard; unfinished = refl; took_is = p.whole ∙ ap (λ q. line ++ (q ++ p.rest)) (sym c.fed) }))
 
-  in_line : IsInLine line took old.line old.waiting h → GivesTurn (talkers says config) side (took ++ piece) i.events old new h peer
+  in_line : IsInLine line took old.line old.waiting h → TurnsBy (talkers says config) side (took ++ piece) events new h peer
   in_line c =
-      let f : HearsFrom old.side (id_of allowed (took ++ piece)) (took ++ piece) 0 i.events new.line i.behind = subst (λ r. ReadsLineFrom old.side r old.waiting piece i.events new.line i.behind) c.reading_is i.line in
+      let f : HearsFrom old.side (id_of allowed (took ++ piece)) (took ++ piece) 0 events new.line behind = subst (λ r. ReadsLineFrom old.side r old.waiting piece events new.line behind) c.reading_is line_read in
       elim (cut_line line peer.sent (took ++ piece) honest.0 honest.1) [
-        | inl p ↦ at_none c p (subst (λ r. HearsFrom old.side r (took ++ piece) 0 i.events new.line i.behind) (part_is_none line text (took ++ piece) allowed whole p) f)
-        | inr p ↦ at_id c p (subst (λ r. HearsFrom old.side r (took ++ piece) 0 i.events new.line i.behind) (whole_is_id line text peer.sent (took ++ piece) allowed whole p) f)
+        | inl p ↦ at_none c p (subst (λ r. HearsFrom old.side r (took ++ piece) 0 events new.line behind) (part_is_none line text (took ++ piece) allowed whole p) f)
+        | inr p ↦ at_id c p (subst (λ r. HearsFrom old.side r (took ++ piece) 0 events new.line behind) (whole_is_id line text peer.sent (took ++ piece) allowed whole p) f)
       ]
 
-  behind_line : IsBehindLine line took old.line old.waiting h → GivesTurn (talkers says config) side (took ++ piece) i.events old new h peer
+  behind_line : IsBehindLine line took old.line old.waiting h → TurnsBy (talkers says config) side (took ++ piece) events new h peer
   behind_line c =
-      let f = subst (λ r. ReadsLineFrom old.side r old.waiting piece i.events new.line i.behind) c.reading_is i.line in
+      let f = subst (λ r. ReadsLineFrom old.side r old.waiting piece events new.line behind) c.reading_is line_read in
       let all : took ++ piece ≡ line ++ (h.fed ++ piece) = ap (λ q. q ++ piece) c.took_is ∙ append_assoc line h.fed piece in
       let front : (h.fed ++ piece) ++ honest.0 ≡ peer.sent = same_rest line ((h.fed ++ piece) ++ honest.0) peer.sent (sym (append_assoc line (h.fed ++ piece) honest.0) ∙ (ap (λ q. q ++ honest.0) (sym all) ∙ honest.1)) in
-      turn_with piece (ap (λ q. q ++ piece) (sym c.unfinished) ∙ sym f.2) (honest.0, front) (none_as text i.events f.0)
+      turn_with piece (ap (λ q. q ++ piece) (sym c.unfinished) ∙ sym f.2) (honest.0, front) (none_as text events f.0)
       (inr (record {
         text = c.text;
         reading_is = f.1;
-        heard = heard_stays (says side) side (config side) (id_text (config side).id) i.events h.state new.state f.0 a.steps ∙ c.heard;
+        heard = heard_stays (says side) side (config side) (id_text (config side).id) events h.state new.state f.0 a.steps ∙ c.heard;
         unfinished = refl;
         took_is = all;
       }))
 
-  by : HasCome line took old.line old.waiting h → GivesTurn (talkers says config) side (took ++ piece) i.events old new h peer
+  by : HasCome line took old.line old.waiting h → TurnsBy (talkers says config) side (took ++ piece) events new h peer
   by (inl c) = in_line c
   by (inr c) = behind_line c
+
+-- A piece of an honest peer's wire, taken by a transport that is a side of a link, is a turn of it.
+pub input_turn : (says : Side → Says) (config : Side → Config) (side : Side) (took piece : List ℕ) (h peer : LinkEnd) (old new : Standing) → IsWholeId (config (other_side side)) → StandsAs (talkers says config) side took old h → HasFront (id_line (config (other_side side)).id ++ peer.sent) (took ++ piece) → (i : TakesInput (says side) old piece new) → GivesTurn (talkers says config) side (took ++ piece) i.events old new h peer
+input_turn says config side took piece h peer old new whole s honest i = record {
+  piece = v.piece;
+  written = sent_bytes side h.state.writing i.events;
+  behind = end_behind side h i.events v.piece new;
+  turn = v.turn;
+  stands = v.stands;
+  rests = record { quiet = a.quiet; part = i.part };
+  sent_is = refl;
+  output_is = a.output;
+  delivered_is = i.acts.delivered;
+} where
+  a : ActsAt (says side) side (config side) i.events h old new
+  a = acts_at says config side took i.events h old new s i.acts
+
+  v : TurnsBy (talkers says config) side (took ++ piece) i.events new h peer
+  v = taken_turn says config side took piece i.events i.behind h peer old new whole s honest i.acts i.line i.read
+
+-- An honest peer's wire is never answered as one that has no version line.
+pub no_version : (says : Side → Says) (config : Side → Config) (side : Side) (took piece : List ℕ) (events : List Event) (h peer : LinkEnd) (old : Standing) → IsWholeId (config (other_side side)) → StandsAs (talkers says config) side took old h → HasFront (id_line (config (other_side side)).id ++ peer.sent) (took ++ piece) → IsNoId old.side old.line piece events → ⊥
+no_version says config side took piece events h peer old whole s honest n = by s.come where
+  line : List ℕ
+  line = id_line (config (other_side side)).id
+
+  text : List ℕ
+  text = id_text (config (other_side side)).id
+
+  allowed : ℕ
+  allowed = still_allowed (lets_pass old.side) 0
+
+  by : HasCome line took old.line old.waiting h → ⊥
+  by (inl c) =
+      let f : (events ≡ []) × (id_of allowed (took ++ piece) ≡ Version) = subst (λ r. IsNoId old.side r piece events) c.reading_is n in
+      elim (cut_line line peer.sent (took ++ piece) honest.0 honest.1) [
+        | inl p ↦ (let q : NotYet ≡ Version = sym (part_is_none line text (took ++ piece) allowed whole p) ∙ f.1 in cc)
+        | inr p ↦ (let q : Id text (length line) ≡ Version = sym (whole_is_id line text peer.sent (took ++ piece) allowed whole p) ∙ f.1 in cc)
+      ]
+  by (inr c) = subst (λ r. IsNoId old.side r piece events) c.reading_is n
 
 -- ---- calls that read nothing
 

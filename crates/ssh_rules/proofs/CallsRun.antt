@@ -33,7 +33,7 @@ abbrev pub calls_in : Counts → (says : Says) (side : Side) (config : Config) (
 calls_in c says side config own_id [] st st' h = 0
 calls_in c says side config own_id (e ∷ es) st st' h = c.asked st.stands e h.0.stands + calls_in c says side config own_id es h.0 st' h.2
 
-split_times : (n a b c : ℕ) → a ≤ b → b ≤ c → n * (b - a) + n * (c - b) ≡ n * (c - a)
+pub split_times : (n a b c : ℕ) → a ≤ b → b ≤ c → n * (b - a) + n * (c - b) ≡ n * (c - a)
 split_times n a b c l m = sym (mul-add n (b - a) (c - b)) ∙ ap (λ d. n * d) (let z : (b - a) + (c - b) ≡ c - a = omega (arith, l, m) in z)
 
 -- counts join
@@ -131,7 +131,7 @@ closed_agreement config st ReadLimit side h = (ap (agreement_to_come side) h.0, 
 
 -- ---- stages
 
-dropped_calls : (side at : Side) (stage : Stage) → (agreement_to_come side (Inside (guess_dropped at stage)) ≡ agreement_to_come side (Inside stage)) × (hosts_to_come side (Inside (guess_dropped at stage)) ≡ hosts_to_come side (Inside stage)) × (lookups_to_come side (Inside (guess_dropped at stage)) ≡ lookups_to_come side (Inside stage))
+pub dropped_calls : (side at : Side) (stage : Stage) → (agreement_to_come side (Inside (guess_dropped at stage)) ≡ agreement_to_come side (Inside stage)) × (hosts_to_come side (Inside (guess_dropped at stage)) ≡ hosts_to_come side (Inside stage)) × (lookups_to_come side (Inside (guess_dropped at stage)) ≡ lookups_to_come side (Inside stage))
 dropped_calls Client at (Created own) = (refl, refl, refl)
 dropped_calls Client at (AwaitsGroup o) = (refl, refl, refl)
 dropped_calls Client at (AwaitsReply o g l p) = (refl, refl, refl)
@@ -149,7 +149,7 @@ trust_left : (side : Side) (exchange : Exchange) (x : FinishedExchange) (host : 
 trust_left side exchange x None = refl
 trust_left side exchange x (Some host) = refl
 
-begun_first : (side : Side) (own : List ℕ) → (agreement_to_come side (Inside (Created own)) ≡ calls_of side) × (hosts_to_come side (Inside (Created own)) ≡ calls_of side) × (lookups_to_come side (Inside (Created own)) ≡ lookups_of side)
+pub begun_first : (side : Side) (own : List ℕ) → (agreement_to_come side (Inside (Created own)) ≡ calls_of side) × (hosts_to_come side (Inside (Created own)) ≡ calls_of side) × (lookups_to_come side (Inside (Created own)) ≡ lookups_of side)
 begun_first Client own = (refl, refl, refl)
 begun_first Server own = (refl, refl, refl)
 

@@ -79,17 +79,17 @@ nothing_whole : (at : Option Place) → IsEnd at []
 nothing_whole None = tt
 nothing_whole (Some at) = λ i more a e. (let l = length_sealed at.sealing at.number i in let f : 0 ≡ length (packet_at at i ++ more) = ap length e in let g = length-append (packet_at at i) more in omega (arith, l, f, g))
 
--- where all bytes were taken, all packets were handled
-pub all_handled : (t : Talkers) (side : Side) (log plog : List Event) (h peer : LinkEnd) → AreFit t → RunsInLink t side log h → RunsInLink t (other_side side) plog peer → HasFront h.sent peer.fed → h.fed ≡ peer.sent → IsAtRest (t.config side) h → handled log ≡ wrote plog
+-- where all bytes were taken, all packets were handled, and no input is left
+pub all_handled : (t : Talkers) (side : Side) (log plog : List Event) (h peer : LinkEnd) → AreFit t → RunsInLink t side log h → RunsInLink t (other_side side) plog peer → HasFront h.sent peer.fed → h.fed ≡ peer.sent → IsAtRest (t.config side) h → (handled log ≡ wrote plog) × (h.unfinished ≡ [])
 all_handled t side log plog h peer fit r p a e rests =
     let at : Option Place = Some (first_place (map (outgoing (other_side side)) (recorded plog))) in
     let w = whole_is_handled t side log [] plog h h peer fit (record { now = r; later = subst (λ l. RunsInLink t side l h) (sym (append-nil log)) r }) p a ([], append-nil h.fed ∙ e) rests.part in
     let theirs = facts t (other_side side) plog peer.state peer.sent peer.fed peer.unfinished p.heard p.guesses p.ran in
-    (one_reading_by by_type [] at (handled log) (wrote plog) peer.sent h.unfinished []
+    one_reading_by by_type [] at (handled log) (wrote plog) peer.sent h.unfinished []
     (reads_by_type [] at (handled log) peer.sent h.unfinished (subst (λ q. Reads at (handled log) q h.unfinished) e w.reads))
     (reads_by_type [] at (wrote plog) peer.sent [] theirs.writes)
     (subst (λ q. IsEnd q h.unfinished) (sym (plain_behind by_type [] at (handled log) (plain_by_type [] (handled log)))) w.no_more)
-    (nothing_whole (place_behind_by by_type [] at (wrote plog)))).0
+    (nothing_whole (place_behind_by by_type [] at (wrote plog)))
 
 -- one side where all was settled
 pub record SettledSide (t : Talkers) (side : Side) (kind : Bool) (log : List Event) (h : LinkEnd) (m : SideMark) : Type 0 where
@@ -143,6 +143,15 @@ got_all t side peer_of kind log plog h peer m pm s p e o =
 rekeyed_by : (before : Option ℕ) (k n : ℕ) → k ≡ n → IfSome before (λ j. j < k) → IfSome before (λ j. j < n)
 rekeyed_by before k n e h = subst (λ x. IfSome before (λ j. j < x)) e h
 
+-- both have taken all
+pub both_handled : (t : Talkers) (kind : Bool) (w : World) (cl sl : List Event) (m : Mark) → AreFit t → IsReached t w cl sl → SettledSide t Client kind cl w.client m.client → SettledSide t Server kind sl w.server m.server → m.client.taken ≡ m.server.sent → m.server.taken ≡ m.client.sent → ((handled cl ≡ wrote sl) × (w.client.unfinished ≡ [])) × ((handled sl ≡ wrote cl) × (w.server.unfinished ≡ []))
+both_handled t kind w cl sl m fit h c s to_c to_s =
+    let c_fed : w.client.fed ≡ w.server.sent = same_fed _ w.client.fed w.server.sent w.client.state m.client.taken m.server.sent c.mark.taken h.to_client s.mark.sent to_c in
+    let s_fed : w.server.fed ≡ w.client.sent = same_fed _ w.server.fed w.client.sent w.server.state m.server.taken m.client.sent s.mark.taken h.to_server c.mark.sent to_s in (
+      all_handled t Client cl sl w.client w.server fit c.runs s.runs h.to_server c_fed c.rests,
+      all_handled t Server sl cl w.server w.client fit s.runs c.runs h.to_client s_fed s.rests,
+    )
+
 -- both sides have taken all and rest
 pub is_settled : (t : Talkers) (kind : Bool) (w : World) (cl sl : List Event) (m : Mark) (cb sb : Option ℕ) → AreFit t → IsReached t w cl sl → SettledSide t Client kind cl w.client m.client → SettledSide t Server kind sl w.server m.server → m.client.taken ≡ m.server.sent → m.server.taken ≡ m.client.sent → IfSome cb (λ n. n < max 1 (begun w.client.state)) → IfSome sb (λ n. n < max 1 (begun w.server.state)) → IsSettled m.client m.server cb sb
 is_settled t kind w cl sl m cb sb fit h c s to_c to_s cbefore sbefore = record {
@@ -157,17 +166,14 @@ is_settled t kind w cl sl m cb sb fit h c s to_c to_s cbefore sbefore = record {
   client_rekeyed = rekeyed_by cb (max 1 (begun w.client.state)) m.client.finished (c_begun ∙ sym c.mark.finished) cbefore;
   server_rekeyed = rekeyed_by sb (max 1 (begun w.server.state)) m.server.finished (s_begun ∙ sym s.mark.finished) sbefore;
 } where
-  c_fed : w.client.fed ≡ w.server.sent
-  c_fed = same_fed _ w.client.fed w.server.sent w.client.state m.client.taken m.server.sent c.mark.taken h.to_client s.mark.sent to_c
-
-  s_fed : w.server.fed ≡ w.client.sent
-  s_fed = same_fed _ w.server.fed w.client.sent w.server.state m.server.taken m.client.sent s.mark.taken h.to_server c.mark.sent to_s
+  all : ((handled cl ≡ wrote sl) × (w.client.unfinished ≡ [])) × ((handled sl ≡ wrote cl) × (w.server.unfinished ≡ []))
+  all = both_handled t kind w cl sl m fit h c s to_c to_s
 
   c_all : handled cl ≡ wrote sl
-  c_all = all_handled t Client cl sl w.client w.server fit c.runs s.runs h.to_server c_fed c.rests
+  c_all = all.0.0
 
   s_all : handled sl ≡ wrote cl
-  s_all = all_handled t Server sl cl w.server w.client fit s.runs c.runs h.to_client s_fed s.rests
+  s_all = all.1.0
 
   one : (length w.client.state.records ≡ length w.server.state.records) × ((length (exchange_block (length w.client.state.records) (wrote cl)) ≡ 0) × (length (exchange_block (length w.server.state.records) (wrote sl)) ≡ 0))
   one = settled kind (length w.client.state.records) (length w.server.state.records) (wrote cl) (handled cl) (wrote sl) (handled sl) (side_quiet t Client kind cl w.client m.client c) (side_quiet t Server kind sl w.server m.server s) c_all s_all

@@ -182,6 +182,13 @@ heard_place : (stage : Stage) (s : Where) → s ≡ Silent → LooksIn s stage �
 heard_place stage s z (inl inside) = (let q : Inside stage ≡ Silent = sym inside ∙ z in cc)
 heard_place stage s z (inr c) = (let q : Outside ≡ Silent = sym c.0 ∙ z in cc)
 
+-- what the writer had read before it wrote is a front of what the reader wrote
+pub read_before : (log plog before rest : List Event) → plog ≡ before ++ rest → NoGuesses plog → HasFront (wrote log) (handled plog) → HasFront (wrote log) (kept_in before)
+read_before log plog before rest e none front =
+    let plain = guesses_cut before rest (subst NoGuesses e none) in
+    let whole : handled plog ≡ handled before ++ handled rest = ap handled e ∙ handled_more before rest in
+    subst (HasFront (wrote log)) (sym (kept_all before plain)) (handled rest ++ front.0, sym (append_assoc (handled before) (handled rest) front.0) ∙ (ap (λ x. x ++ front.0) (sym whole) ∙ front.1))
+
 -- The message of an exchange that is next in a link, for a stage that awaits it.
 pub is_faced : (says : Side → Says) (config : Side → Config) (side : Side) (log plog : List Event) (h peer : LinkEnd) (stage : Stage) (j : Item) (more : List Item) (names : Names) → ((s : Side) → HasSizes (config s)) → IsWithin (offers_of Client (config Client)) → IsWithin (offers_of Server (config Server)) → OneSecret (says Client) (says Server) → FindsCanonical (says Server) → chosen_by (config Client) (config Server) ≡ Ok names
     → RunsInLink (talkers says config) side log h → RunsInLink (talkers says config) (other_side side) plog peer → HasFront (wrote plog) (handled log) → HasFront (wrote log) (handled plog)
@@ -228,10 +235,7 @@ is_faced says config side log plog h peer stage j more names sizes cw sw secret 
   k = subst (λ w. Kept (says o) o (config o) theirs w (kept_in c.before) c.mid u) c.wrote_is (kept_run (says o) o (config o) theirs c.before c.mid c.steps)
 
   peer_read : HasFront (wrote log) (kept_in c.before)
-  peer_read =
-      let plain = guesses_cut c.before c.rest (subst NoGuesses c.log_is prun.guesses) in
-      let whole : handled plog ≡ handled c.before ++ handled c.rest = ap handled c.log_is ∙ handled_more c.before c.rest in
-      subst (HasFront (wrote log)) (sym (kept_all c.before plain)) (handled c.rest ++ pfront.0, sym (append_assoc (handled c.before) (handled c.rest) pfront.0) ∙ (ap (λ x. x ++ pfront.0) (sym whole) ∙ pfront.1))
+  peer_read = read_before log plog c.before c.rest c.log_is prun.guesses pfront
 
   known : KindIs (kind_chosen config) (names_now st.stands)
   known = known_here (says side) side config own (wrote log) (handled log) st t cw sw (heads_of (says o) config side o theirs plog peer.state (handled log) refl (sizes o) prun.ran.steps front) kept

@@ -143,10 +143,11 @@ left_steps says side config own_id bound (e ∷ es) st st' h b =
     let rest = left_steps says side config own_id bound es h.0 st' h.2 b in
     omega (arith, one, rest, wrote_cons e es, submitted_cons e es)
 
--- A turn that takes all that waits for its side lowers the measure of a settle, whatever it writes.
+-- A side that takes all that waits for it lowers the measure of a settle, whatever it writes, by one at least where bytes
+-- waited.
 abbrev pub settle_measure : (client_left server_left client_waits server_waits : ℕ) → ℕ
 settle_measure cl sl cw sw = 3 * (cl + sl) + cw + sw
 
-pub settle_turn : (own own' other wrote_count other_waits other_waits' : ℕ) → own' + wrote_count ≤ own → other_waits' ≤ 1 → (wrote_count ≡ 0 → other_waits' ≡ other_waits) → settle_measure own' other 0 other_waits' < settle_measure own other 1 other_waits
-settle_turn own own' other zero w w' h a e = let k = e refl in omega (arith, h, k)
-settle_turn own own' other (suc n) w w' h a e = omega (arith, h, a)
+pub settle_turn : (own own' other wrote_count waits other_waits other_waits' : ℕ) → own' + wrote_count ≤ own → other_waits' ≤ 1 → (wrote_count ≡ 0 → other_waits' ≡ other_waits) → settle_measure own' other 0 other_waits' + waits ≤ settle_measure own other waits other_waits
+settle_turn own own' other zero f w w' h a e = let k = e refl in omega (arith, h, k)
+settle_turn own own' other (suc n) f w w' h a e = omega (arith, h, a)

@@ -73,6 +73,8 @@ pub mod OneRun
 pub mod Trail
 pub mod Starts
 pub mod CallsRun
+pub mod Asking
+pub mod FewAsked
 pub mod LinkFew
 pub mod LinkIs
 pub mod KindRead
@@ -91,5 +93,10 @@ pub mod Facing
 pub mod NextWhole
 pub mod HostShown
 pub mod NoneRefused
+pub mod RefusedTurns
+pub mod LinkCauses
+pub mod AnyRefusals
+pub mod SettleRoom
+pub mod SettleEnds
 pub mod Owed
 pub mod Lemmas

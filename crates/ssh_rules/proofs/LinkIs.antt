@@ -1,5 +1,5 @@
 -- What a loop over the steps has to keep, and all of the headline from it.
-use Rattle.std.proofs.Common.{◌≡◌, ℕ, zero, suc, ◌+◌, ◌≤◌, List, [], ◌∷◌, ◌++◌, length, map, slice_get, refl, sym, ◌∙◌, ap, subst, arith, Bool, Some, None, inl, inr, length-append, append-nil, append_assoc, if◌then◌else◌}
+use Rattle.std.proofs.Common.{◌≡◌, ℕ, zero, suc, ◌+◌, ◌*◌, ◌≤◌, List, [], ◌∷◌, ◌++◌, length, map, slice_get, refl, sym, ◌∙◌, ap, subst, arith, Bool, Some, None, inl, inr, length-append, append-nil, append_assoc, if◌then◌else◌}
 use Rattle.ssh_wire.specs.Lines.{id_line, id_text}
 use Rattle.ssh_wire.specs.Sides.{same_side}
 use Rattle.ssh_wire.specs.declared.side.Side.{Side}
@@ -109,10 +109,10 @@ not_asked zero h = refl
 not_asked (suc n) h = absurd (h (omega arith))
 
 -- unless it is the side's own rekey, a step asks for none
-none_client : (t : Talkers) (step : link.Step) (s s' : Snapshot) → (Some step ≡ Some (Rekey Client) → ⊥) → LeadsOn t (Some step) s s' → asked_in (causes_in s'.cl) ≡ asked_in (causes_in s.cl)
+pub none_client : (t : Talkers) (step : link.Step) (s s' : Snapshot) → (Some step ≡ Some (Rekey Client) → ⊥) → LeadsOn t (Some step) s s' → asked_in (causes_in s'.cl) ≡ asked_in (causes_in s.cl)
 none_client t step s s' other b = let z = not_asked (asked_in (causes_in (client_log b.turns))) (λ l. other (b.client_asked l)) in let e = asked_on s.cl s'.cl (client_log b.turns) b.cl in omega (arith, z, e)
 
-none_server : (t : Talkers) (step : link.Step) (s s' : Snapshot) → (Some step ≡ Some (Rekey Server) → ⊥) → LeadsOn t (Some step) s s' → asked_in (causes_in s'.sl) ≡ asked_in (causes_in s.sl)
+pub none_server : (t : Talkers) (step : link.Step) (s s' : Snapshot) → (Some step ≡ Some (Rekey Server) → ⊥) → LeadsOn t (Some step) s s' → asked_in (causes_in s'.sl) ≡ asked_in (causes_in s.sl)
 none_server t step s s' other b = let z = not_asked (asked_in (causes_in (server_log b.turns))) (λ l. other (b.server_asked l)) in let e = asked_on s.sl s'.sl (server_log b.turns) b.sl in omega (arith, z, e)
 
 pub record StepAsks (step : link.Step) (s s' : Snapshot) : Type 0 where
@@ -147,7 +147,7 @@ asked_last t kind [] s (s' ∷ snapshots) h r = absurd h
 asked_last t kind (step ∷ steps) s [] h r = absurd h
 
 -- all together they are within the bound
-step_bound : (steps : List link.Step) → 1 + (rekeys_by Client steps + rekeys_by Server steps) + (length (submitted_by Client steps) + length (submitted_by Server steps)) ≤ bound_of steps
+pub step_bound : (steps : List link.Step) → 1 + (rekeys_by Client steps + rekeys_by Server steps) + 2 * (length (submitted_by Client steps) + length (submitted_by Server steps)) ≤ bound_of steps
 step_bound [] = omega arith
 step_bound (Submit Client p ∷ steps) = let r = step_bound steps in omega (arith, r)
 step_bound (Submit Server p ∷ steps) = let r = step_bound steps in omega (arith, r)
@@ -156,7 +156,7 @@ step_bound (Rekey Client ∷ steps) = let r = step_bound steps in omega (arith, 
 step_bound (Rekey Server ∷ steps) = let r = step_bound steps in omega (arith, r)
 step_bound (Settle ∷ steps) = let r = step_bound steps in omega (arith, r)
 
-last_is_snapshot : (t : Talkers) (kind : Bool) (steps : List link.Step) (s : Snapshot) (snapshots : List Snapshot) → DoesSteps t kind steps s snapshots → IsSnapshot t kind (last_snapshot s snapshots)
+pub last_is_snapshot : (t : Talkers) (kind : Bool) (steps : List link.Step) (s : Snapshot) (snapshots : List Snapshot) → DoesSteps t kind steps s snapshots → IsSnapshot t kind (last_snapshot s snapshots)
 last_is_snapshot t kind [] s [] h = h
 last_is_snapshot t kind (step ∷ steps) s (s' ∷ snapshots) h = last_is_snapshot t kind steps s' snapshots h.2
 last_is_snapshot t kind [] s (s' ∷ snapshots) h = absurd h
@@ -192,7 +192,7 @@ records_few : (t : Talkers) (side : Side) (log : List Event) (h : LinkEnd) (boun
 records_few t side log h bound r l = let e = ap length (recorded_is (t.says side) side (t.config side) (t.own_id side) log first_state h.state r.ran.steps) in omega (arith, e, l)
 
 -- the payloads on a wire were submitted
-few_sent : (t : Talkers) (side : Side) (log : List Event) (h : LinkEnd) → RunsInLink t side log h → payloads_in (wrote log) ≤ length (submitted_in log)
+pub few_sent : (t : Talkers) (side : Side) (log : List Event) (h : LinkEnd) → RunsInLink t side log h → payloads_in (wrote log) ≤ length (submitted_in log)
 few_sent t side log h r =
     let s = ap length (submits (t.says side) side (t.config side) (t.own_id side) log first_state h.state no_trace (tidy_first (t.says side) side (t.config side) (t.own_id side)) r.ran.steps) in
     let l = length-append (carried_payloads (wrote log)) h.state.held in

@@ -77,21 +77,38 @@ host_is Server config strict n c = ap (host_by (config Server)) c.1 ∙ ap (λ (
 
 -- ---- along a run
 
-pub known_here : (says : Says) (side : Side) (config : Side → Config) (own_id : List ℕ) (w r : List Item) (st : SideState) (t : Trace) → IsWithin (offers_of Client (config Client)) → IsWithin (offers_of Server (config Server)) → HeadsAre side config r → Kept says side (config side) own_id w r st t → KindIs (kind_chosen config) (names_now st.stands)
-known_here says side config own_id w r st t wc ws heads kept = by st.stands refl where
-  by_names : (s : Where) → st.stands ≡ s → (names : Option Names) → names_now s ≡ names → KindIs (kind_chosen config) names
-  by_names s q None e = tt
-  by_names Silent q (Some n) e = absurd (let z : None ≡ Some n = e in cc)
-  by_names Outside q (Some n) e = absurd (let z : None ≡ Some n = e in cc)
-  by_names (Inside stage) q (Some n) e =
-      let g : FitsStage says (setting side (config side) own_id st) stage (t.own ++ st.owed) t.theirs = subst (λ x. FitsWhere says (setting side (config side) own_id st) x (t.own ++ st.owed) t.theirs) q kept.tidy.fits in
-      let f : ReadFirst side (config side) t.theirs n = subst (λ c. ReadFirst side c t.theirs n) (config_is side (config side) own_id st) (subst (λ d. ReadFirst d (setting side (config side) own_id st).config t.theirs n) (setting_side side (config side) own_id st) (stage_first says (setting side (config side) own_id st) stage (t.own ++ st.owed) t.theirs n e g)) in
-      let c = heads (length st.records) f.payload f.more (kept.accounts.theirs.block_is ∙ f.first) in
-      let m = read_chosen side config f.strict c.0 f.read_names wc ws c.1 (ap (names_read side (offers_of side (config side)) f.strict) (sym c.2) ∙ f.read) in
-      ap is_gex (sym f.kex) ∙ sym (kind_is config f.strict f.read_names m)
+-- the name of the key exchange that an open exchange holds is the one that both configurations choose
+pub record HoldsChosen (config : Side → Config) (n : Names) : Type 0 where
+  pub names : Names
+  pub chosen : chosen_by (config Client) (config Server) ≡ Ok names
+  pub kex : names.kex ≡ n.kex
 
-  by : (s : Where) → st.stands ≡ s → KindIs (kind_chosen config) (names_now st.stands)
-  by s q = subst (λ x. KindIs (kind_chosen config) (names_now x)) (sym q) (by_names s q (names_now s) refl)
+at_stage_names : (stage : Rattle.ssh_kex.specs.Stages.Stage) (s : Where) (n : Names) → s ≡ Inside stage → names_now s ≡ Some n → names_now (Inside stage) ≡ Some n
+at_stage_names stage s n q e = ap names_now (sym q) ∙ e
+
+read_at : (side : Side) (o : Offers) (strict : Bool) (p q : List ℕ) (n : Names) → p ≡ q → names_read side o strict p ≡ Ok n → names_read side o strict q ≡ Ok n
+read_at side o strict p q n e f = ap (names_read side o strict) (sym e) ∙ f
+
+one_kex : (m read n : Names) (strict : Bool) → read ≡ kept_strict strict m → read.kex ≡ n.kex → m.kex ≡ n.kex
+one_kex m read n strict e f = ap (λ (x : Names). x.kex) (sym e) ∙ f
+
+pub names_here : (says : Says) (side : Side) (config : Side → Config) (own_id : List ℕ) (w r : List Item) (st : SideState) (t : Trace) → IsWithin (offers_of Client (config Client)) → IsWithin (offers_of Server (config Server)) → HeadsAre side config r → Kept says side (config side) own_id w r st t → (n : Names) → names_now st.stands ≡ Some n → HoldsChosen config n
+names_here says side config own_id w r st t wc ws heads kept n e = by st.stands refl where
+  by : (s : Where) → st.stands ≡ s → HoldsChosen config n
+  by Silent q = absurd (let z : None ≡ Some n = ap names_now (sym q) ∙ e in cc)
+  by Outside q = absurd (let z : None ≡ Some n = ap names_now (sym q) ∙ e in cc)
+  by (Inside stage) q =
+      let g : FitsStage says (setting side (config side) own_id st) stage (t.own ++ st.owed) t.theirs = subst (λ x. FitsWhere says (setting side (config side) own_id st) x (t.own ++ st.owed) t.theirs) q kept.tidy.fits in
+      let f : ReadFirst side (config side) t.theirs n = subst (λ c. ReadFirst side c t.theirs n) (config_is side (config side) own_id st) (subst (λ d. ReadFirst d (setting side (config side) own_id st).config t.theirs n) (setting_side side (config side) own_id st) (stage_first says (setting side (config side) own_id st) stage (t.own ++ st.owed) t.theirs n (at_stage_names stage st.stands n q e) g)) in
+      let c = heads (length st.records) f.payload f.more (kept.accounts.theirs.block_is ∙ f.first) in
+      let m = read_chosen side config f.strict c.0 f.read_names wc ws c.1 (read_at side (offers_of side (config side)) f.strict f.payload (kexinit (offers_of (other_side side) (config (other_side side))) c.0) f.read_names c.2 f.read) in
+      record { names = m.0; chosen = m.1; kex = one_kex m.0 f.read_names n f.strict m.2 f.kex }
+
+pub known_here : (says : Says) (side : Side) (config : Side → Config) (own_id : List ℕ) (w r : List Item) (st : SideState) (t : Trace) → IsWithin (offers_of Client (config Client)) → IsWithin (offers_of Server (config Server)) → HeadsAre side config r → Kept says side (config side) own_id w r st t → KindIs (kind_chosen config) (names_now st.stands)
+known_here says side config own_id w r st t wc ws heads kept = by (names_now st.stands) refl where
+  by : (names : Option Names) → names_now st.stands ≡ names → KindIs (kind_chosen config) names
+  by None e = tt
+  by (Some n) e = (let c = names_here says side config own_id w r st t wc ws heads kept n e in ap is_gex (sym c.kex) ∙ sym (ap kind_by c.chosen))
 
 -- what stands before a front is one
 cut_front : (pw r more all : List Item) → r ++ more ≡ all → HasFront pw all → HasFront pw r

@@ -68,7 +68,7 @@ pub record AreMet (says : Side → Says) (config : Side → Config) (names : Nam
   pub secret : OneSecret (says Client) (says Server)
   pub canonical : FindsCanonical (says Server)
 
-is_next : (says : Side → Says) (config : Side → Config) (names : Names) (w : World) (cl sl : List Event) (side : Side) (stage : Stage) (item : Item) → AreMet says config names → AwaitsNext (talkers says config) w cl sl side stage item → IsNext says config side (one_of side w.client w.server) stage item
+pub is_next : (says : Side → Says) (config : Side → Config) (names : Names) (w : World) (cl sl : List Event) (side : Side) (stage : Stage) (item : Item) → AreMet says config names → AwaitsNext (talkers says config) w cl sl side stage item → IsNext says config side (one_of side w.client w.server) stage item
 is_next says config names w cl sl Client stage item m a =
     let s = held_in_step (talkers says config) w cl sl (are_fit says config m.valid m.sizes m.secret m.canonical) a.reached in
     let n = next_whole (talkers says config) Client cl sl w.client w.server item a.behind a.reached.client a.reached.server a.reached.to_client s.to_client s.records a.whole in
@@ -79,7 +79,7 @@ is_next says config names w cl sl Server stage item m a =
     let n = next_whole (talkers says config) Server sl cl w.server w.client item a.behind a.reached.server a.reached.client a.reached.to_server s.to_server agree a.whole in
     record { log = sl; plog = cl; peer = w.client; run = a.reached.server; peer_run = a.reached.client; front = s.to_server; peer_front = s.to_client; agree = agree; fed = a.reached.to_server; peer_fed = a.reached.to_client; owes = a.owes; looks = a.looks; is_kex = a.is_kex; more = n.0; next = n.1 }
 
-faced : (says : Side → Says) (config : Side → Config) (names : Names) (side : Side) (h : LinkEnd) (stage : Stage) (item : Item) → AreMet says config names → IsNext says config side h stage item → IsFaced says config side h.state stage item.payload names
+pub faced : (says : Side → Says) (config : Side → Config) (names : Names) (side : Side) (h : LinkEnd) (stage : Stage) (item : Item) → AreMet says config names → IsNext says config side h stage item → IsFaced says config side h.state stage item.payload names
 faced says config names side h stage item m n =
     is_faced says config side n.log n.plog h n.peer stage item n.more names m.sizes (is_within Client (config Client) (m.valid Client)) (is_within Server (config Server) (m.valid Server)) m.secret m.canonical m.chosen n.run n.peer_run n.front n.peer_front n.agree n.owes n.looks n.next n.is_kex
 

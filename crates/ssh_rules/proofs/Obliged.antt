@@ -269,7 +269,7 @@ ReadsKex s (AwaitsRequest o) m kex = Unit {0}
 ReadsKex s (AwaitsValue o gex) m kex = Unit {0}
 ReadsKex s (AwaitsNewkeys exchange made host) m kex = Unit {0}
 
-not_unoffered : (says : Says) (s : Setting) (stage : Stage) (seqn : ℕ) (m : List ℕ) (kex : kexes.Name) → says.offers kex → ReadsKex s stage m kex → IsUnoffered says s stage seqn m → ⊥
+pub not_unoffered : (says : Says) (s : Setting) (stage : Stage) (seqn : ℕ) (m : List ℕ) (kex : kexes.Name) → says.offers kex → ReadsKex s stage m kex → IsUnoffered says s stage seqn m → ⊥
 not_unoffered says s (Created own) seqn m kex d r h = h.2 (subst says.offers (sym (r h.0 h.1.read)) d)
 not_unoffered says s (AwaitsGroup o) seqn m kex d r h = h
 not_unoffered says s (AwaitsReply o gex local public) seqn m kex d r h = h
@@ -371,7 +371,7 @@ IsMet says config s (AwaitsRequest o) m = (p : Setting) × AreBoth says config s
 IsMet says config s (AwaitsValue o gex) m = (p : Setting) × AreBoth says config s p × Faces says s p (AwaitsValue o gex) m
 IsMet says config s (AwaitsNewkeys exchange made host) m = (p : Setting) × AreBoth says config s p × Faces says s p (AwaitsNewkeys exchange made host) m
 
-never_outside : (says : Side → Says) (config : Side → Config) (s : Setting) (stage : Stage) (m : List ℕ) → ((group : DhGroup) → (says Server).finds (config Client).gex group → IsInside (config Client).gex group) → IsMet says config s stage m → IsOutOfRange s stage m → ⊥
+pub never_outside : (says : Side → Says) (config : Side → Config) (s : Setting) (stage : Stage) (m : List ℕ) → ((group : DhGroup) → (says Server).finds (config Client).gex group → IsInside (config Client).gex group) → IsMet says config s stage m → IsOutOfRange s stage m → ⊥
 never_outside says config s (Created own) m fits f h = h
 never_outside says config s (AwaitsGroup o) m fits f h = not_outside says config s f.0 (AwaitsGroup o) m fits f.1 f.2 h
 never_outside says config s (AwaitsReply o gex local public) m fits f h = h

@@ -213,7 +213,7 @@ pub reads_names : (side : Side) (config : Side → Config) (m : Names) (still : 
 reads_names Client config m still cookie c s e l = (names_agree (offers_of Client (config Client)) (offers_of Server (config Server)) still cookie c s l).0 ∙ ap (side_answer still (offers_of Client (config Client)) (offers_of Server (config Server))) e
 reads_names Server config m still cookie c s e l = (names_agree (offers_of Client (config Client)) (offers_of Server (config Server)) still cookie c s l).1 ∙ ap (side_answer still (offers_of Server (config Server)) (offers_of Client (config Client))) e
 
-first_by : (xs : List FinishedExchange) (strict : Bool) (seqn : ℕ) → (xs ≡ [] → seqn ≡ 1) → IsFirst (cause_of xs) strict seqn
+pub first_by : (xs : List FinishedExchange) (strict : Bool) (seqn : ℕ) → (xs ≡ [] → seqn ≡ 1) → IsFirst (cause_of xs) strict seqn
 first_by [] strict seqn f = λ s. f refl
 first_by (x ∷ xs) strict seqn f = tt
 
@@ -221,7 +221,7 @@ pub at_setting : (side : Side) (config : Config) (own_id : List ℕ) (st : SideS
 at_setting Client config own_id st payload n e = e
 at_setting Server config own_id st payload n e = e
 
-cause_at : (side : Side) (config : Config) (own_id : List ℕ) (st : SideState) → (setting side config own_id st).cause ≡ cause_of st.records
+pub cause_at : (side : Side) (config : Config) (own_id : List ℕ) (st : SideState) → (setting side config own_id st).cause ≡ cause_of st.records
 cause_at Client config own_id st = refl
 cause_at Server config own_id st = refl
 

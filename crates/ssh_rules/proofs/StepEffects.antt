@@ -47,7 +47,7 @@ rekeyed_client t kind (Rekey Server) s s' before i (inl h) b = if_more before _ 
 rekeyed_client t kind (Rekey Server) s s' before i (inr h) b = if_more before _ _ (other_begun_client t (ExchangeBegun Asked h.0 ∷ []) s s' h.2) b
 rekeyed_client t kind Settle s s' before i h b = if_more before _ _ (begun_steps (t.says Client) Client (t.config Client) (t.own_id Client) h.client_events s.world.client.state s'.world.client.state h.client.steps) b
 
-settled_client : (t : Talkers) (kind : Bool) (s : Snapshot) → IsSnapshot t kind s → SettledSide t Client kind s.cl s.world.client s.mark.client
+pub settled_client : (t : Talkers) (kind : Bool) (s : Snapshot) → IsSnapshot t kind s → SettledSide t Client kind s.cl s.world.client s.mark.client
 settled_client t kind s i = record { runs = i.held.client; rests = i.client_rests; kinds = i.client_kinds; mark = i.client_mark }
 
 -- ---- of the server
@@ -70,7 +70,7 @@ rekeyed_server t kind (Rekey Client) s s' before i (inl h) b = if_more before _ 
 rekeyed_server t kind (Rekey Client) s s' before i (inr h) b = if_more before _ _ (other_begun_server t (ExchangeBegun Asked h.0 ∷ []) s s' h.2) b
 rekeyed_server t kind Settle s s' before i h b = if_more before _ _ (begun_steps (t.says Server) Server (t.config Server) (t.own_id Server) h.server_events s.world.server.state s'.world.server.state h.server.steps) b
 
-settled_server : (t : Talkers) (kind : Bool) (s : Snapshot) → IsSnapshot t kind s → SettledSide t Server kind s.sl s.world.server s.mark.server
+pub settled_server : (t : Talkers) (kind : Bool) (s : Snapshot) → IsSnapshot t kind s → SettledSide t Server kind s.sl s.world.server s.mark.server
 settled_server t kind s i = record { runs = i.held.server; rests = i.server_rests; kinds = i.server_kinds; mark = i.server_mark }
 
 -- ---- of both

@@ -36,7 +36,7 @@ server_join (u ∷ a) b = by u.side (server_join a b) where
 pub leads_self : (t : Talkers) (s : Snapshot) → LeadsTo t s s
 leads_self t s = record { turns = []; plays = refl; cl = sym (append-nil s.cl); sl = sym (append-nil s.sl) }
 
-joined : (x y z : List Event) (a b c : List Event) → y ≡ x ++ a → z ≡ y ++ b → c ≡ a ++ b → z ≡ x ++ c
+pub joined : (x y z : List Event) (a b c : List Event) → y ≡ x ++ a → z ≡ y ++ b → c ≡ a ++ b → z ≡ x ++ c
 joined x y z a b c e f g = f ∙ (ap (λ q. q ++ b) e ∙ (append_assoc x a b ∙ ap (λ q. x ++ q) (sym g)))
 
 leads_more : (t : Talkers) (step : Option link.Step) (s s' last : Snapshot) → LeadsOn t step s s' → LeadsTo t s' last → LeadsTo t s last

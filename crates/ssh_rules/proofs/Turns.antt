@@ -149,7 +149,7 @@ pub record AreFit (t : Talkers) : Type 0 where
   pub sizes : (side : Side) → HasSizes (t.config side)
   pub follows : (side : Side) → FollowsNone side (t.config side) (t.config (other_side side))
 
-more_sent : (sent fed more : List ℕ) → HasFront sent fed → HasFront (sent ++ more) fed
+pub more_sent : (sent fed more : List ℕ) → HasFront sent fed → HasFront (sent ++ more) fed
 more_sent sent fed more s = (s.0 ++ more, sym (append_assoc fed s.0 more) ∙ ap (λ t. t ++ more) s.1)
 
 fed_on : (t : Talkers) (side : Side) (log : List Event) (e : Event) (es : List Event) (st mid : SideState) (fed unfinished : List ℕ) → Steps (t.says side) side (t.config side) (t.own_id side) first_state log st → Step (t.says side) side (t.config side) (t.own_id side) st e mid → fed ≡ read_bytes side first_state.reading log ++ (read_bytes side st.reading (e ∷ es) ++ unfinished) → fed ≡ read_bytes side first_state.reading (log ++ e ∷ []) ++ (read_bytes side mid.reading es ++ unfinished)
@@ -188,18 +188,24 @@ no_guesses t side log (PayloadDelivered i ∷ es) plog st st' pst fed unfinished
 no_guesses t side log (PacketDropped i ∷ es) plog st st' pst fed unfinished psent pfed prest fit g a n k b f r pa pn u v = no_guesses t side (log ++ PacketDropped i ∷ []) es plog k.0 st' pst fed unfinished psent pfed prest fit (steps_join (t.says side) side (t.config side) (t.own_id side) log (PacketDropped i ∷ []) first_state st k.0 g (k.0, k.1, refl)) (hears_join (t.own_id (other_side side)) log (PacketDropped i ∷ []) a (head_hears (t.own_id (other_side side)) (PacketDropped i) es b).0) (guesses_join log (PacketDropped i ∷ []) n tt) k.2 (head_hears (t.own_id (other_side side)) (PacketDropped i) es b).1 (fed_on t side log (PacketDropped i) es st k.0 fed unfinished g k.1 f) r pa pn u (sent_on t side log (PacketDropped i) st pfed g v)
 no_guesses t side log (ExchangeFinished i z ∷ es) plog st st' pst fed unfinished psent pfed prest fit g a n k b f r pa pn u v = no_guesses t side (log ++ ExchangeFinished i z ∷ []) es plog k.0 st' pst fed unfinished psent pfed prest fit (steps_join (t.says side) side (t.config side) (t.own_id side) log (ExchangeFinished i z ∷ []) first_state st k.0 g (k.0, k.1, refl)) (hears_join (t.own_id (other_side side)) log (ExchangeFinished i z ∷ []) a (head_hears (t.own_id (other_side side)) (ExchangeFinished i z) es b).0) (guesses_join log (ExchangeFinished i z ∷ []) n tt) k.2 (head_hears (t.own_id (other_side side)) (ExchangeFinished i z) es b).1 (fed_on t side log (ExchangeFinished i z) es st k.0 fed unfinished g k.1 f) r pa pn u (sent_on t side log (ExchangeFinished i z) st pfed g v)
 
--- a run goes on by a call
+-- a run goes on by a call, whatever the parts are
+pub ran_more : (t : Talkers) (side : Side) (log : List Event) (h : LinkEnd) (piece : List ℕ) (events : List Event) (peer h' : LinkEnd) → HasRun (t.says side) side (t.config side) (t.own_id side) log h.state h.sent h.fed h.unfinished → TakesTurn t side h piece events peer h' → HasRun (t.says side) side (t.config side) (t.own_id side) (log ++ events) h'.state h'.sent h'.fed h'.unfinished
+ran_more t side log h piece events peer h' r g =
+    let fed : h'.fed ≡ read_bytes side first_state.reading log ++ (read_bytes side h.state.reading events ++ h'.unfinished) =
+    g.takes ∙ (ap (λ z. z ++ piece) r.fed_is ∙ (append_assoc (read_bytes side first_state.reading log) h.unfinished piece ∙ ap (λ z. read_bytes side first_state.reading log ++ z) g.reads)) in
+    record {
+      steps = steps_join (t.says side) side (t.config side) (t.own_id side) log events first_state h.state h'.state r.steps g.steps;
+      sent_is = g.sends ∙ (ap (λ z. z ++ sent_bytes side h.state.writing events) r.sent_is ∙ sym (sent_join (t.says side) side (t.config side) (t.own_id side) log events first_state h.state r.steps));
+      fed_is = fed ∙ (sym (append_assoc (read_bytes side first_state.reading log) (read_bytes side h.state.reading events) h'.unfinished) ∙ ap (λ z. z ++ h'.unfinished) (sym (read_join (t.says side) side (t.config side) (t.own_id side) log events first_state h.state r.steps)));
+    }
+
+-- so it does in a link
 pub runs_more : (t : Talkers) (side : Side) (log plog : List Event) (h : LinkEnd) (piece : List ℕ) (events : List Event) (peer h' : LinkEnd) → AreFit t → RunsInLink t side log h → RunsInLink t (other_side side) plog peer → HearsAs (t.own_id (other_side (other_side side))) plog → HasFront h.sent peer.fed → TakesTurn t side h piece events peer h' → RunsInLink t side (log ++ events) h'
 runs_more t side log plog h piece events peer h' fit r p pa honest g =
-    let steps = steps_join (t.says side) side (t.config side) (t.own_id side) log events first_state h.state h'.state r.ran.steps g.steps in
     let fed : h'.fed ≡ read_bytes side first_state.reading log ++ (read_bytes side h.state.reading events ++ h'.unfinished) =
     g.takes ∙ (ap (λ z. z ++ piece) r.ran.fed_is ∙ (append_assoc (read_bytes side first_state.reading log) h.unfinished piece ∙ ap (λ z. read_bytes side first_state.reading log ++ z) g.reads)) in
     record {
-      ran = record {
-        steps = steps;
-        sent_is = g.sends ∙ (ap (λ z. z ++ sent_bytes side h.state.writing events) r.ran.sent_is ∙ sym (sent_join (t.says side) side (t.config side) (t.own_id side) log events first_state h.state r.ran.steps));
-        fed_is = fed ∙ (sym (append_assoc (read_bytes side first_state.reading log) (read_bytes side h.state.reading events) h'.unfinished) ∙ ap (λ z. z ++ h'.unfinished) (sym (read_join (t.says side) side (t.config side) (t.own_id side) log events first_state h.state r.ran.steps)));
-      };
+      ran = ran_more t side log h piece events peer h' r.ran g;
       heard = hears_join (t.own_id (other_side side)) log events r.heard g.heard;
       guesses = guesses_join log events r.guesses (no_guesses t side log events plog h.state h'.state peer.state h'.fed h'.unfinished peer.sent peer.fed peer.unfinished fit r.ran.steps r.heard r.guesses g.steps g.heard fed p.ran pa p.guesses g.honest (subst (λ z. HasFront z peer.fed) r.ran.sent_is honest));
       answered = g.answered;

@@ -25,3 +25,6 @@ pub mod Snapshots
 pub mod RunLaws
 pub mod Refused
 pub mod Refusing
+pub mod Asking
+pub mod RefusedTurn
+pub mod LinkCauses

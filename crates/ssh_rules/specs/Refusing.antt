@@ -45,11 +45,12 @@ pub record BreaksOrder (side : Side) (st : SideState) (i : Item) (error : Error)
   pub violates : is_violation (other_side side) (type_of i) (st.reading.number - guesses names) ≡ true
   pub error_is : error ≡ errors.StrictKeyExchangeViolation (type_of i) (st.reading.number - guesses names)
 
--- a message that the open exchange refuses, or outside that of an exchange which is begun for it
+-- a message that the open exchange refuses, or outside a KEXINIT, that of an exchange which is begun for it
 pub record RefusesTaken (says : Says) (denies : Denies) (side : Side) (config : Config) (st : SideState) (i : Item)
     (error : Error) : Type 0 where
   pub stage : Stage
   pub looks : LooksIn st.stands stage
+  pub begins : st.stands ≡ Outside → type_of i ≡ 20
   pub ordered : InOrder side st i
   pub is_kex : is_kex_type (type_of i) ≡ true
   pub refuses : RefusesMessage says denies (setting side config (id_text config.id) st) stage

@@ -3,7 +3,10 @@
 ghost use Rattle.ssh_kex.specs.Parts.{KeepsAgreement, KeepsGroups, KeepsHosts};
 ghost use Rattle.ssh_kex.specs.Stepping.{denies_of, says_of};
 ghost use Rattle.ssh_rules.specs.Laws.{RecordsAgree};
+ghost use Rattle.ssh_rules.specs.LinkCauses.{AnyRefusals, NoneRefusedInLink, RefusalsHaveCauses, rises_of};
 ghost use Rattle.ssh_rules.specs.Refused.{HostTrusted, NothingRefused, PartsRefuseAlone};
+ghost use Rattle.ssh_rules.specs.RefusedTurn.{OnlyMessagesRefused};
+ghost use Rattle.ssh_rules.specs.Refusing.{untrusted_of};
 ghost use Rattle.ssh_rules.specs.RunLaws.{EachRun, HonestLink, KeyedRun, NoViolation, RestedRun, SignedRun};
 
 use ssh_kex::{Agreement, GroupLookup, HostKeys};
@@ -74,4 +77,54 @@ pub fn host_trusted<A: Agreement, H: HostKeys, G: GroupLookup>()
     ensures { HostTrusted A.lawful G.lawful H.obliging H.trusts
         (says_of A.lawful A.offered A.client_makes A.server_makes A.agrees H.lawful H.obliging H.accepts H.trusts
         H.makes G.lawful G.group) }
+{}
+
+/// Where the agreements of both sides and the server's lookup are lawful, a message of an exchange is all that is refused
+/// of a piece of an honest peer's wire, and want of memory.
+pub fn only_messages_refused<A: Agreement, H: HostKeys, G: GroupLookup>()
+    ensures { OnlyMessagesRefused A.lawful G.lawful
+        (says_of A.lawful A.offered A.client_makes A.server_makes A.agrees H.lawful H.obliging H.accepts H.trusts
+        H.makes G.lawful G.group)
+        (denies_of A.obliging A.offered A.client_makes A.server_makes A.refusals H.obliging H.accepts H.refused_sign
+        H.refused_verify G.obliging G.refusals)
+        (untrusted_of H.obliging H.trusts H.refused_check) }
+{}
+
+/// Where the parts of both sides are lawful, each refusal of a piece of an honest peer's wire has its cause: the lists of
+/// both configurations, what the side's agreement offers, the group of the client's sizes, or a count of refusals of the
+/// side's parts that rose.
+pub fn refusals_have_causes<A: Agreement, H: HostKeys, G: GroupLookup>()
+    ensures { RefusalsHaveCauses A.lawful H.lawful G.lawful A.offered G.group
+        (says_of A.lawful A.offered A.client_makes A.server_makes A.agrees H.lawful H.obliging H.accepts H.trusts
+        H.makes G.lawful G.group)
+        (denies_of A.obliging A.offered A.client_makes A.server_makes A.refusals H.obliging H.accepts H.refused_sign
+        H.refused_verify G.obliging G.refusals)
+        (untrusted_of H.obliging H.trusts H.refused_check)
+        (rises_of A.refusals H.refused_sign H.refused_verify H.refused_check G.refusals) }
+{}
+
+/// Where they are obliging, the configurations valid and the chosen key exchange offered, nothing of it is refused but
+/// for want of memory.
+pub fn none_refused_in_link<A: Agreement, H: HostKeys, G: GroupLookup>()
+    ensures { NoneRefusedInLink A.obliging H.obliging G.obliging A.offered
+        (KeepsAgreement A.lawful A.obliging A.offered A.refusals A.calls)
+        (KeepsHosts H.lawful H.obliging H.accepts H.trusts H.refused_sign H.refused_verify H.refused_check H.calls)
+        (KeepsGroups G.lawful G.obliging G.group G.refusals G.calls)
+        (says_of A.lawful A.offered A.client_makes A.server_makes A.agrees H.lawful H.obliging H.accepts H.trusts
+        H.makes G.lawful G.group)
+        (denies_of A.obliging A.offered A.client_makes A.server_makes A.refusals H.obliging H.accepts H.refused_sign
+        H.refused_verify G.obliging G.refusals)
+        (untrusted_of H.obliging H.trusts H.refused_check) }
+{}
+
+/// Of an honest peer's wire no version line is refused, nothing is out of the strict order, and host keys refuse only
+/// where their own count rose, whatever the parts are.
+pub fn any_refusals<A: Agreement, H: HostKeys, G: GroupLookup>()
+    ensures { AnyRefusals
+        (says_of A.lawful A.offered A.client_makes A.server_makes A.agrees H.lawful H.obliging H.accepts H.trusts
+        H.makes G.lawful G.group)
+        (denies_of A.obliging A.offered A.client_makes A.server_makes A.refusals H.obliging H.accepts H.refused_sign
+        H.refused_verify G.obliging G.refusals)
+        (untrusted_of H.obliging H.trusts H.refused_check)
+        (rises_of A.refusals H.refused_sign H.refused_verify H.refused_check G.refusals) }
 {}

@@ -5,5 +5,7 @@ mod laws;
 pub mod link;
 
 pub use crate::laws::{
-    each_run, honest_link, keyed_run, no_violation, records_agree, rested_run, signed_run,
+    any_refusals, each_run, honest_link, host_trusted, keyed_run, no_violation,
+    none_refused_in_link, nothing_refused, only_messages_refused, parts_refuse_alone,
+    records_agree, refusals_have_causes, rested_run, signed_run,
 };

@@ -1,6 +1,7 @@
 -- What is refused by parts that were asked before is refused by those that they were.
 use Rattle.std.proofs.Common.{◌≡◌, ℕ, ◌≤◌, Bool, true, List, Option, Some, None, ap, ◌∙◌, arith, inl, inr}
 use Rattle.ssh_negotiate.specs.declared.kex.Name as kexes
+use Rattle.ssh_wire.specs.Lines.{id_text}
 use Rattle.ssh_wire.specs.Outside.{Rose}
 use Rattle.ssh_wire.specs.declared.error.Error.{Error}
 use Rattle.ssh_wire.specs.declared.error.Error.TheVariants as errors
@@ -16,9 +17,9 @@ use Rattle.ssh_kex.specs.declared.exchange.ServerHost.{ServerHost}
 use Rattle.ssh_kex.specs.declared.group.DhGroup.{DhGroup}
 use Rattle.ssh_kex.specs.declared.group.GexParams.{GexParams}
 use Rattle.ssh_rules.specs.Machine.{SideState}
-use Rattle.ssh_rules.specs.Refusing.{AnswersCause, RefusesPacket, untrusted_of}
-use Rattle.ssh_rules.specs.Standing.{OfFault, OfMemory, OfPacket, OfVersion, RefusalCause}
-use Rattle.ssh_transport.proofs.Weaker.{Weaker, kept_weaker}
+use Rattle.ssh_rules.specs.Refusing.{AnswersCause, RefusesPacket, RefusesPiece, untrusted_of}
+use Rattle.ssh_rules.specs.Standing.{OfFault, OfMemory, OfPacket, OfVersion, RefusalCause, RefusesInput, Standing}
+use Rattle.ssh_transport.proofs.Weaker.{Weaker, kept_weaker, steps_weaker}
 
 -- what the first say and deny the second do too
 pub record Denying (a b : Says) (d e : Denies) : Type 0 where
@@ -141,7 +142,7 @@ refused_still a b d e w s stage n payload errors.Memory h = tt
 packet_still : (a b : Says) (d e : Denies) (u v : ServerHost → Type 0) → Denying a b d e → ((host : ServerHost) → u host → v host) → (side : Side) (config : Config) (st : SideState) (i : Item) (error : Error) → RefusesPacket a d u side config st i error → RefusesPacket b e v side config st i error
 packet_still a b d e u v w z side config st i error (inl h) = inl h
 packet_still a b d e u v w z side config st i error (inr (inl h)) = inr (inl h)
-packet_still a b d e u v w z side config st i error (inr (inr (inl h))) = inr (inr (inl (record { stage = h.stage; looks = h.looks; ordered = h.ordered; is_kex = h.is_kex; refuses = refused_still a b d e w _ h.stage _ i.payload error h.refuses })))
+packet_still a b d e u v w z side config st i error (inr (inr (inl h))) = inr (inr (inl (record { stage = h.stage; looks = h.looks; begins = h.begins; ordered = h.ordered; is_kex = h.is_kex; refuses = refused_still a b d e w _ h.stage _ i.payload error h.refuses })))
 packet_still a b d e u v w z side config st i error (inr (inr (inr (inl h)))) = inr (inr (inr (inl (record { exchange = h.exchange; made = h.made; host = h.host; inside = h.inside; payload_is = h.payload_is; ordered = h.ordered; denied = z h.host h.denied; error_is = h.error_is }))))
 packet_still a b d e u v w z side config st i error (inr (inr (inr (inr h)))) = inr (inr (inr (inr h)))
 
@@ -150,3 +151,34 @@ cause_still a b d e u v w z side config (OfFault fault) st error h = h
 cause_still a b d e u v w z side config (OfPacket i) st error h = packet_still a b d e u v w z side config st i error h
 cause_still a b d e u v w z side config OfVersion st error h = h
 cause_still a b d e u v w z side config OfMemory st error h = h
+
+-- ---- a piece
+
+-- A piece that is refused as later parts say and deny is refused so by earlier ones.
+pub piece_still : (a b : Says) (d e : Denies) (u v : ServerHost → Type 0) → Denying a b d e → ((host : ServerHost) → u host → v host) → (old : Standing) (piece : List ℕ) (error : Error) (new : Standing) → RefusesPiece a d u old piece error new → RefusesPiece b e v old piece error new
+piece_still a b d e u v w z old piece error new r = record {
+  cause = r.cause;
+  refuses = record {
+    at = f.at;
+    events = f.events;
+    side = f.side;
+    config = f.config;
+    steps = steps_weaker a b w.weaker old.side old.config (id_text old.config.id) f.events old.state f.at f.steps;
+    input = f.input;
+    output = f.output;
+    delivered = f.delivered;
+    records = f.records;
+    failed = f.failed;
+    nothing = f.nothing;
+    done = f.done;
+    line = f.line;
+    behind = f.behind;
+    heard = f.heard;
+    left = f.left;
+    read = f.read;
+    next = f.next;
+  };
+  answers = cause_still a b d e u v w z old.side old.config r.cause f.at error r.answers;
+} where
+  f : RefusesInput a old piece r.cause new
+  f = r.refuses

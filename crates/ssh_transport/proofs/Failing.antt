@@ -1,5 +1,5 @@
 -- A piece that is refused, as contracts see it.
-use Rattle.std.proofs.Common.{◌≡◌, ℕ, List, [], ◌++◌, drop, Some, Result, Ok, Err, IfErr, OnErr, refl, sym, ap, ◌∙◌, subst, append_assoc, append-nil, ◌⊎◌, inl, inr}
+use Rattle.std.proofs.Common.{◌≡◌, ℕ, List, [], ◌++◌, drop, Some, Result, Ok, Err, IfErr, OnErr, OnOk, refl, sym, ap, ◌∙◌, subst, append_assoc, append-nil, ◌⊎◌, inl, inr}
 use Rattle.std.specs.Borrow.{Bor}
 use Rattle.ssh_wire.specs.Lines as lines
 use Rattle.ssh_wire.specs.Lines.{IdFound, id_of, id_text}
@@ -11,12 +11,16 @@ use Rattle.ssh_kex.specs.Refusals.{Denies}
 use Rattle.ssh_kex.specs.Setting.{Says}
 use Rattle.ssh_kex.specs.declared.config.Config.{Config}
 use Rattle.ssh_kex.specs.declared.exchange.ServerHost.{ServerHost}
+use Rattle.ssh_rules.specs.Asking.{AsksUntil, AsksWithin, PartCalls, RefusesAsking}
 use Rattle.ssh_rules.specs.Log.{delivered_in, read_bytes, sent_bytes}
-use Rattle.ssh_rules.specs.Machine.{Event, Steps}
+use Rattle.ssh_rules.specs.Machine.{Event, SideState, Steps}
 use Rattle.ssh_rules.specs.Refusing.{AnswersCause, RefusesPiece}
 use Rattle.ssh_rules.specs.Standing.{HearsBy, IsIdleBefore, IsNoId, OfFault, OfMemory, OfPacket, OfVersion, ReadsLineFrom, RefusalCause, Standing, lets_pass}
+use Rattle.ssh_rules.proofs.FewAsked.{refused_few}
+use Rattle.ssh_rules.proofs.Left.{begun_steps}
 use Rattle.ssh_rules.proofs.Moved.{delivered_more}
 use Rattle.ssh_rules.proofs.Ran.{read_join, sent_join, steps_join}
+use Rattle.ssh_transport.specs.Asking.{AsksBetween, AsksTo}
 use Rattle.ssh_transport.specs.Handling.{IsHeard}
 use Rattle.ssh_transport.specs.Hearing.{HearsLine}
 use Rattle.ssh_transport.specs.Kept.{IsLive}
@@ -31,7 +35,7 @@ use Rattle.ssh_transport.proofs.Answering.{spot_of}
 use Rattle.ssh_transport.proofs.Heard.{hears_some}
 use Rattle.ssh_transport.proofs.Inputs.{line_more}
 use Rattle.ssh_transport.proofs.Saying.{unread_steps}
-use Rattle.ssh_transport.proofs.Stopping.{stops_memory}
+use Rattle.ssh_transport.proofs.Stopping.{Later, stops_memory}
 use Rattle.ssh_transport.proofs.Taking.{input_more}
 
 -- ---- no version line
@@ -47,8 +51,12 @@ no_id side (Waiting bytes others) piece error new n h =
 no_id side (Heard text) piece error new n h = absurd (let e = h.0 in cc)
 no_id side Failed piece error new n h = absurd (n refl)
 
-fails_unheard : (says : Says) (denies : Denies) (untrusted : ServerHost → Type 0) (c c' : Connection) (piece : List ℕ) (error : Error) (line : IdReading) → IsLive c → IsAsBefore c.session c'.session → c'.delivered.items ≡ c.delivered.items → Feeds (lets_pass c.session.side) c.session.line piece (Err error) line → Fails says denies untrusted c piece error c'
-fails_unheard says denies untrusted c c' piece error line live b d h =
+-- what was asked where nothing was read
+abbrev Still : Connection → (RefusalCause → SideState → Type 0) → Type 0
+Still c asked = (cause : RefusalCause) (events : List Event) (at : SideState) → Steps nothing_said c.session.side c.session.config.now (id_text c.session.config.now.id) (state_at c.session (reading_of c) c.reader.count) events at → asked cause at
+
+fails_unheard : (says : Says) (denies : Denies) (untrusted : ServerHost → Type 0) (asked : RefusalCause → SideState → Type 0) (c c' : Connection) (piece : List ℕ) (error : Error) (line : IdReading) → Still c asked → IsLive c → IsAsBefore c.session c'.session → c'.delivered.items ≡ c.delivered.items → Feeds (lets_pass c.session.side) c.session.line piece (Err error) line → Fails says denies untrusted asked c piece error c'
+fails_unheard says denies untrusted asked c c' piece error line still live b d h =
     let n = no_id c.session.side c.session.line piece error line live.heeds h in
     record {
       cause = OfVersion;
@@ -67,10 +75,11 @@ fails_unheard says denies untrusted c c' piece error line live b d h =
       read = refl;
       next = tt;
       why = n.1;
+      asks = still OfVersion [] (state_at c.session (reading_of c) c.reader.count) refl;
     }
 
-fails_begin : (says : Says) (denies : Denies) (untrusted : ServerHost → Type 0) (c c' : Connection) (piece : List ℕ) (error : Error) → IsAsBefore c.session c'.session → c'.delivered.items ≡ c.delivered.items → error ≡ errors.Memory → Fails says denies untrusted c piece error c'
-fails_begin says denies untrusted c c' piece error b d e = record {
+fails_begin : (says : Says) (denies : Denies) (untrusted : ServerHost → Type 0) (asked : RefusalCause → SideState → Type 0) (c c' : Connection) (piece : List ℕ) (error : Error) → Still c asked → IsAsBefore c.session c'.session → c'.delivered.items ≡ c.delivered.items → error ≡ errors.Memory → Fails says denies untrusted asked c piece error c'
+fails_begin says denies untrusted asked c c' piece error still b d e = record {
   cause = OfMemory;
   state = state_at c.session (reading_of c) c.reader.count;
   events = [];
@@ -87,14 +96,15 @@ fails_begin says denies untrusted c c' piece error b d e = record {
   read = refl;
   next = tt;
   why = e;
+  asks = still OfMemory [] (state_at c.session (reading_of c) c.reader.count) refl;
 }
 
-pub fails_hearing : (says : Says) (denies : Denies) (untrusted : ServerHost → Type 0) (c c' : Connection) (piece : List ℕ) (error : Error) → IsLive c → HearsNot c.session piece error c'.session → c'.delivered.items ≡ c.delivered.items → Fails says denies untrusted c piece error c'
-fails_hearing says denies untrusted c c' piece error live h d = by h.1
+pub fails_hearing : (says : Says) (denies : Denies) (untrusted : ServerHost → Type 0) (asked : RefusalCause → SideState → Type 0) (c c' : Connection) (piece : List ℕ) (error : Error) → Still c asked → IsLive c → HearsNot c.session piece error c'.session → c'.delivered.items ≡ c.delivered.items → Fails says denies untrusted asked c piece error c'
+fails_hearing says denies untrusted asked c c' piece error still live h d = by h.1
   where
-    by : ((line : IdReading) × Feeds (lets_pass c.session.side) c.session.line piece (Err error) line) ⊎ (error ≡ errors.Memory) → Fails says denies untrusted c piece error c'
-    by (inl l) = fails_unheard says denies untrusted c c' piece error l.0 live h.0 d l.1
-    by (inr e) = fails_begin says denies untrusted c c' piece error h.0 d e
+    by : ((line : IdReading) × Feeds (lets_pass c.session.side) c.session.line piece (Err error) line) ⊎ (error ≡ errors.Memory) → Fails says denies untrusted asked c piece error c'
+    by (inl l) = fails_unheard says denies untrusted asked c c' piece error l.0 still live h.0 d l.1
+    by (inr e) = fails_begin says denies untrusted asked c c' piece error still h.0 d e
 
 -- ---- behind the line
 
@@ -104,8 +114,8 @@ hears_cause (OfPacket i) t piece events line behind n h = h
 hears_cause OfVersion t piece events line behind n h = absurd (n refl)
 hears_cause OfMemory t piece events line behind n h = tt
 
-pub fails_behind : (says : Says) (denies : Denies) (untrusted : ServerHost → Type 0) (c mid c' : Connection) (piece : List ℕ) (error : Error) → Hears c piece mid → IsHeard mid.session.line → Stops says denies untrusted mid error c' → Fails says denies untrusted c piece error c'
-fails_behind says denies untrusted c mid c' piece error h i k = record {
+pub fails_behind : (says : Says) (denies : Denies) (untrusted : ServerHost → Type 0) (asked later : RefusalCause → SideState → Type 0) (c mid c' : Connection) (piece : List ℕ) (error : Error) → Later mid later asked → Hears c piece mid → IsHeard mid.session.line → Stops says denies untrusted later mid error c' → Fails says denies untrusted asked c piece error c'
+fails_behind says denies untrusted asked later c mid c' piece error a h i k = record {
   cause = k.cause;
   state = k.state;
   events = h.events ++ k.events;
@@ -126,6 +136,7 @@ fails_behind says denies untrusted c mid c' piece error h i k = record {
       ∙ ap (λ (b : List ℕ). b ++ read_bytes c.session.side (reading_of mid) k.events) (h.bytes (reading_of c))));
   next = k.next;
   why = subst (λ (x : Side). AnswersCause says denies untrusted x c.session.config.now k.cause k.state error) h.side (subst (λ (x : Bor Config). AnswersCause says denies untrusted mid.session.side x.now k.cause k.state error) h.config k.why);
+  asks = a k.cause k.state (begun_steps says mid.session.side mid.session.config.now (id_text mid.session.config.now.id) k.events (state_at mid.session (reading_of mid) mid.reader.count) k.state k.steps) k.asks;
 } where
   first : Steps says c.session.side c.session.config.now (id_text c.session.config.now.id) (state_at c.session (reading_of c) c.reader.count) h.events (state_at mid.session (reading_of mid) mid.reader.count)
   first = unread_steps nothing_said says c.session.side c.session.config.now (id_text c.session.config.now.id) h.events (state_at c.session (reading_of c) c.reader.count) (state_at mid.session (reading_of mid) mid.reader.count) h.unread h.steps
@@ -135,19 +146,21 @@ fails_behind says denies untrusted c mid c' piece error h i k = record {
       (subst (λ (b : Bor Config). Steps says mid.session.side b.now (id_text b.now.id) (state_at mid.session (reading_of mid) mid.reader.count) k.events k.state) h.config k.steps)
 
 -- memory is wanting for what stands behind the line
-pub fails_push : (says : Says) (denies : Denies) (untrusted : ServerHost → Type 0) (c c' : Connection) (s' : Session) (used : ℕ) (piece : List ℕ) (error : Error) → IsLive c → HearsLine c.session piece (Some used) s' → IsHeard s'.line → c'.session ≡ s' → c'.delivered.items ≡ c.delivered.items → error ≡ errors.Memory → Fails says denies untrusted c piece error c'
-fails_push says denies untrusted c c' s' used piece error live h i e d m = fails_behind says denies untrusted c (record c { session = s'; reader = record c.reader { waiting = c.reader.waiting ++ drop used piece } }) c' piece error
-    (hears_some c s' used piece (record c.reader { waiting = c.reader.waiting ++ drop used piece }) live h refl) i
-    (stops_memory says denies untrusted (record c { session = s'; reader = record c.reader { waiting = c.reader.waiting ++ drop used piece } }) c' error m (ap (λ (x : Session). x.writer.output) e) d (ap (λ (x : Session). x.finished.items) e))
+pub fails_push : (says : Says) (denies : Denies) (untrusted : ServerHost → Type 0) (asked : RefusalCause → SideState → Type 0) (c c' : Connection) (s' : Session) (used : ℕ) (piece : List ℕ) (error : Error) → Still c asked → IsLive c → HearsLine c.session piece (Some used) s' → IsHeard s'.line → c'.session ≡ s' → c'.delivered.items ≡ c.delivered.items → error ≡ errors.Memory → Fails says denies untrusted asked c piece error c'
+fails_push says denies untrusted asked c c' s' used piece error still live h i e d m = fails_behind says denies untrusted asked asked c (record c { session = s'; reader = record c.reader { waiting = c.reader.waiting ++ drop used piece } }) c' piece error (λ cause at b x. x) heard i
+    (stops_memory says denies untrusted asked (record c { session = s'; reader = record c.reader { waiting = c.reader.waiting ++ drop used piece } }) c' error m (ap (λ (x : Session). x.writer.output) e) d (ap (λ (x : Session). x.finished.items) e) (still OfMemory heard.events _ heard.steps))
+  where
+    heard : Hears c piece (record c { session = s'; reader = record c.reader { waiting = c.reader.waiting ++ drop used piece } })
+    heard = hears_some c s' used piece (record c.reader { waiting = c.reader.waiting ++ drop used piece }) live h refl
 
-pub fails_heard : (says : Says) (denies : Denies) (untrusted : ServerHost → Type 0) (c c' : Connection) (piece : List ℕ) (error : Error) → IsLive c → FailsHearing c piece error c' → Fails says denies untrusted c piece error c'
-fails_heard says denies untrusted c c' piece error live (inl h) = fails_hearing says denies untrusted c c' piece error live h.not h.delivered
-fails_heard says denies untrusted c c' piece error live (inr h) = fails_push says denies untrusted c c' c'.session h.used piece error live h.heard h.line refl h.delivered h.error_is
+pub fails_heard : (says : Says) (denies : Denies) (untrusted : ServerHost → Type 0) (asked : RefusalCause → SideState → Type 0) (c c' : Connection) (piece : List ℕ) (error : Error) → Still c asked → IsLive c → FailsHearing c piece error c' → Fails says denies untrusted asked c piece error c'
+fails_heard says denies untrusted asked c c' piece error still live (inl h) = fails_hearing says denies untrusted asked c c' piece error still live h.not h.delivered
+fails_heard says denies untrusted asked c c' piece error still live (inr h) = fails_push says denies untrusted asked c c' c'.session h.used piece error still live h.heard h.line refl h.delivered h.error_is
 
 -- ---- as contracts see it
 
-refuses_piece : (says : Says) (denies : Denies) (untrusted : ServerHost → Type 0) (c mid c' : Connection) (piece : List ℕ) (error : Error) → IsFixed c.session mid.session → Breaks (standing_of mid) (standing_of c') → IsAsBefore mid.session c'.session → Fails says denies untrusted c piece error mid → RefusesPiece says denies untrusted (standing_of c) piece error (standing_of c')
-refuses_piece says denies untrusted c mid c' piece error x b r f = record {
+refuses_piece : (says : Says) (denies : Denies) (untrusted : ServerHost → Type 0) (asked : RefusalCause → SideState → Type 0) (c mid c' : Connection) (piece : List ℕ) (error : Error) → IsFixed c.session mid.session → Breaks (standing_of mid) (standing_of c') → IsAsBefore mid.session c'.session → Fails says denies untrusted asked c piece error mid → RefusesPiece says denies untrusted (standing_of c) piece error (standing_of c')
+refuses_piece says denies untrusted asked c mid c' piece error x b r f = record {
   cause = f.cause;
   refuses = record {
     at = f.state;
@@ -172,9 +185,30 @@ refuses_piece says denies untrusted c mid c' piece error x b r f = record {
   answers = f.why;
 }
 
-pub refused_answer : (says : Says) (denies : Denies) (untrusted : ServerHost → Type 0) (c mid c' : Connection) (piece : List ℕ) (answer done : Result (Unit {0}) Error) → done ≡ answer → IsFixed c.session mid.session → OnErr answer (Breaks (standing_of mid) (standing_of c')) → OnErr answer (IsAsBefore mid.session c'.session) → IfErr answer (λ e. Fails says denies untrusted c piece e mid) → IfErr done (λ e. RefusesPiece says denies untrusted (standing_of c) piece e (standing_of c'))
-refused_answer says denies untrusted c mid c' piece (Ok u) done d x b r f = subst (λ (y : Result (Unit {0}) Error). IfErr y (λ e. RefusesPiece says denies untrusted (standing_of c) piece e (standing_of c'))) (sym d) tt
-refused_answer says denies untrusted c mid c' piece (Err e) done d x b r f = subst (λ (y : Result (Unit {0}) Error). IfErr y (λ e. RefusesPiece says denies untrusted (standing_of c) piece e (standing_of c'))) (sym d) (refuses_piece says denies untrusted c mid c' piece e x b r f)
+pub refused_answer : (says : Says) (denies : Denies) (untrusted : ServerHost → Type 0) (asked : RefusalCause → SideState → Type 0) (c mid c' : Connection) (piece : List ℕ) (answer done : Result (Unit {0}) Error) → done ≡ answer → IsFixed c.session mid.session → OnErr answer (Breaks (standing_of mid) (standing_of c')) → OnErr answer (IsAsBefore mid.session c'.session) → IfErr answer (λ e. Fails says denies untrusted asked c piece e mid) → IfErr done (λ e. RefusesPiece says denies untrusted (standing_of c) piece e (standing_of c'))
+refused_answer says denies untrusted asked c mid c' piece (Ok u) done d x b r f = subst (λ (y : Result (Unit {0}) Error). IfErr y (λ e. RefusesPiece says denies untrusted (standing_of c) piece e (standing_of c'))) (sym d) tt
+refused_answer says denies untrusted asked c mid c' piece (Err e) done d x b r f = subst (λ (y : Result (Unit {0}) Error). IfErr y (λ e. RefusesPiece says denies untrusted (standing_of c) piece e (standing_of c'))) (sym d) (refuses_piece says denies untrusted asked c mid c' piece e x b r f)
 
-pub fails_read : (says : Config → Says) (denies : Denies) (untrusted : ServerHost → Type 0) (c mid c' : Connection) (piece : List ℕ) (error : Error) → Hears c piece mid → IsHeard mid.session.line → Stops (says mid.session.config.now) denies untrusted mid error c' → Fails (says c.session.config.now) denies untrusted c piece error c'
-fails_read says denies untrusted c mid c' piece error h i k = fails_behind (says c.session.config.now) denies untrusted c mid c' piece error h i (subst (λ (b : Bor Config). Stops (says b.now) denies untrusted mid error c') h.config k)
+pub fails_read : (says : Config → Says) (denies : Denies) (untrusted : ServerHost → Type 0) (asked later : RefusalCause → SideState → Type 0) (c mid c' : Connection) (piece : List ℕ) (error : Error) → Later mid later asked → Hears c piece mid → IsHeard mid.session.line → Stops (says mid.session.config.now) denies untrusted later mid error c' → Fails (says c.session.config.now) denies untrusted asked c piece error c'
+fails_read says denies untrusted asked later c mid c' piece error a h i k = fails_behind (says c.session.config.now) denies untrusted asked later c mid c' piece error a h i (subst (λ (b : Bor Config). Stops (says b.now) denies untrusted later mid error c') h.config k)
+
+-- and how often the parts were asked
+asking_piece : (says : Says) (denies : Denies) (untrusted : ServerHost → Type 0) (n n' : PartCalls) (c mid c' : Connection) (piece : List ℕ) (error : Error) → IsFixed c.session mid.session → Breaks (standing_of mid) (standing_of c') → IsAsBefore mid.session c'.session → Fails says denies untrusted (AsksTo c.session n n') c piece error mid → RefusesAsking says (standing_of c) piece (standing_of c') n n'
+unfolding refuses_piece
+asking_piece says denies untrusted n n' c mid c' piece error x b r f = record {
+  cause = f.cause;
+  refuses = (refuses_piece says denies untrusted (AsksTo c.session n n') c mid c' piece error x b r f).refuses;
+  asks = until;
+  few = refused_few says c.session.side c.session.config.now (id_text c.session.config.now.id) f.events f.cause (standing_of c).state f.state n n' f.steps until;
+} where
+  until : AsksUntil c.session.side f.cause (standing_of c).state f.state n n'
+  until = record { mid = (f.asks).mid; before = record { agreement = ((f.asks).before).agreement; hosts = ((f.asks).before).hosts; lookups = ((f.asks).before).lookups }; last = (f.asks).last }
+
+pub asked_answer : (says : Says) (denies : Denies) (untrusted : ServerHost → Type 0) (n n' : PartCalls) (c mid c' : Connection) (piece : List ℕ) (answer done : Result (Unit {0}) Error) → done ≡ answer → IsFixed c.session mid.session → OnErr answer (Breaks (standing_of mid) (standing_of c')) → OnErr answer (IsAsBefore mid.session c'.session) → IfErr answer (λ e. Fails says denies untrusted (AsksTo c.session n n') c piece e mid) → OnErr done (RefusesAsking says (standing_of c) piece (standing_of c') n n')
+asked_answer says denies untrusted n n' c mid c' piece (Ok u) done d x b r f = subst (λ (y : Result (Unit {0}) Error). OnErr y (RefusesAsking says (standing_of c) piece (standing_of c') n n')) (sym d) tt
+asked_answer says denies untrusted n n' c mid c' piece (Err e) done d x b r f = subst (λ (y : Result (Unit {0}) Error). OnErr y (RefusesAsking says (standing_of c) piece (standing_of c') n n')) (sym d) (asking_piece says denies untrusted n n' c mid c' piece e x b r f)
+
+pub asks_answer : (n n' : PartCalls) (c mid c' : Connection) (answer done : Result (Unit {0}) Error) → done ≡ answer → OnOk answer (c' ≡ mid) → OnOk answer (AsksBetween c.session mid.session n n') → OnOk done (AsksWithin c.session.side (standing_of c).state (standing_of c').state n n')
+asks_answer n n' c mid c' (Ok u) done d e h = subst (λ (y : Result (Unit {0}) Error). OnOk y (AsksWithin c.session.side (standing_of c).state (standing_of c').state n n')) (sym d)
+    (subst (λ (x : Connection). AsksWithin c.session.side (standing_of c).state (standing_of x).state n n') (sym e) (record { agreement = (h.within).agreement; hosts = (h.within).hosts; lookups = (h.within).lookups }))
+asks_answer n n' c mid c' (Err x) done d e h = subst (λ (y : Result (Unit {0}) Error). OnOk y (AsksWithin c.session.side (standing_of c).state (standing_of c').state n n')) (sym d) tt

@@ -2,3 +2,4 @@
 -- say later. Declares nothing.
 pub use Rattle.ssh_transport.proofs.Parts.{agreement_same, agreement_after, hosts_same, hosts_after, groups_same, groups_after}
 pub use Rattle.ssh_transport.proofs.Weaker.{Weaker, kept_weaker, steps_weaker}
+pub use Rattle.ssh_transport.proofs.Denying.{Denying, kept_denying, kept_untrusting, piece_still}

@@ -1,5 +1,6 @@
 pub mod Answering
 pub mod Appending
+pub mod Asking
 pub mod Configs
 pub mod Denying
 pub mod Failing

@@ -27,7 +27,7 @@ use Rattle.ssh_rules.specs.Standing.{is_outside}
 use Rattle.ssh_transport.specs.Handling.{IsBegun, IsFor, IsOpen, IsOpenBy, IsReadAt, Passes, counts_guess, is_ordered, may_deliver_by}
 use Rattle.ssh_transport.specs.Saying.{setting_of}
 use Rattle.ssh_transport.specs.States.{stands_of, state_at}
-use Rattle.ssh_transport.specs.Stopping.{BreaksAt, HoldsNone, IsForNone, Refuses, RefusesHost, RefusesMove}
+use Rattle.ssh_transport.specs.Stopping.{BeginsAt, BreaksAt, HoldsNone, IsForNone, Refuses, RefusesHost, RefusesMove}
 use Rattle.ssh_transport.specs.declared.session.Session.{Session}
 use Rattle.ssh_transport.proofs.Handling.{finish_stage, setting_by}
 
@@ -85,7 +85,7 @@ looked_at : (s s1 : Session) (m : Machine) → IsFor s m s1 → LooksIn (stands_
 looked_at s s1 m (inl f) = inr (f.1, ((f.0).item.payload, (f.0).stage_is))
 looked_at s s1 m (inr f) = inl (ap (λ (k : SessionKexState Machine). stands_of s.finished.items k) f.0)
 
-set_for : (s s1 : Session) (m : Machine) → IsOpen s → IsFor s m s1 → m.setting ≡ setting_of s
+pub set_for : (s s1 : Session) (m : Machine) → IsOpen s → IsFor s m s1 → m.setting ≡ setting_of s
 set_for s s1 m o (inl f) = (f.0).setting_is
 set_for s s1 m o (inr f) = (subst (λ (k : SessionKexState Machine). IsOpenBy (setting_of s) k) f.0 o.machine).setting_is
 
@@ -95,8 +95,9 @@ in_order s seqn type payload at i t passes r = passes at.number i r.small r.seqn
 kex_of : (type : ℕ) (payload : List ℕ) (i : Item) → type ≡ message_type payload → payload ≡ i.payload → is_kex type ≡ true → is_kex_type (type_of i) ≡ true
 kex_of type payload i t p k = subst (λ (x : ℕ). is_kex x ≡ true) (t ∙ ap message_type p) k
 
-message_refused : (says : Says) (denies : Denies) (untrusted : ServerHost → Type 0) (s s1 : Session) (m : Machine) (inc : Incoming) (type : ℕ) (error : Error) → IsOpen s → type ≡ message_type inc.payload.now → is_kex type ≡ true → Passes s inc.seqn type → IsFor s m s1 → RefusesMessage says denies m.setting m.stage inc.seqn inc.payload.now error → Refuses says denies untrusted s inc.seqn inc.payload.now error
-message_refused says denies untrusted s s1 m inc type error o t k q f h = λ at read i r. inr (inr (inl (record {
+message_refused : (says : Says) (denies : Denies) (untrusted : ServerHost → Type 0) (s s1 : Session) (m : Machine) (inc : Incoming) (type : ℕ) (error : Error) → IsOpen s → type ≡ message_type inc.payload.now → is_kex type ≡ true → Passes s inc.seqn type → BeginsAt s type → IsFor s m s1 → RefusesMessage says denies m.setting m.stage inc.seqn inc.payload.now error → Refuses says denies untrusted s inc.seqn inc.payload.now error
+message_refused says denies untrusted s s1 m inc type error o t k q b f h = λ at read i r. inr (inr (inl (record {
+  begins = λ e. same_type type inc.payload.now i t r.payload_is ∙ b e;
   ordered = in_order s inc.seqn type inc.payload.now at i t q r;
   stage = m.stage;
   looks = looked_at s s1 m f;
@@ -117,9 +118,9 @@ host_refused says denies untrusted s s1 m inc type error t q f h = λ at read i 
     by i p st e y (inl x) = let k = finish_stage m.stage inc.payload.now h.done.exchange h.done.made (Some h.host) x.0 in record { exchange = h.done.exchange; made = h.done.made; host = h.host; inside = e ∙ host_stands s s1 m h.done.exchange h.done.made (Some h.host) f k.1; payload_is = sym p ∙ k.0; ordered = y; denied = h.denied; error_is = h.error_is }
     by i p st e y (inr x) = absurd (skips_none m.setting m.stage inc.seqn inc.payload.now h.done.written h.done.exchange h.done.made h.host x)
 
-pub refuses_moved : (says : Says) (denies : Denies) (untrusted : ServerHost → Type 0) (s s1 : Session) (m : Machine) (inc : Incoming) (type : ℕ) (error : Error) → IsOpen s → type ≡ message_type inc.payload.now → is_kex type ≡ true → Passes s inc.seqn type → IsFor s m s1 → RefusesMove says denies untrusted m inc error → Refuses says denies untrusted s inc.seqn inc.payload.now error
-refuses_moved says denies untrusted s s1 m inc type error o t k q f (inl h) = message_refused says denies untrusted s s1 m inc type error o t k q f h
-refuses_moved says denies untrusted s s1 m inc type error o t k q f (inr h) = host_refused says denies untrusted s s1 m inc type error t q f h
+pub refuses_moved : (says : Says) (denies : Denies) (untrusted : ServerHost → Type 0) (s s1 : Session) (m : Machine) (inc : Incoming) (type : ℕ) (error : Error) → IsOpen s → type ≡ message_type inc.payload.now → is_kex type ≡ true → Passes s inc.seqn type → BeginsAt s type → IsFor s m s1 → RefusesMove says denies untrusted m inc error → Refuses says denies untrusted s inc.seqn inc.payload.now error
+refuses_moved says denies untrusted s s1 m inc type error o t k q b f (inl h) = message_refused says denies untrusted s s1 m inc type error o t k q b f h
+refuses_moved says denies untrusted s s1 m inc type error o t k q b f (inr h) = host_refused says denies untrusted s s1 m inc type error t q f h
 
 -- ---- where no machine is for it
 
@@ -143,10 +144,10 @@ idle_outside (x ∷ records) Idle b o h n = refl
 idle_outside records (InProgress m) b o h n = absurd h
 idle_outside records Taken b o h n = absurd o
 
-pub refuses_none : (says : Says) (denies : Denies) (untrusted : ServerHost → Type 0) (s : Session) (seqn type : ℕ) (payload : List ℕ) (error : Error) → IsOpen s → IsBegun s → type ≡ message_type payload → is_kex type ≡ true → Passes s seqn type → (error ≡ errors.Memory) ⊎ ((error ≡ errors.Inconsistent) × IsForNone s type) → Refuses says denies untrusted s seqn payload error
+pub refuses_none : (says : Says) (denies : Denies) (untrusted : ServerHost → Type 0) (s : Session) (seqn type : ℕ) (payload : List ℕ) (error : Error) → IsOpen s → IsBegun s → type ≡ message_type payload → is_kex type ≡ true → Passes s seqn type → ((error ≡ errors.Memory) × BeginsAt s type) ⊎ ((error ≡ errors.Inconsistent) × IsForNone s type) → Refuses says denies untrusted s seqn payload error
 refuses_none says denies untrusted s seqn type payload error o b t k q (inl e) = λ at read i r.
     let l = stage_there (stands_of s.finished.items s.kex) b in
-    inr (inr (inl (record { stage = l.0; looks = l.1; ordered = in_order s seqn type payload at i t q r; is_kex = kex_of type payload i t r.payload_is k; refuses = memory_anyway says denies _ l.0 _ i.payload error e })))
+    inr (inr (inl (record { stage = l.0; looks = l.1; begins = λ x. same_type type payload i t r.payload_is ∙ e.1 x; ordered = in_order s seqn type payload at i t q r; is_kex = kex_of type payload i t r.payload_is k; refuses = memory_anyway says denies _ l.0 _ i.payload error e.0 })))
 refuses_none says denies untrusted s seqn type payload error o b t k q (inr h) = λ at read i r.
     let same : type_of i ≡ type = same_type type payload i t r.payload_is in
     let outside : stands_of s.finished.items s.kex ≡ Outside = idle_outside s.finished.items s.kex (setting_of s) o.machine (h.1).none b in
@@ -210,8 +211,8 @@ pub done_at : (says : Says) (m : Machine) (i : Incoming) (old : Writer) (p : Rat
 done_at says m i old p host k new e h = subst (λ (x : Rattle.ssh_kex.specs.declared.progress.KexProgress.KexProgress Machine). Rattle.ssh_kex.specs.Stepping.Progresses says m (Some i) old x new) e h
 
 -- by what its machine's configuration makes the parts say
-pub refuses_taken : (says : Config → Says) (denies : Denies) (untrusted : ServerHost → Type 0) (s s1 : Session) (m : Machine) (inc : Incoming) (type : ℕ) (error : Error) → IsOpen s → type ≡ message_type inc.payload.now → is_kex type ≡ true → Passes s inc.seqn type → IsFor s m s1 → RefusesMove (says m.setting.config) denies untrusted m inc error → Refuses (says s.config.now) denies untrusted s inc.seqn inc.payload.now error
-refuses_taken says denies untrusted s s1 m inc type error o t k q f h = refuses_moved (says s.config.now) denies untrusted s s1 m inc type error o t k q f (subst (λ (x : Config). RefusesMove (says x) denies untrusted m inc error) (Rattle.ssh_transport.proofs.Moving.for_config s s1 m o f) h)
+pub refuses_taken : (says : Config → Says) (denies : Denies) (untrusted : ServerHost → Type 0) (s s1 : Session) (m : Machine) (inc : Incoming) (type : ℕ) (error : Error) → IsOpen s → type ≡ message_type inc.payload.now → is_kex type ≡ true → Passes s inc.seqn type → BeginsAt s type → IsFor s m s1 → RefusesMove (says m.setting.config) denies untrusted m inc error → Refuses (says s.config.now) denies untrusted s inc.seqn inc.payload.now error
+refuses_taken says denies untrusted s s1 m inc type error o t k q b f h = refuses_moved (says s.config.now) denies untrusted s s1 m inc type error o t k q b f (subst (λ (x : Config). RefusesMove (says x) denies untrusted m inc error) (Rattle.ssh_transport.proofs.Moving.for_config s s1 m o f) h)
 
 pub from_err : {T : Type 0} (answer : Result T Error) (P : Error → Type 0) (e d : Error) → answer ≡ Err d → d ≡ e → P e → IfErr answer P
 from_err {T} answer P e d a b h = subst (λ (r : Result T Error). IfErr r P) (sym a) (subst P (sym b) h)

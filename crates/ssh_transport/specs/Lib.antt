@@ -1,3 +1,4 @@
+pub mod Asking
 pub mod Kexinits
 pub mod Handling
 pub mod Hearing

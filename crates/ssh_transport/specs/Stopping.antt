@@ -17,7 +17,7 @@ use Rattle.ssh_kex.specs.declared.exchange.ServerHost.{ServerHost}
 use Rattle.ssh_kex.specs.declared.session_state.SessionKexState.{SessionKexState}
 use Rattle.ssh_kex.specs.declared.session_state.SessionKexState.TheVariants.{Idle, InProgress, Taken}
 use Rattle.ssh_rules.specs.Log.{delivered_in, read_bytes, sent_bytes}
-use Rattle.ssh_rules.specs.Machine.{Event, SideState, Spot, Steps, is_violation, names_now}
+use Rattle.ssh_rules.specs.Machine.{Event, Outside, SideState, Spot, Steps, is_violation, names_now}
 use Rattle.ssh_rules.specs.Refusing.{AnswersCause, RefusesPacket}
 use Rattle.ssh_rules.specs.Standing.{HearsBy, HearsNone, IsIdleBefore, IsInput, OfVersion, RefusalCause, StandsNext, is_outside, lets_pass}
 use Rattle.ssh_transport.specs.Handling.{IsHeard, IsReadAt, counts_guess, is_ordered}
@@ -53,7 +53,8 @@ Refuses says denies untrusted s seqn payload error = (at : Spot) (read : ℕ) (i
     → RefusesPacket says denies untrusted s.side s.config.now (state_at s at read) i error
 
 -- Some packets that waited were read, up to a state at which the next is refused, or memory was wanting.
-pub record Stops (says : Says) (denies : Denies) (untrusted : ServerHost → Type 0) (c : Connection) (error : Error)
+pub record Stops (says : Says) (denies : Denies) (untrusted : ServerHost → Type 0)
+    (asked : RefusalCause → SideState → Type 0) (c : Connection) (error : Error)
     (c' : Connection) : Type 0 where
   pub cause : RefusalCause
   pub state : SideState
@@ -72,9 +73,11 @@ pub record Stops (says : Says) (denies : Denies) (untrusted : ServerHost → Typ
   pub next : StandsNext cause state left
   pub line : cause ≡ OfVersion → ⊥
   pub why : AnswersCause says denies untrusted c.session.side c.session.config.now cause state error
+  pub asks : asked cause state
 
 -- A piece was taken up to a packet that is refused, to the end of a line that is no version line, or to want of memory.
-pub record Fails (says : Says) (denies : Denies) (untrusted : ServerHost → Type 0) (c : Connection) (piece : List ℕ) (error : Error)
+pub record Fails (says : Says) (denies : Denies) (untrusted : ServerHost → Type 0)
+    (asked : RefusalCause → SideState → Type 0) (c : Connection) (piece : List ℕ) (error : Error)
     (c' : Connection) : Type 0 where
   pub cause : RefusalCause
   pub state : SideState
@@ -94,6 +97,7 @@ pub record Fails (says : Says) (denies : Denies) (untrusted : ServerHost → Typ
   pub read : behind ≡ read_bytes c.session.side (reading_of c) events ++ left
   pub next : StandsNext cause state left
   pub why : AnswersCause says denies untrusted c.session.side c.session.config.now cause state error
+  pub asks : asked cause state
 
 -- nothing was written or recorded
 pub record IsAsBefore (s s' : Session) : Type 0 where
@@ -109,6 +113,10 @@ abbrev pub HoldsNone : SessionKexState Machine → Type 0
 HoldsNone Idle = Unit {0}
 HoldsNone (InProgress m) = ⊥
 HoldsNone Taken = Unit {0}
+
+-- outside an exchange a KEXINIT alone begins one
+abbrev pub BeginsAt : Session → ℕ → Type 0
+BeginsAt s type = stands_of s.finished.items s.kex ≡ Outside → type ≡ 20
 
 -- no machine is there for a message of this type
 pub record IsForNone (s : Session) (type : ℕ) : Type 0 where

@@ -23,9 +23,9 @@ const MOST_BYTES: usize = 1 << 30;
 const LONGEST_BLOB: usize = 65536;
 
 /// The first test that refuses a side's configuration, if one does: its version line, its byte limits, its group sizes,
-/// the key exchange `none`, its lists, its blobs. It takes no memory.
+/// the key exchange `none`, its lists, its blobs, as `Transport::client` says of each. It takes no memory.
 #[tactic(auto, unfolding(ssh_rules::specs::Valid::config_fault))]
-pub(crate) fn config_fault(side: Side, config: &Config) -> Option<ConfigFault>
+pub fn config_fault(side: Side, config: &Config) -> Option<ConfigFault>
     ensures { result ≡ valid.config_fault side config.now }
 {
     if !is_good_id(&config.id) {

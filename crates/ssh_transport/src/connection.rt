@@ -8,6 +8,7 @@ ghost use Rattle.ssh_rules.specs.MessageTypes.{is_payload_type};
 ghost use Rattle.ssh_rules.specs.Valid.{config_fault, is_bad_size, is_good_payload};
 ghost use Rattle.ssh_transport.specs.Taking.{kept_by};
 ghost use Rattle.ssh_transport.specs.declared.session.Handled.TheVariants.{Delivers};
+ghost use Rattle.ssh_rules.specs.Asking.{AsksWithin, RefusesAsking, counted_by};
 ghost use Rattle.ssh_rules.specs.Refusing.{RefusesPiece, untrusted_of};
 ghost use Rattle.ssh_wire.specs.declared.error.ConfigFault.{ConfigFault};
 ghost use Rattle.ssh_wire.specs.declared.error.Error.TheVariants.{Disconnect, Inconsistent, InvalidConfig, Memory, PacketSize};
@@ -33,6 +34,7 @@ pub(crate) struct Connection<'c> {
 
 impl<'c> Connection<'c> {
     ghost use Rattle.ssh_rules.specs.Standing.{IsNew, Rekeyed, Submitted, TakesInput, WaitsInPart, is_outside, unfinished};
+    ghost use Rattle.ssh_transport.specs.Asking.{AsksBetween, AsksTo};
     ghost use Rattle.ssh_transport.specs.Handling.{IsHeard, IsOpen};
     ghost use Rattle.ssh_transport.specs.Kept.{IsKept, IsLive};
     ghost use Rattle.ssh_transport.specs.Saying.{IsFixed, nothing_said};
@@ -87,6 +89,12 @@ impl<'c> Connection<'c> {
         ensures agreement { KeepsAgreement A.lawful A.obliging A.offered A.refusals A.calls parts.old.agreement parts.new.agreement }
         ensures hosts { KeepsHosts H.lawful H.obliging H.accepts H.trusts H.refused_sign H.refused_verify H.refused_check H.calls parts.old.hosts parts.new.hosts }
         ensures groups { KeepsGroups G.lawful G.obliging G.group G.refusals G.calls parts.old.groups parts.new.groups }
+        ensures asks { OnOk result (AsksWithin self.old.session.side (standing_of self.old).state (standing_of self.new).state
+            (counted_by A.calls H.calls G.calls parts.old.agreement parts.old.hosts parts.old.groups) (counted_by A.calls H.calls G.calls parts.new.agreement parts.new.hosts parts.new.groups)) }
+        ensures asked { self.old.failed ≡ false → OnErr result (RefusesAsking (says_of A.lawful A.offered A.client_makes A.server_makes A.agrees
+            H.lawful H.obliging H.accepts H.trusts H.makes G.lawful G.group self.old.session.config.now parts.old.agreement parts.old.hosts parts.old.groups)
+            (standing_of self.old) piece.now (standing_of self.new)
+            (counted_by A.calls H.calls G.calls parts.old.agreement parts.old.hosts parts.old.groups) (counted_by A.calls H.calls G.calls parts.new.agreement parts.new.hosts parts.new.groups)) }
     {
         if self.failed {
             return Err(Error::Disconnect);
@@ -186,12 +194,15 @@ impl<'c> Connection<'c> {
             G.lawful G.group self.old.session.config.now parts.old.agreement parts.old.hosts parts.old.groups)
             (denies_of A.obliging A.offered A.client_makes A.server_makes A.refusals H.obliging H.accepts
             H.refused_sign H.refused_verify G.obliging G.refusals parts.old.agreement parts.new.agreement parts.old.hosts parts.new.hosts parts.old.groups parts.new.groups)
-            (untrusted_of H.obliging H.trusts H.refused_check parts.old.hosts parts.new.hosts) self.old piece.now e self.new) }
+            (untrusted_of H.obliging H.trusts H.refused_check parts.old.hosts parts.new.hosts)
+            (AsksTo self.old.session (counted_by A.calls H.calls G.calls parts.old.agreement parts.old.hosts parts.old.groups) (counted_by A.calls H.calls G.calls parts.new.agreement parts.new.hosts parts.new.groups)) self.old piece.now e self.new) }
         ensures fixed { IsFixed self.old.session self.new.session }
         ensures unfailed { self.new.failed ≡ self.old.failed }
         ensures agreement { KeepsAgreement A.lawful A.obliging A.offered A.refusals A.calls parts.old.agreement parts.new.agreement }
         ensures hosts { KeepsHosts H.lawful H.obliging H.accepts H.trusts H.refused_sign H.refused_verify H.refused_check H.calls parts.old.hosts parts.new.hosts }
         ensures groups { KeepsGroups G.lawful G.obliging G.group G.refusals G.calls parts.old.groups parts.new.groups }
+        ensures asks { OnOk result (AsksBetween self.old.session self.new.session
+            (counted_by A.calls H.calls G.calls parts.old.agreement parts.old.hosts parts.old.groups) (counted_by A.calls H.calls G.calls parts.new.agreement parts.new.hosts parts.new.groups)) }
     {
         let is_heard = self.hear(&mut parts.rng, piece)?;
         if is_heard {
@@ -235,12 +246,15 @@ impl<'c> Connection<'c> {
             G.lawful G.group self.old.session.config.now parts.old.agreement parts.old.hosts parts.old.groups)
             (denies_of A.obliging A.offered A.client_makes A.server_makes A.refusals H.obliging H.accepts
             H.refused_sign H.refused_verify G.obliging G.refusals parts.old.agreement parts.new.agreement parts.old.hosts parts.new.hosts parts.old.groups parts.new.groups)
-            (untrusted_of H.obliging H.trusts H.refused_check parts.old.hosts parts.new.hosts) self.old e self.new) }
+            (untrusted_of H.obliging H.trusts H.refused_check parts.old.hosts parts.new.hosts)
+            (AsksTo self.old.session (counted_by A.calls H.calls G.calls parts.old.agreement parts.old.hosts parts.old.groups) (counted_by A.calls H.calls G.calls parts.new.agreement parts.new.hosts parts.new.groups)) self.old e self.new) }
         ensures fixed { IsFixed self.old.session self.new.session }
         ensures unfailed { self.new.failed ≡ self.old.failed }
         ensures agreement { KeepsAgreement A.lawful A.obliging A.offered A.refusals A.calls parts.old.agreement parts.new.agreement }
         ensures hosts { KeepsHosts H.lawful H.obliging H.accepts H.trusts H.refused_sign H.refused_verify H.refused_check H.calls parts.old.hosts parts.new.hosts }
         ensures groups { KeepsGroups G.lawful G.obliging G.group G.refusals G.calls parts.old.groups parts.new.groups }
+        ensures asks { OnOk result (AsksBetween self.old.session self.new.session
+            (counted_by A.calls H.calls G.calls parts.old.agreement parts.old.hosts parts.old.groups) (counted_by A.calls H.calls G.calls parts.new.agreement parts.new.hosts parts.new.groups)) }
     {
         'packets: while self.read_packet(parts)? {}
         Ok(())
@@ -264,6 +278,8 @@ impl<'c> Connection<'c> {
         ensures agreement { KeepsAgreement A.lawful A.obliging A.offered A.refusals A.calls parts.old.agreement parts.new.agreement }
         ensures hosts { KeepsHosts H.lawful H.obliging H.accepts H.trusts H.refused_sign H.refused_verify H.refused_check H.calls parts.old.hosts parts.new.hosts }
         ensures groups { KeepsGroups G.lawful G.obliging G.group G.refusals G.calls parts.old.groups parts.new.groups }
+        ensures asks { OnOk result (AsksBetween self.old.session self.new.session
+            (counted_by A.calls H.calls G.calls parts.old.agreement parts.old.hosts parts.old.groups) (counted_by A.calls H.calls G.calls parts.new.agreement parts.new.hosts parts.new.groups)) }
         ensures took { IfOk result (λ r. IfSome r (λ h. Took (says_of A.lawful A.offered A.client_makes A.server_makes A.agrees H.lawful H.obliging H.accepts H.trusts
             H.makes G.lawful G.group self.old.session.config.now parts.old.agreement parts.old.hosts parts.old.groups) self.old h self.new)) }
         ensures none { result ≡ Ok None → (self.new ≡ self.old) × WaitsInPart (reading_of self.old) self.old.reader.waiting }
@@ -271,7 +287,8 @@ impl<'c> Connection<'c> {
             G.lawful G.group self.old.session.config.now parts.old.agreement parts.old.hosts parts.old.groups)
             (denies_of A.obliging A.offered A.client_makes A.server_makes A.refusals H.obliging H.accepts
             H.refused_sign H.refused_verify G.obliging G.refusals parts.old.agreement parts.new.agreement parts.old.hosts parts.new.hosts parts.old.groups parts.new.groups)
-            (untrusted_of H.obliging H.trusts H.refused_check parts.old.hosts parts.new.hosts) self.old e self.new) }
+            (untrusted_of H.obliging H.trusts H.refused_check parts.old.hosts parts.new.hosts)
+            (AsksTo self.old.session (counted_by A.calls H.calls G.calls parts.old.agreement parts.old.hosts parts.old.groups) (counted_by A.calls H.calls G.calls parts.new.agreement parts.new.hosts parts.new.groups)) self.old e self.new) }
     {
         let Some(incoming) = self.reader.next(&mut self.opening)? else {
             return Ok(None);
@@ -299,12 +316,15 @@ impl<'c> Connection<'c> {
             G.lawful G.group self.old.session.config.now parts.old.agreement parts.old.hosts parts.old.groups)
             (denies_of A.obliging A.offered A.client_makes A.server_makes A.refusals H.obliging H.accepts
             H.refused_sign H.refused_verify G.obliging G.refusals parts.old.agreement parts.new.agreement parts.old.hosts parts.new.hosts parts.old.groups parts.new.groups)
-            (untrusted_of H.obliging H.trusts H.refused_check parts.old.hosts parts.new.hosts) self.old e self.new) }
+            (untrusted_of H.obliging H.trusts H.refused_check parts.old.hosts parts.new.hosts)
+            (AsksTo self.old.session (counted_by A.calls H.calls G.calls parts.old.agreement parts.old.hosts parts.old.groups) (counted_by A.calls H.calls G.calls parts.new.agreement parts.new.hosts parts.new.groups)) self.old e self.new) }
         ensures fixed { IsFixed self.old.session self.new.session }
         ensures unfailed { self.new.failed ≡ self.old.failed }
         ensures agreement { KeepsAgreement A.lawful A.obliging A.offered A.refusals A.calls parts.old.agreement parts.new.agreement }
         ensures hosts { KeepsHosts H.lawful H.obliging H.accepts H.trusts H.refused_sign H.refused_verify H.refused_check H.calls parts.old.hosts parts.new.hosts }
         ensures groups { KeepsGroups G.lawful G.obliging G.group G.refusals G.calls parts.old.groups parts.new.groups }
+        ensures asks { OnOk result (AsksBetween self.old.session self.new.session
+            (counted_by A.calls H.calls G.calls parts.old.agreement parts.old.hosts parts.old.groups) (counted_by A.calls H.calls G.calls parts.new.agreement parts.new.hosts parts.new.groups)) }
     {
         let Some(handled) = self.take_packet(parts)? else {
             return Ok(false);

@@ -8,5 +8,6 @@ mod message;
 mod session;
 mod transport;
 
+pub use crate::config::config_fault;
 pub use crate::transport::Transport;
 pub use ssh_kex::{Config, FinishedExchange};

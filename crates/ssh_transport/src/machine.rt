@@ -1,10 +1,10 @@
 //! The machine of an exchange, of either side.
 
-ghost use Rattle.std.specs.Prelude.{◌≡◌, ◌<◌, ◌^◌, [], Some, IfErr, IfOk, OnErr, OnOk, length, is_some};
+ghost use Rattle.std.specs.Prelude.{◌≡◌, ◌+◌, ◌≤◌, ◌<◌, ◌^◌, [], Some, IfErr, IfOk, OnErr, OnOk, length, is_some};
 ghost use Rattle.ssh_kex.specs.Parts.{KeepsAgreement, KeepsGroups, KeepsHosts};
 ghost use Rattle.ssh_kex.specs.Refusals.{IsCreated};
 ghost use Rattle.ssh_kex.specs.Stages.{Created, is_strict, names_of};
-ghost use Rattle.ssh_kex.specs.Stepping.{Progresses, PutsFront, RefusesStep, denies_of, says_of};
+ghost use Rattle.ssh_kex.specs.Stepping.{Progresses, PutsFront, RefusesStep, asks_agreement, asks_groups, asks_hosts, denies_of, next_of, says_of};
 ghost use Rattle.ssh_transport.specs.Machines.{has_dropped};
 ghost use Rattle.ssh_packet.specs.Sealing.{Item};
 ghost use Rattle.ssh_packet.specs.Writing.{SameButRoom};
@@ -134,6 +134,10 @@ impl<'c> SessionKex<'c> {
         ensures agreement { KeepsAgreement A.lawful A.obliging A.offered A.refusals A.calls parts.old.agreement parts.new.agreement }
         ensures hosts { KeepsHosts H.lawful H.obliging H.accepts H.trusts H.refused_sign H.refused_verify H.refused_check H.calls parts.old.hosts parts.new.hosts }
         ensures groups { KeepsGroups G.lawful G.obliging G.group G.refusals G.calls parts.old.groups parts.new.groups }
+        ensures agreement_calls { A.calls parts.new.agreement ≤ A.calls parts.old.agreement + asks_agreement
+            self.entry.setting.side self.entry.stage (next_of result) }
+        ensures hosts_calls { H.calls parts.new.hosts ≤ H.calls parts.old.hosts + asks_hosts self.entry.stage }
+        ensures groups_calls { G.calls parts.new.groups ≤ G.calls parts.old.groups + asks_groups self.entry.stage }
         ensures goes { IfOk result (λ p. Progresses (says_of A.lawful A.offered A.client_makes A.server_makes A.agrees
             H.lawful H.obliging H.accepts H.trusts H.makes G.lawful G.group self.entry.setting.config
             parts.old.agreement parts.old.hosts parts.old.groups) self.entry (Some incoming.entry) output.old p output.new) }

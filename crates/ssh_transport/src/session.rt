@@ -1,7 +1,9 @@
 //! What a side says: its version line, its messages of exchanges, the payloads that it seals or holds.
 
-ghost use Rattle.std.specs.Prelude.{◌≡◌, ◌<◌, ◌≤◌, ◌-◌, if◌then◌else◌, ◌^◌, ◌||◌, ◌&&◌, ◌⊎◌, ℕ, nat_le, not, List, Some, Ok, Err, true, false, IfErr, IfOk, IfSome, OnErr, OnOk, length, take};
+ghost use Rattle.std.specs.Prelude.{◌≡◌, ◌+◌, ◌<◌, ◌≤◌, ◌-◌, if◌then◌else◌, ◌^◌, ◌||◌, ◌&&◌, ◌⊎◌, ℕ, nat_le, not, List, Some, Ok, Err, true, false, IfErr, IfOk, IfSome, OnErr, OnOk, length, take};
+ghost use Rattle.ssh_rules.specs.Asking.{AsksForMessage, AsksForType, counted_by};
 ghost use Rattle.ssh_rules.specs.MessageTypes.{is_payload_type};
+ghost use Rattle.ssh_transport.specs.Asking.{asks_trust};
 ghost use Rattle.ssh_transport.specs.Stopping.{IsDistrusted};
 ghost use Rattle.ssh_transport.specs.declared.session.Handled.TheVariants.{Delivers};
 ghost use Rattle.ssh_kex.specs.Parts.{KeepsAgreement, KeepsGroups, KeepsHosts};
@@ -9,7 +11,7 @@ ghost use Rattle.ssh_kex.specs.Stepping.{denies_of, says_of};
 ghost use Rattle.ssh_packet.specs.Sealing.{next_number};
 ghost use Rattle.ssh_packet.specs.Stream.{message_type as message_type_of};
 ghost use Rattle.ssh_wire.specs.Orders.{is_kex};
-ghost use Rattle.ssh_rules.specs.Machine.{cause_of, is_violation, names_now};
+ghost use Rattle.ssh_rules.specs.Machine.{Inside, cause_of, is_violation, names_now};
 ghost use Rattle.ssh_rules.specs.Refusing.{untrusted_of};
 ghost use Rattle.ssh_rules.specs.Standing.{is_outside, lets_pass};
 ghost use Rattle.ssh_rules.specs.Valid.{config_fault, is_good_payload};
@@ -61,11 +63,12 @@ pub(crate) enum Handled {
 }
 
 impl<'c> Session<'c> {
+    ghost use Rattle.ssh_transport.specs.Asking.{AsksBetween, MoveAsks};
     ghost use Rattle.ssh_transport.specs.Handling.{Handles, Installs, IsBegun, IsFor, IsOpen, Moves, Passes, counts_guess, is_ordered, may_deliver_by};
     ghost use Rattle.ssh_transport.specs.Saying.{AreGood, Begins, GoesOn, GoesPart, IsFixed, IsSettled, IsUnsaid, Opens};
     ghost use Rattle.ssh_transport.specs.Hearing.{HearsLine};
     ghost use Rattle.ssh_transport.specs.States.{CanBegin, IsFresh, IsUnheard, WaitsBehind, is_silent, stands_of};
-    ghost use Rattle.ssh_transport.specs.Stopping.{Appends, BreaksAt, HearsNot, IsAsBefore, IsForNone, Refuses, RefusesMove};
+    ghost use Rattle.ssh_transport.specs.Stopping.{Appends, BeginsAt, BreaksAt, HearsNot, IsAsBefore, IsForNone, Refuses, RefusesMove};
     ghost use Rattle.ssh_transport.specs.Submitting.{Submits};
 
     /// A side that has sent its version line. InvalidConfig where the configuration may not be used; Memory.
@@ -259,6 +262,9 @@ impl<'c> Session<'c> {
         ensures agreement { KeepsAgreement A.lawful A.obliging A.offered A.refusals A.calls parts.old.agreement parts.new.agreement }
         ensures hosts { KeepsHosts H.lawful H.obliging H.accepts H.trusts H.refused_sign H.refused_verify H.refused_check H.calls parts.old.hosts parts.new.hosts }
         ensures groups { KeepsGroups G.lawful G.obliging G.group G.refusals G.calls parts.old.groups parts.new.groups }
+        ensures asks { OnOk result (AsksBetween self.old self.new (counted_by A.calls H.calls G.calls parts.old.agreement parts.old.hosts parts.old.groups) (counted_by A.calls H.calls G.calls parts.new.agreement parts.new.hosts parts.new.groups)) }
+        ensures asked { OnErr result (AsksForType (is_kex (message_type_of incoming.entry.payload.now)) self.old.side (stands_of self.old.finished.items self.old.kex)
+            (counted_by A.calls H.calls G.calls parts.old.agreement parts.old.hosts parts.old.groups) (counted_by A.calls H.calls G.calls parts.new.agreement parts.new.hosts parts.new.groups)) }
         ensures handled { IfOk result (λ h. Handles (says_of A.lawful A.offered A.client_makes A.server_makes A.agrees H.lawful H.obliging H.accepts H.trusts H.makes
             G.lawful G.group self.old.config.now parts.old.agreement parts.old.hosts parts.old.groups) self.old incoming.entry.seqn incoming.entry.payload.now h self.new) }
         ensures refuses { IfErr result (λ e. Refuses (says_of A.lawful A.offered A.client_makes A.server_makes A.agrees H.lawful H.obliging H.accepts H.trusts H.makes
@@ -308,6 +314,9 @@ impl<'c> Session<'c> {
         ensures agreement { KeepsAgreement A.lawful A.obliging A.offered A.refusals A.calls parts.old.agreement parts.new.agreement }
         ensures hosts { KeepsHosts H.lawful H.obliging H.accepts H.trusts H.refused_sign H.refused_verify H.refused_check H.calls parts.old.hosts parts.new.hosts }
         ensures groups { KeepsGroups G.lawful G.obliging G.group G.refusals G.calls parts.old.groups parts.new.groups }
+        ensures asks { OnOk result (AsksBetween self.old self.new (counted_by A.calls H.calls G.calls parts.old.agreement parts.old.hosts parts.old.groups) (counted_by A.calls H.calls G.calls parts.new.agreement parts.new.hosts parts.new.groups)) }
+        ensures asked { OnErr result (AsksForType (is_kex (message_type_of incoming.entry.payload.now)) self.old.side (stands_of self.old.finished.items self.old.kex)
+            (counted_by A.calls H.calls G.calls parts.old.agreement parts.old.hosts parts.old.groups) (counted_by A.calls H.calls G.calls parts.new.agreement parts.new.hosts parts.new.groups)) }
         ensures handled { IfOk result (λ h. Handles (says_of A.lawful A.offered A.client_makes A.server_makes A.agrees H.lawful H.obliging H.accepts H.trusts H.makes
             G.lawful G.group self.old.config.now parts.old.agreement parts.old.hosts parts.old.groups) self.old incoming.entry.seqn incoming.entry.payload.now h self.new) }
         ensures refuses { IfErr result (λ e. Refuses (says_of A.lawful A.offered A.client_makes A.server_makes A.agrees H.lawful H.obliging H.accepts H.trusts H.makes
@@ -399,7 +408,8 @@ impl<'c> Session<'c> {
     fn take_kex<R: Rng>(&mut self, rng: &mut R, message_type: u8) -> Result<SessionKex<'c>, Error>
         requires { CanBegin self.old }
         ensures taken { IfOk result (λ k. IsFor self.old k self.new) }
-        ensures refused { IfErr result (λ e. (e ≡ Memory) ⊎ ((e ≡ Inconsistent) × IsForNone self.old message_type)) }
+        ensures kexinit { OnOk result (BeginsAt self.old message_type) }
+        ensures refused { IfErr result (λ e. ((e ≡ Memory) × BeginsAt self.old message_type) ⊎ ((e ≡ Inconsistent) × IsForNone self.old message_type)) }
         ensures rests { OnErr result (IsAsBefore self.old self.new) }
         ensures begins { CanBegin self.new }
         ensures line { self.new.line ≡ self.old.line }
@@ -438,6 +448,9 @@ impl<'c> Session<'c> {
         ensures agreement { KeepsAgreement A.lawful A.obliging A.offered A.refusals A.calls parts.old.agreement parts.new.agreement }
         ensures hosts { KeepsHosts H.lawful H.obliging H.accepts H.trusts H.refused_sign H.refused_verify H.refused_check H.calls parts.old.hosts parts.new.hosts }
         ensures groups { KeepsGroups G.lawful G.obliging G.group G.refusals G.calls parts.old.groups parts.new.groups }
+        ensures asks { OnOk result (AsksBetween self.old self.new (counted_by A.calls H.calls G.calls parts.old.agreement parts.old.hosts parts.old.groups) (counted_by A.calls H.calls G.calls parts.new.agreement parts.new.hosts parts.new.groups)) }
+        ensures asked { OnErr result (AsksForMessage self.old.side (stands_of self.old.finished.items self.old.kex)
+            (counted_by A.calls H.calls G.calls parts.old.agreement parts.old.hosts parts.old.groups) (counted_by A.calls H.calls G.calls parts.new.agreement parts.new.hosts parts.new.groups)) }
         ensures handled { IfOk result (λ h. Handles (says_of A.lawful A.offered A.client_makes A.server_makes A.agrees H.lawful H.obliging H.accepts H.trusts H.makes
             G.lawful G.group self.old.config.now parts.old.agreement parts.old.hosts parts.old.groups) self.old incoming.entry.seqn incoming.entry.payload.now h self.new) }
         ensures refuses { IfErr result (λ e. Refuses (says_of A.lawful A.offered A.client_makes A.server_makes A.agrees H.lawful H.obliging H.accepts H.trusts H.makes
@@ -471,6 +484,10 @@ impl<'c> Session<'c> {
         ensures agreement { KeepsAgreement A.lawful A.obliging A.offered A.refusals A.calls parts.old.agreement parts.new.agreement }
         ensures hosts { KeepsHosts H.lawful H.obliging H.accepts H.trusts H.refused_sign H.refused_verify H.refused_check H.calls parts.old.hosts parts.new.hosts }
         ensures groups { KeepsGroups G.lawful G.obliging G.group G.refusals G.calls parts.old.groups parts.new.groups }
+        ensures asks { OnOk result (MoveAsks kex.entry.setting.side kex.entry.stage (stands_of self.new.finished.items self.new.kex)
+            (counted_by A.calls H.calls G.calls parts.old.agreement parts.old.hosts parts.old.groups) (counted_by A.calls H.calls G.calls parts.new.agreement parts.new.hosts parts.new.groups)) }
+        ensures asked { OnErr result (AsksForMessage kex.entry.setting.side (Inside kex.entry.stage)
+            (counted_by A.calls H.calls G.calls parts.old.agreement parts.old.hosts parts.old.groups) (counted_by A.calls H.calls G.calls parts.new.agreement parts.new.hosts parts.new.groups)) }
         ensures moves { IfOk result (λ h. Moves (says_of A.lawful A.offered A.client_makes A.server_makes A.agrees
             H.lawful H.obliging H.accepts H.trusts H.makes G.lawful G.group kex.entry.setting.config
             parts.old.agreement parts.old.hosts parts.old.groups) self.old kex.entry incoming.entry h self.new) }
@@ -510,6 +527,7 @@ impl<'c> Session<'c> {
         ensures unheard { OnOk result (IsUnheard self.new) }
         ensures fixed { IsFixed self.old self.new }
         ensures keeps { KeepsHosts H.lawful H.obliging H.accepts H.trusts H.refused_sign H.refused_verify H.refused_check H.calls hosts.old hosts.new }
+        ensures calls { H.calls hosts.new ≤ H.calls hosts.old + asks_trust host }
         ensures trusted { OnOk result (IfSome host (λ h. H.trusts hosts.old h ≡ true)) }
         ensures installs { IfOk result (λ h. Installs self.old newkeys h self.new) }
         ensures refused { IfErr result (λ e. (e ≡ Memory) ⊎ ((e ≡ UnknownKey) × IsDistrusted (untrusted_of H.obliging H.trusts H.refused_check hosts.old hosts.new) host)) }
@@ -595,6 +613,7 @@ fn check_host<H: HostKeys>(
     host: Option<ServerHost>,
 ) -> Result<(), Error>
     ensures keeps { KeepsHosts H.lawful H.obliging H.accepts H.trusts H.refused_sign H.refused_verify H.refused_check H.calls hosts.old hosts.new }
+    ensures calls { H.calls hosts.new ≤ H.calls hosts.old + asks_trust host }
     ensures trusted { OnOk result (IfSome host (λ h. H.trusts hosts.old h ≡ true)) }
     ensures refused { IfErr result (λ e. (e ≡ Memory) ⊎ ((e ≡ UnknownKey) × IsDistrusted (untrusted_of H.obliging H.trusts H.refused_check hosts.old hosts.new) host)) }
 {

@@ -4,6 +4,7 @@ ghost use Rattle.std.specs.Prelude.{◌≡◌, ◌⊎◌, ◌≤◌, ◌-◌, tr
 ghost use Rattle.std.specs.List.{slice_get};
 ghost use Rattle.ssh_kex.specs.Parts.{KeepsAgreement, KeepsGroups, KeepsHosts};
 ghost use Rattle.ssh_kex.specs.Stepping.{denies_of, says_of};
+ghost use Rattle.ssh_rules.specs.Asking.{AsksFew, AsksWithin, RefusesAsking, counted_by};
 ghost use Rattle.ssh_rules.specs.Refusing.{RefusesPiece, untrusted_of};
 ghost use Rattle.ssh_packet.specs.Stream.{message_type};
 ghost use Rattle.ssh_rules.specs.MessageTypes.{is_payload_type};
@@ -99,6 +100,14 @@ impl<'c> Transport<'c> {
         ensures agreement { KeepsAgreement A.lawful A.obliging A.offered A.refusals A.calls parts.old.agreement parts.new.agreement }
         ensures hosts { KeepsHosts H.lawful H.obliging H.accepts H.trusts H.refused_sign H.refused_verify H.refused_check H.calls parts.old.hosts parts.new.hosts }
         ensures groups { KeepsGroups G.lawful G.obliging G.group G.refusals G.calls parts.old.groups parts.new.groups }
+        ensures calls { OnOk result (AsksWithin self.old.side self.old.state self.new.state
+            (counted_by A.calls H.calls G.calls parts.old.agreement parts.old.hosts parts.old.groups) (counted_by A.calls H.calls G.calls parts.new.agreement parts.new.hosts parts.new.groups)) }
+        ensures few { OnOk result (AsksFew (says_of A.lawful A.offered A.client_makes A.server_makes A.agrees
+            H.lawful H.obliging H.accepts H.trusts H.makes G.lawful G.group self.old.config parts.old.agreement parts.old.hosts parts.old.groups)
+            self.old self.new (counted_by A.calls H.calls G.calls parts.old.agreement parts.old.hosts parts.old.groups) (counted_by A.calls H.calls G.calls parts.new.agreement parts.new.hosts parts.new.groups)) }
+        ensures calls_refused { self.old.failed ≡ false → OnErr result (RefusesAsking (says_of A.lawful A.offered A.client_makes A.server_makes A.agrees
+            H.lawful H.obliging H.accepts H.trusts H.makes G.lawful G.group self.old.config parts.old.agreement parts.old.hosts parts.old.groups)
+            self.old piece.now self.new (counted_by A.calls H.calls G.calls parts.old.agreement parts.old.hosts parts.old.groups) (counted_by A.calls H.calls G.calls parts.new.agreement parts.new.hosts parts.new.groups)) }
     {
         self.connection.feed(parts, piece)
     }

@@ -1,4 +1,4 @@
-use Rattle.std.proofs.Common.{rules, ◌+◌, ◌<◌, ◌≤◌, ◌++◌}
+use Rattle.std.proofs.Common.{rules, ◌<◌, ◌≤◌, ◌++◌}
 use Rattle.ssh_link.specs.Generated.{turns_from}
 use Rattle.ssh_link.proofs.GeneratedTurns.{turn_pushed, turns_done}
 use Rattle.ssh_link.proofs.generated.push_turns.Goals as goal

@@ -5,6 +5,7 @@ use Rattle.ssh_transport.specs.Saying.{IsSettled}
 use Rattle.ssh_transport.specs.declared.connection.Connection.{Connection}
 use Rattle.ssh_transport.specs.declared.session.Handled.{Handled}
 use Rattle.std.proofs.lemmas.Result.{err_from_is_err_and}
+use Rattle.ssh_transport.proofs.Asking.{asks_on, to_part}
 use Rattle.ssh_transport.proofs.Refusing.{from_err}
 use Rattle.ssh_transport.proofs.Stopping.{stops_wanting}
 use Rattle.ssh_transport.proofs.Opened.{heeds_heard, short_heard}
@@ -39,4 +40,8 @@ returns-in_default-clause-reads g c = reads_same _ c.args.self.now _ (c.take_pac
 pub returns-in_err-go_on-clause-stops : goal.returns-in_err-go_on-clause-stops
 returns-in_err-go_on-clause-stops g c =
     let p = err_from_is_err_and c.from_residual-in_err-go_on.result c.from_residual-in_err-go_on.ensures.1 in
-    from_err c.from_residual-in_err-go_on.result _ c.in_err-go_on.field-0.0 p.0 p.1 p.2 (stops_wanting _ _ _ c.args.self.now c.take_packet.new.self c.take_up.new.self c.go_on.new.self c.bytes.result c.in-Some.handled c.in_err-go_on.field-0.0 c.requires.live (some_is c.in_ok-handled.field-0 c.in-Some.handled _ c.in_ok-handled.ensures.took c.in-Some.is) c.take_packet.ensures.fixed c.take_packet.ensures.line c.take_up.ensures c.bytes.ensures c.in_err-go_on.ensures.wanting c.in_err-go_on.ensures.err)
+    from_err c.from_residual-in_err-go_on.result _ c.in_err-go_on.field-0.0 p.0 p.1 p.2 (stops_wanting _ _ _ _ c.args.self.now c.take_packet.new.self c.take_up.new.self c.go_on.new.self c.bytes.result c.in-Some.handled c.in_err-go_on.field-0.0 c.requires.live (some_is c.in_ok-handled.field-0 c.in-Some.handled _ c.in_ok-handled.ensures.took c.in-Some.is) c.take_packet.ensures.fixed c.take_packet.ensures.line c.take_up.ensures c.bytes.ensures c.in_err-go_on.ensures.wanting c.in_err-go_on.ensures.err
+    (to_part c.args.self.now c.take_packet.new.self c.take_up.new.self c.in-Some.handled c.go_on.new.self c.bytes.result _ _ c.take_packet.ensures.fixed c.in_ok-handled.ensures.asks c.take_up.ensures c.in_err-go_on.ensures.wanting))
+
+pub returns-clause-asks : goal.returns-clause-asks
+returns-clause-asks g c = asks_on c.args.self.now c.take_packet.new.self c.take_up.new.self c.in-Some.handled c.go_on.new.self c.bytes.result _ _ c.take_packet.ensures.fixed c.in_ok-handled.ensures.asks c.take_up.ensures c.in_ok-go_on.ensures.ok

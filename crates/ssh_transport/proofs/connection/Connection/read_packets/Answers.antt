@@ -2,6 +2,7 @@ use Rattle.std.proofs.Common.{refl, sym, ◌∙◌, subst}
 use Rattle.ssh_kex.specs.Stepping.{says_of}
 use Rattle.ssh_kex.specs.declared.config.Config.{Config}
 use Rattle.ssh_transport.specs.Handling.{IsHeard}
+use Rattle.ssh_transport.proofs.Asking.{between_join, between_same, to_later}
 use Rattle.ssh_transport.proofs.Parts.{agreement_after, agreement_same, groups_after, groups_same, hosts_after, hosts_same}
 use Rattle.ssh_transport.proofs.Taking.{reads_after, reads_none}
 use Rattle.std.proofs.lemmas.Result.{err_from_is_err_and}
@@ -19,6 +20,7 @@ packets-init g c = record {
   reads = reads_none _ c.args.self.now;
   fixed = (refl, refl);
   unfailed = refl;
+  asks = between_same _ _ _ refl;
   agreement = agreement_same _ _ _ _ _ _;
   hosts = hosts_same _ _ _ _ _ _ _ _ _;
   groups = groups_same _ _ _ _ _ _;
@@ -35,6 +37,7 @@ packets-preserved g c = record {
       c.args.self.now c.packets.self c.read_packet.new.self c.packets.invariant.fixed.1 c.packets.invariant.reads c.in_ok-read_packet.ensures.reads;
   fixed = (c.read_packet.ensures.fixed.0 ∙ c.packets.invariant.fixed.0, c.read_packet.ensures.fixed.1 ∙ c.packets.invariant.fixed.1);
   unfailed = c.read_packet.ensures.unfailed ∙ c.packets.invariant.unfailed;
+  asks = between_join c.args.self.now.session c.packets.self.session c.read_packet.new.self.session _ _ _ c.packets.invariant.fixed.0 c.packets.invariant.asks c.in_ok-read_packet.ensures.asks;
   agreement = agreement_after _ _ _ _ _ _ _ _ c.packets.invariant.agreement c.read_packet.ensures.agreement;
   hosts = hosts_after _ _ _ _ _ _ _ _ _ _ _ c.packets.invariant.hosts c.read_packet.ensures.hosts;
   groups = groups_after _ _ _ _ _ _ _ _ c.packets.invariant.groups c.read_packet.ensures.groups;
@@ -56,4 +59,7 @@ returns-in_err-read_packet-clause-stops g c =
     _ _ _ _
     (λ (x : Config). kept_denying g.A.Agreement.lawful g.A.Agreement.offered g.A.Agreement.client_makes g.A.Agreement.server_makes g.A.Agreement.agrees g.H.HostKeys.lawful g.H.HostKeys.obliging g.H.HostKeys.accepts g.H.HostKeys.trusts g.H.HostKeys.makes g.G.GroupLookup.lawful g.G.GroupLookup.group x c.args.parts.now.agreement c.packets.parts.agreement c.read_packet.new.parts.agreement c.args.parts.now.hosts c.packets.parts.hosts c.read_packet.new.parts.hosts c.args.parts.now.groups c.packets.parts.groups c.read_packet.new.parts.groups g.A.Agreement.obliging g.A.Agreement.refusals g.A.Agreement.calls g.H.HostKeys.refused_sign g.H.HostKeys.refused_verify g.H.HostKeys.refused_check g.H.HostKeys.calls g.G.GroupLookup.obliging g.G.GroupLookup.refusals g.G.GroupLookup.calls c.packets.invariant.agreement c.packets.invariant.hosts c.packets.invariant.groups)
     (λ (x : ServerHost) u. kept_untrusting g.H.HostKeys.lawful g.H.HostKeys.obliging g.H.HostKeys.accepts g.H.HostKeys.trusts g.H.HostKeys.refused_sign g.H.HostKeys.refused_verify g.H.HostKeys.refused_check g.H.HostKeys.calls c.args.parts.now.hosts c.packets.parts.hosts c.read_packet.new.parts.hosts x c.packets.invariant.hosts u)
-    c.args.self.now c.packets.self c.read_packet.new.self c.in_err-read_packet.field-0.0 c.packets.invariant.fixed.1 c.packets.invariant.reads c.in_err-read_packet.ensures.stops)
+    _ _ c.args.self.now c.packets.self c.read_packet.new.self c.in_err-read_packet.field-0.0 (to_later c.args.self.now.session c.packets.self.session _ _ _ c.packets.invariant.fixed.0 c.packets.invariant.asks) c.packets.invariant.fixed.1 c.packets.invariant.reads c.in_err-read_packet.ensures.stops)
+
+pub returns-clause-asks : goal.returns-clause-asks
+returns-clause-asks g c = between_join c.args.self.now.session c.packets.self.session c.read_packet.new.self.session _ _ _ c.packets.invariant.fixed.0 c.packets.invariant.asks c.in_ok-read_packet.ensures.asks

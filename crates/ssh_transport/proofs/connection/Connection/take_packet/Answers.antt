@@ -2,6 +2,7 @@ use Rattle.std.proofs.Common.{Ok, ap, refl, ◌∙◌}
 use Rattle.std.proofs.lemmas.Result.{err_from_is_err_and}
 use Rattle.ssh_packet.specs.Errors.{error_of}
 use Rattle.ssh_transport.specs.declared.session.Handled.{Handled}
+use Rattle.ssh_transport.proofs.Asking.{between_same, to_here, to_kept, to_packet}
 use Rattle.ssh_transport.proofs.Refusing.{from_err}
 use Rattle.ssh_transport.proofs.Stopping.{stops_fault, stops_keeping, stops_packet}
 use Rattle.ssh_packet.specs.Sealing.{Clear}
@@ -24,14 +25,18 @@ returns-in_default-clause-unheard g c = λ e. (c.requires.live.settled (record {
 pub returns-in_err-incoming-clause-stops : goal.returns-in_err-incoming-clause-stops
 returns-in_err-incoming-clause-stops g c =
     let p = err_from_is_err_and c.from_residual.result c.from_residual.ensures.1 in
-    from_err c.from_residual.result _ (error_of c.in_err-incoming.field-0.0) p.0 p.1 p.2 (stops_fault _ _ _ c.args.self.now _ c.next.result c.in_err-incoming.field-0.0 (error_of c.in_err-incoming.field-0.0) _ _ c.requires.live c.next.follows.holds-at-none c.in_err-incoming.was refl refl refl)
+    from_err c.from_residual.result _ (error_of c.in_err-incoming.field-0.0) p.0 p.1 p.2 (stops_fault _ _ _ _ c.args.self.now _ c.next.result c.in_err-incoming.field-0.0 (error_of c.in_err-incoming.field-0.0) _ _ c.requires.live c.next.follows.holds-at-none c.in_err-incoming.was refl refl refl (λ f. to_here c.args.self.now.session _ _ _ _ _ refl))
 
 pub returns-in_err-handled-clause-stops : goal.returns-in_err-handled-clause-stops
 returns-in_err-handled-clause-stops g c =
     let p = err_from_is_err_and c.from_residual-in_err-handled.result c.from_residual-in_err-handled.ensures.1 in
-    from_err c.from_residual-in_err-handled.result _ c.in_err-handled.field-0.0 p.0 p.1 p.2 (stops_packet _ _ _ c.args.self.now _ c.next.result _ c.in-Some.incoming c.in_err-handled.field-0.0 _ _ c.requires.live c.next.follows.holds-at-none c.in_ok-incoming.was c.in-Some.is c.in_err-handled.ensures.refuses c.in_err-handled.ensures.rests refl)
+    from_err c.from_residual-in_err-handled.result _ c.in_err-handled.field-0.0 p.0 p.1 p.2 (stops_packet _ _ _ _ c.args.self.now _ c.next.result _ c.in-Some.incoming c.in_err-handled.field-0.0 _ _ c.requires.live c.next.follows.holds-at-none c.in_ok-incoming.was c.in-Some.is c.in_err-handled.ensures.refuses c.in_err-handled.ensures.rests refl (λ i p. to_packet c.args.self.now.session _ _ i _ _ _ p c.in_err-handled.ensures.asked))
 
 pub returns-in_err-keep_payload-clause-stops : goal.returns-in_err-keep_payload-clause-stops
 returns-in_err-keep_payload-clause-stops g c =
     let p = err_from_is_err_and c.from_residual-in_err-keep_payload.result c.from_residual-in_err-keep_payload.ensures.1 in
-    from_err c.from_residual-in_err-keep_payload.result _ c.in_err-keep_payload.field-0.0 p.0 p.1 p.2 (stops_keeping _ _ _ c.args.self.now _ c.in_err-keep_payload.field-0.0 (c.handle.ensures.delivers (c.in_ok-handled.was ∙ ap (λ (x : Handled). Ok x) c.in_err-keep_payload.ensures.same.1)) c.in_err-keep_payload.ensures.same.0 c.in_err-keep_payload.ensures.err)
+    from_err c.from_residual-in_err-keep_payload.result _ c.in_err-keep_payload.field-0.0 p.0 p.1 p.2 (stops_keeping _ _ _ _ c.args.self.now _ c.in_err-keep_payload.field-0.0 (c.handle.ensures.delivers (c.in_ok-handled.was ∙ ap (λ (x : Handled). Ok x) c.in_err-keep_payload.ensures.same.1)) c.in_err-keep_payload.ensures.same.0 c.in_err-keep_payload.ensures.err
+    (to_kept c.args.self.now.session _ _ _ _ _ (c.handle.ensures.delivers (c.in_ok-handled.was ∙ ap (λ (x : Handled). Ok x) c.in_err-keep_payload.ensures.same.1)) c.in_ok-handled.ensures.asks))
+
+pub returns-in_default-clause-asks : goal.returns-in_default-clause-asks
+returns-in_default-clause-asks g c = between_same _ _ _ refl

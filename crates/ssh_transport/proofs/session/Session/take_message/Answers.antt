@@ -3,6 +3,7 @@ use Rattle.ssh_kex.specs.Stepping.{says_of}
 use Rattle.ssh_kex.specs.declared.config.Config.{Config}
 use Rattle.ssh_transport.proofs.Moving.{handles_taken, if_ok, ok_if, open_moved}
 use Rattle.ssh_transport.proofs.Appending.{appends_taken}
+use Rattle.ssh_transport.proofs.Asking.{by_answer, message_asks, message_refused_asks, where_err}
 use Rattle.ssh_transport.proofs.Refusing.{from_err, if_err, refuses_none, refuses_taken}
 use Rattle.ssh_transport.proofs.session.Session.take_message.Goals as goal
 
@@ -13,7 +14,7 @@ pub returns-clause-opened : goal.returns-clause-opened
 returns-clause-opened g c = ok_if c.step.result _ _ (λ h m. open_moved _ c.args.self.now c.take_kex.new.self c.step.new.self c.in_ok-kex.kex _ h c.requires.opened c.requires.begun c.in_ok-kex.ensures.taken m) c.step.ensures.moves
 
 pub returns-clause-refuses : goal.returns-clause-refuses
-returns-clause-refuses g c = if_err c.step.result _ _ (λ e h. refuses_taken (λ (x : Config). says_of g.A.Agreement.lawful g.A.Agreement.offered g.A.Agreement.client_makes g.A.Agreement.server_makes g.A.Agreement.agrees g.H.HostKeys.lawful g.H.HostKeys.obliging g.H.HostKeys.accepts g.H.HostKeys.trusts g.H.HostKeys.makes g.G.GroupLookup.lawful g.G.GroupLookup.group x c.args.parts.now.agreement c.args.parts.now.hosts c.args.parts.now.groups) _ _ c.args.self.now c.take_kex.new.self c.in_ok-kex.kex c.args.incoming c.args.message_type e c.requires.opened c.requires.kind c.requires.kex c.requires.passes c.in_ok-kex.ensures.taken h) c.step.ensures.refuses
+returns-clause-refuses g c = if_err c.step.result _ _ (λ e h. refuses_taken (λ (x : Config). says_of g.A.Agreement.lawful g.A.Agreement.offered g.A.Agreement.client_makes g.A.Agreement.server_makes g.A.Agreement.agrees g.H.HostKeys.lawful g.H.HostKeys.obliging g.H.HostKeys.accepts g.H.HostKeys.trusts g.H.HostKeys.makes g.G.GroupLookup.lawful g.G.GroupLookup.group x c.args.parts.now.agreement c.args.parts.now.hosts c.args.parts.now.groups) _ _ c.args.self.now c.take_kex.new.self c.in_ok-kex.kex c.args.incoming c.args.message_type e c.requires.opened c.requires.kind c.requires.kex c.requires.passes c.in_ok-kex.ensures.kexinit c.in_ok-kex.ensures.taken h) c.step.ensures.refuses
 
 pub returns-clause-appends : goal.returns-clause-appends
 returns-clause-appends g c = appends_taken c.args.self.now c.take_kex.new.self c.step.new.self c.in_ok-kex.kex c.step.result c.in_ok-kex.ensures.taken c.step.ensures.appends
@@ -22,3 +23,9 @@ pub returns-in_err-kex-clause-refuses : goal.returns-in_err-kex-clause-refuses
 returns-in_err-kex-clause-refuses g c =
     let p = err_from_is_err_and c.from_residual.result c.from_residual.ensures.1 in
     from_err c.from_residual.result _ c.in_err-kex.field-0.0 p.0 p.1 p.2 (refuses_none _ _ _ c.args.self.now c.args.incoming.seqn c.args.message_type c.args.incoming.payload.now c.in_err-kex.field-0.0 c.requires.opened c.requires.begun c.requires.kind c.requires.kex c.requires.passes c.in_err-kex.ensures.refused)
+
+pub returns-clause-asks : goal.returns-clause-asks
+returns-clause-asks g c = by_answer c.step.result _ _ _ (λ h m a. message_asks _ c.args.self.now c.take_kex.new.self c.step.new.self c.in_ok-kex.kex c.args.incoming h _ _ c.requires.opened c.in_ok-kex.ensures.taken m a) c.step.ensures.moves c.step.ensures.asks
+
+pub returns-clause-asked : goal.returns-clause-asked
+returns-clause-asked g c = where_err c.step.result _ _ (λ a. message_refused_asks c.args.self.now c.take_kex.new.self c.in_ok-kex.kex _ _ c.requires.opened c.in_ok-kex.ensures.taken a) c.step.ensures.asked

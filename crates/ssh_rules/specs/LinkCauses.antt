@@ -1,0 +1,175 @@
+-- The causes of what a link refuses, by what the handed-in parts of both sides are.
+use Rattle.std.specs.Prelude.{◌≡◌, ◌⊎◌, ◌++◌, ℕ, Bool, true, false, List, Ok, Err, None}
+use Rattle.ssh_wire.specs.Lines.{id_line}
+use Rattle.ssh_wire.specs.Outside.{Rose}
+use Rattle.ssh_wire.specs.Sides.{other_side}
+use Rattle.ssh_wire.specs.declared.error.AlgorithmKind.{AlgorithmKind}
+use Rattle.ssh_wire.specs.declared.error.Error.{Error}
+use Rattle.ssh_wire.specs.declared.error.Error.TheVariants as errors
+use Rattle.ssh_wire.specs.declared.side.Side.{Side}
+use Rattle.ssh_wire.specs.declared.side.Side.TheVariants.{Client, Server}
+use Rattle.ssh_negotiate.specs.Laws.{own_list, peer_list}
+use Rattle.ssh_negotiate.specs.declared.kex.Name.{Name as KexName}
+use Rattle.ssh_negotiate.specs.declared.negotiation.Names.{Names}
+use Rattle.ssh_kex.specs.Parts.{Setup}
+use Rattle.ssh_kex.specs.Refusals.{Denies, IsOutside}
+use Rattle.ssh_kex.specs.Setting.{Says, offers_of}
+use Rattle.ssh_kex.specs.declared.config.Config.{Config}
+use Rattle.ssh_kex.specs.declared.exchange.ServerHost.{ServerHost}
+use Rattle.ssh_kex.specs.declared.group.DhGroup.{DhGroup}
+use Rattle.ssh_kex.specs.declared.group.GexParams.{GexParams}
+use Rattle.ssh_rules.specs.Headline.{chosen_by, kind_by}
+use Rattle.ssh_rules.specs.Machine.{Event}
+use Rattle.ssh_rules.specs.Refused.{AreValid, one_of}
+use Rattle.ssh_rules.specs.RefusedTurn.{RefusesInLink}
+use Rattle.ssh_rules.specs.Refusing.{RefusesPiece}
+use Rattle.ssh_rules.specs.RunLaws.{config_of, says_by}
+use Rattle.ssh_rules.specs.Snapshots.{HasRun, IsWholeId, StandsAs}
+use Rattle.ssh_rules.specs.Standing.{Standing}
+use Rattle.ssh_rules.specs.Turns.{Talkers, World, talkers}
+use Rattle.ssh_rules.specs.Valid.{HasSizes, config_fault}
+use Rattle.ssh_rules.specs.Wire.{HasFront}
+
+-- which counts of refusals of a side's parts rose
+pub record Rises : Type 1 where
+  pub agreement : Type 0
+  pub lookup : Type 0
+  pub signing : Type 0
+  pub verifying : Type 0
+  pub checking : Type 0
+
+-- between two states of them
+abbrev pub rises_of : {A H G : Type 0} (refusals : A → ℕ) (refused_sign refused_verify refused_check : H → ℕ)
+    (refused_lookup : G → ℕ) → A → A → H → H → G → G → Rises
+rises_of refusals refused_sign refused_verify refused_check refused_lookup a a' h h' g g' = record {
+  agreement = Rose (refusals a) (refusals a');
+  lookup = Rose (refused_lookup g) (refused_lookup g');
+  signing = Rose (refused_sign h) (refused_sign h');
+  verifying = Rose (refused_verify h) (refused_verify h');
+  checking = Rose (refused_check h) (refused_check h');
+}
+
+-- of a kind the lists of both configurations leave nothing to choose
+pub record NoneInCommon (side : Side) (config : Side → Config) (kind : AlgorithmKind) (ours theirs : List (List ℕ))
+    : Type 0 where
+  pub none : chosen_by (config Client) (config Server) ≡ Err kind
+  pub ours_are : ours ≡ own_list kind (offers_of side (config side))
+  pub theirs_are : theirs ≡ peer_list kind (offers_of (other_side side) (config (other_side side)))
+
+-- the chosen key exchange is none that the side's agreement offers
+pub record IsNotOffered (config : Side → Config) (offered : KexName → Bool) : Type 0 where
+  pub names : Names
+  pub chosen : chosen_by (config Client) (config Server) ≡ Ok names
+  pub none : offered names.kex ≡ false
+
+-- Why a side refuses something in a link whose parts are lawful: by both configurations, by what the side's agreement
+-- offers, by the group that the server's lookup finds for the client's sizes, and by the counts of the side's parts.
+abbrev pub IsCauseOf : Rises → Side → (Side → Config) → (KexName → Bool) → DhGroup → Error → Type 0
+IsCauseOf r side config offered group errors.KexInit =
+    (kind_by (chosen_by (config Client) (config Server)) ≡ true) × IsOutside (config Client).gex group
+IsCauseOf r side config offered group errors.UnknownAlgo = IsNotOffered config offered
+IsCauseOf r side config offered group (errors.NoCommonAlgo kind ours theirs) =
+    NoneInCommon side config kind ours.0.items theirs.0.items
+IsCauseOf r side config offered group errors.Kex = r.agreement ⊎ ((side ≡ Server) × r.lookup)
+IsCauseOf r side config offered group errors.UnknownKey = (side ≡ Client) × r.checking
+IsCauseOf r side config offered group errors.WrongServerSig = (side ≡ Client) × r.verifying
+IsCauseOf r side config offered group errors.Signature = (side ≡ Server) × r.signing
+IsCauseOf r side config offered group errors.Memory = Unit {0}
+IsCauseOf r side config offered group errors.Version = ⊥
+IsCauseOf r side config offered group errors.PacketAuth = ⊥
+IsCauseOf r side config offered group errors.Inconsistent = ⊥
+IsCauseOf r side config offered group errors.IndexOutOfBounds = ⊥
+IsCauseOf r side config offered group (errors.PacketSize n) = ⊥
+IsCauseOf r side config offered group errors.Disconnect = ⊥
+IsCauseOf r side config offered group errors.DecryptionError = ⊥
+IsCauseOf r side config offered group errors.IO = ⊥
+IsCauseOf r side config offered group (errors.StrictKeyExchangeViolation type place) = ⊥
+IsCauseOf r side config offered group (errors.SshEncoding fault) = ⊥
+IsCauseOf r side config offered group (errors.InvalidConfig fault) = ⊥
+
+-- ---- whatever the parts are
+
+-- What holds of a world that turns led to, whatever the parts are.
+pub record IsPlayed (t : Talkers) (w : World) (cl sl : List Event) : Type 0 where
+  pub client : HasRun (t.says Client) Client (t.config Client) (t.own_id Client) cl w.client.state w.client.sent
+      w.client.fed w.client.unfinished
+  pub server : HasRun (t.says Server) Server (t.config Server) (t.own_id Server) sl w.server.state w.server.sent
+      w.server.fed w.server.unfinished
+  pub to_server : HasFront w.client.sent w.server.fed
+  pub to_client : HasFront w.server.sent w.client.fed
+
+-- a piece of the other's wire is handed to a transport there, and is refused
+pub record RefusesPlayed (t : Talkers) (denies : Denies) (untrusted : ServerHost → Type 0) (w : World)
+    (cl sl : List Event) (side : Side) (took piece : List ℕ) (old : Standing) (error : Error)
+    (new : Standing) : Type 0 where
+  pub played : IsPlayed t w cl sl
+  pub whole_id : IsWholeId (t.config (other_side side))
+  pub stands : StandsAs t side took old (one_of side w.client w.server)
+  pub honest : HasFront (id_line (t.config (other_side side)).id ++ (one_of (other_side side) w.client w.server).sent)
+      (took ++ piece)
+  pub refuses : RefusesPiece (t.says side) denies untrusted old piece error new
+
+-- What is known of a refusal whatever the parts are: it is for no version line and for no violation of the strict order,
+-- and host keys refuse only where their own count rose.
+abbrev pub IsCauseOfAny : Rises → Side → Error → Type 0
+IsCauseOfAny r side errors.Version = ⊥
+IsCauseOfAny r side errors.IO = ⊥
+IsCauseOfAny r side (errors.InvalidConfig fault) = ⊥
+IsCauseOfAny r side (errors.StrictKeyExchangeViolation type place) = ⊥
+IsCauseOfAny r side errors.UnknownKey = (side ≡ Client) × r.checking
+IsCauseOfAny r side errors.WrongServerSig = (side ≡ Client) × r.verifying
+IsCauseOfAny r side errors.Signature = (side ≡ Server) × r.signing
+IsCauseOfAny r side errors.KexInit = Unit {0}
+IsCauseOfAny r side errors.UnknownAlgo = Unit {0}
+IsCauseOfAny r side (errors.NoCommonAlgo kind ours theirs) = Unit {0}
+IsCauseOfAny r side errors.Kex = Unit {0}
+IsCauseOfAny r side errors.PacketAuth = Unit {0}
+IsCauseOfAny r side errors.Inconsistent = Unit {0}
+IsCauseOfAny r side errors.IndexOutOfBounds = Unit {0}
+IsCauseOfAny r side (errors.PacketSize n) = Unit {0}
+IsCauseOfAny r side errors.Disconnect = Unit {0}
+IsCauseOfAny r side errors.DecryptionError = Unit {0}
+IsCauseOfAny r side (errors.SshEncoding fault) = Unit {0}
+IsCauseOfAny r side errors.Memory = Unit {0}
+
+-- so each refusal of a piece of an honest peer's wire
+abbrev pub AnyRefusals : {A H G : Type 0} → (Config → A → H → G → Says) → (A → A → H → H → G → G → Denies)
+    → (H → H → ServerHost → Type 0) → (A → A → H → H → G → G → Rises) → Type 0
+AnyRefusals {A} {H} {G} says denies untrusted rises =
+    (setup : Setup) (a b : A) (h i : H) (g j : G) (w : World) (cl sl : List Event) (side : Side) (took piece : List ℕ)
+    (old new : Standing) (v v' : A) (x x' : H) (y y' : G) (error : Error)
+    → ((s : Side) → config_fault s (config_of setup s) ≡ None) → ((s : Side) → HasSizes (config_of setup s))
+    → RefusesPlayed (talkers (says_by says setup a b h i g j) (config_of setup)) (denies v v' x x' y y')
+    (untrusted x x') w cl sl side took piece old error new
+    → IsCauseOfAny (rises v v' x x' y y') side error
+
+-- ---- lawful and obliging parts
+
+-- Where the parts of both sides are lawful, each refusal of a piece of an honest peer's wire has its cause.
+abbrev pub RefusalsHaveCauses : {A H G : Type 0} → (A → Setup → Type 0) → (H → Setup → Type 0) → (G → Setup → Type 0)
+    → (A → KexName → Bool) → (G → GexParams → DhGroup) → (Config → A → H → G → Says)
+    → (A → A → H → H → G → G → Denies) → (H → H → ServerHost → Type 0) → (A → A → H → H → G → G → Rises) → Type 0
+RefusalsHaveCauses {A} {H} {G} lawful lawful_hosts lawful_groups offered group says denies untrusted rises =
+    (setup : Setup) (a b : A) (h i : H) (g j : G) (w : World) (cl sl : List Event) (side : Side) (took piece : List ℕ)
+    (old new : Standing) (v v' : A) (x x' : H) (y y' : G) (error : Error)
+    → lawful a setup → lawful b setup → lawful_hosts h setup → lawful_hosts i setup → lawful_groups j setup
+    → ((s : Side) → config_fault s (config_of setup s) ≡ None) → ((s : Side) → HasSizes (config_of setup s))
+    → RefusesInLink (talkers (says_by says setup a b h i g j) (config_of setup)) (denies v v' x x' y y') (untrusted x x')
+    w cl sl side took piece old error new
+    → IsCauseOf (rises v v' x x' y y') side (config_of setup) (offered (one_of side a b)) (group j setup.client.gex) error
+
+-- Where they are obliging, the configurations valid, and the chosen key exchange offered by the side's agreement, memory
+-- was wanting. The parts that are asked are those at the start, after some calls.
+abbrev pub NoneRefusedInLink : {A H G : Type 0} → (A → Setup → Type 0) → (H → Setup → Type 0) → (G → Setup → Type 0)
+    → (A → KexName → Bool) → (A → A → Type 0) → (H → H → Type 0) → (G → G → Type 0) → (Config → A → H → G → Says)
+    → (A → A → H → H → G → G → Denies) → (H → H → ServerHost → Type 0) → Type 0
+NoneRefusedInLink {A} {H} {G} obliging obliging_hosts obliging_groups offered keeps keeps_hosts keeps_groups says denies
+    untrusted =
+    (setup : Setup) (a b : A) (h i : H) (g j : G) (names : Names) (w : World) (cl sl : List Event) (side : Side)
+    (took piece : List ℕ) (old new : Standing) (v v' : A) (x x' : H) (y y' : G) (error : Error)
+    → obliging a setup → obliging b setup → obliging_hosts h setup → obliging_hosts i setup → obliging_groups j setup
+    → AreValid setup names → offered (one_of side a b) names.kex ≡ true
+    → keeps (one_of side a b) v → keeps_hosts (one_of side h i) x → keeps_groups (one_of side g j) y
+    → RefusesInLink (talkers (says_by says setup a b h i g j) (config_of setup)) (denies v v' x x' y y') (untrusted x x')
+    w cl sl side took piece old error new
+    → error ≡ errors.Memory

@@ -1,0 +1,354 @@
+-- How often the parts are asked: a machine's step, a packet, and packets one after the other.
+use Rattle.std.proofs.Common.{◌≡◌, ℕ, ◌+◌, ◌-◌, ◌*◌, ◌≤◌, Bool, true, false, List, [], ◌∷◌, ◌++◌, length, refl, sym, ap, ◌∙◌, subst, arith, Option, Some, None, Result, Ok, Err, IfOk, OnOk, OnErr, length-append, ◌⊎◌, inl, inr}
+use Rattle.ssh_wire.specs.Lines.{id_text}
+use Rattle.ssh_wire.specs.Orders.{is_kex}
+use Rattle.ssh_wire.specs.declared.error.Error.{Error}
+use Rattle.ssh_wire.specs.declared.side.Side.{Side}
+use Rattle.ssh_wire.specs.declared.side.Side.TheVariants.{Client, Server}
+use Rattle.ssh_negotiate.specs.declared.kex.KexCause.{KexCause}
+use Rattle.ssh_packet.specs.Sealing.{Item}
+use Rattle.ssh_packet.specs.Stream.{message_type}
+use Rattle.ssh_packet.specs.Writing.{Writer}
+use Rattle.ssh_packet.specs.declared.reader.Incoming.{Incoming}
+use Rattle.ssh_kex.specs.Setting.{Says, Setting}
+use Rattle.ssh_kex.specs.Stages.{Stage, Created, AwaitsGroup, AwaitsReply, AwaitsRequest, AwaitsValue, AwaitsNewkeys, Machine, Finishes, Skips}
+use Rattle.ssh_kex.specs.Stepping.{asks_agreement, asks_hosts, asks_groups, next_of, DropsGuess, IsDone, Progresses, TakesOne}
+use Rattle.ssh_kex.specs.declared.config.Config.{Config}
+use Rattle.ssh_kex.specs.declared.exchange.Exchange.{Exchange}
+use Rattle.ssh_kex.specs.declared.exchange.FinishedExchange.{FinishedExchange}
+use Rattle.ssh_kex.specs.declared.exchange.NewKeys.{NewKeys}
+use Rattle.ssh_kex.specs.declared.exchange.ServerHost.{ServerHost}
+use Rattle.ssh_kex.specs.declared.progress.KexProgress.{KexProgress}
+use Rattle.ssh_kex.specs.declared.progress.KexProgress.TheVariants.{NeedsReply}
+use Rattle.ssh_kex.specs.declared.progress.KexProgress.TheVariants as progress
+use Rattle.ssh_kex.specs.declared.session_state.SessionKexState.{SessionKexState}
+use Rattle.ssh_kex.specs.declared.session_state.SessionKexState.TheVariants.{Idle, InProgress}
+use Rattle.ssh_rules.specs.Asking.{AsksForCause, AsksForMessage, AsksForType, AsksOnce, AsksUntil, AsksWithin, PartCalls, to_come_for}
+use Rattle.ssh_rules.specs.Calls.{agreement_left, hosts_left, lookups_left}
+use Rattle.ssh_rules.specs.Counting.{CallsFrom, agreement_to_come, begun, calls_of, hosts_to_come, lookups_of, lookups_to_come, open_count}
+use Rattle.ssh_rules.specs.Machine.{Event, Inside, Outside, SideState, Silent, Spot, Steps, Where}
+use Rattle.ssh_rules.specs.Standing.{OfMemory, OfPacket, RefusalCause}
+use Rattle.ssh_rules.proofs.Asking.{StageBounds, asks_join, asks_still, asks_steps, cause_none, dropped_asks, stage_bounds}
+use Rattle.ssh_rules.proofs.Calls.{asks_left, asks_lookups}
+use Rattle.ssh_rules.proofs.CallsRun.{begun_first, dropped_calls}
+use Rattle.ssh_rules.proofs.Left.{begun_steps}
+use Rattle.ssh_transport.specs.Asking.{AsksBetween, AsksTo, MoveAsks, StepAsks, asks_trust, nowhere, state_of}
+use Rattle.ssh_transport.specs.Handling.{Installs, IsFor, IsOpen, Moves}
+use Rattle.ssh_transport.specs.Kexinits.{setting_between}
+use Rattle.ssh_transport.specs.Saying.{GoesOn, GoesPart, IsFixed, nothing_said}
+use Rattle.ssh_transport.specs.States.{between, reading_of, stands_of, state_at}
+use Rattle.ssh_transport.specs.Taking.{Hears, TakesUp}
+use Rattle.ssh_transport.specs.declared.connection.Connection.{Connection}
+use Rattle.ssh_transport.specs.declared.session.Handled.{Handled}
+use Rattle.ssh_transport.specs.declared.session.Handled.TheVariants.{Delivers, Done, Rekeys}
+use Rattle.ssh_transport.specs.declared.session.Session.{Session}
+use Rattle.ssh_transport.proofs.Refusing.{set_for}
+
+-- ---- a machine's step
+
+-- how often each part was asked in a step, by where the machine stood and where it comes to stand
+pub record StepCalls (side : Side) (stage : Stage) (next : Option Stage) (n n' : PartCalls) : Type 0 where
+  pub agreement_later : n.agreement ≤ n'.agreement
+  pub hosts_later : n.hosts ≤ n'.hosts
+  pub lookups_later : n.lookups ≤ n'.lookups
+  pub agreement : n'.agreement ≤ n.agreement + asks_agreement side stage next
+  pub hosts : n'.hosts ≤ n.hosts + asks_hosts stage
+  pub lookups : n'.lookups ≤ n.lookups + asks_groups stage
+
+taken_asks : (says : Says) (m : Machine) (i : Incoming) (old new : Writer) (kex : Machine) (reset : Bool) (n n' : PartCalls) → DropsGuess m old kex reset new ⊎ TakesOne says m i old kex reset new → StepCalls m.setting.side m.stage (Some kex.stage) n n' → MoveAsks m.setting.side m.stage (Inside kex.stage) n n'
+taken_asks says m i old new kex reset n n' (inl d) c =
+    let z = dropped_asks m.setting.side m.stage (Some kex.stage) d.drops in
+    let k = dropped_calls m.setting.side m.setting.side m.stage in
+    let e : kex.stage ≡ Rattle.ssh_kex.specs.Stages.guess_dropped m.setting.side m.stage = ap (λ (x : Machine). x.stage) d.kex_is in
+    let a = ap (λ (x : Stage). agreement_left m.setting.side x) e in
+    let h = ap (λ (x : Stage). hosts_left m.setting.side x) e in
+    let l = ap (λ (x : Stage). lookups_left m.setting.side x) e in
+    record {
+      agreement = (c.agreement_later, (let y = c.agreement in omega (arith, y, z.0, k.0, a)));
+      hosts = (c.hosts_later, (let y = c.hosts in omega (arith, y, z.1, k.1, h)));
+      lookups = (c.lookups_later, (let y = c.lookups in omega (arith, y, z.2, k.2, l)));
+    }
+taken_asks says m i old new kex reset n n' (inr t) c =
+    let r = asks_left says m.setting m.stage i.seqn i.payload.now t.written kex.stage t.takes in
+    let q = asks_lookups says m.setting m.stage i.seqn i.payload.now t.written kex.stage t.takes in
+    record {
+      agreement = (c.agreement_later, (let y = c.agreement in omega (arith, y, r.0)));
+      hosts = (c.hosts_later, (let y = c.hosts in omega (arith, y, r.1)));
+      lookups = (c.lookups_later, (let y = c.lookups in omega (arith, y, q)));
+    }
+
+-- a machine that awaits more
+pub moves_on : (says : Says) (m : Machine) (i : Incoming) (old new : Writer) (answer : Result (KexProgress Machine) Error) (p : KexProgress Machine) (kex : Machine) (reset : Bool) (n n' : PartCalls) → answer ≡ Ok p → p ≡ NeedsReply kex reset → Progresses says m (Some i) old p new → StepCalls m.setting.side m.stage (next_of answer) n n' → MoveAsks m.setting.side m.stage (Inside kex.stage) n n'
+moves_on says m i old new answer p kex reset n n' a e h c = taken_asks says m i old new kex reset n n' (subst (λ (x : KexProgress Machine). Progresses says m (Some i) old x new) e h)
+    (subst (λ (x : Option Stage). StepCalls m.setting.side m.stage x n n') (ap next_of a ∙ ap (λ (x : KexProgress Machine). next_of (Ok x)) e) c)
+
+-- a machine that refuses
+pub refused_asks : (side : Side) (stage : Stage) (answer : Result (KexProgress Machine) Error) (error : Error) (n n' : PartCalls) → answer ≡ Err error → StepCalls side stage (next_of answer) n n' → AsksForMessage side (Inside stage) n n'
+refused_asks side stage answer error n n' e h =
+    let c : StepCalls side stage None n n' = subst (λ (x : Option Stage). StepCalls side stage x n n') (ap next_of e) h in
+    let b = stage_bounds side stage in
+    record {
+      agreement = (c.agreement_later, (let y = c.agreement in let z = b.agreement_once in omega (arith, y, z)), (let y = c.agreement in let z = b.agreement in omega (arith, y, z)));
+      hosts = (c.hosts_later, (let y = c.hosts in let z = b.hosts_once in omega (arith, y, z)), (let y = c.hosts in let z = b.hosts in omega (arith, y, z)));
+      lookups = (c.lookups_later, (let y = c.lookups in let z = b.lookups_once in omega (arith, y, z)), (let y = c.lookups in let z = b.lookups in omega (arith, y, z)));
+    }
+
+-- ---- the end of an exchange
+
+-- the host keys are asked for the host alone
+pub record EndBounds (side : Side) (stage : Stage) (host : Option ServerHost) : Type 0 where
+  pub hosts : asks_hosts stage + asks_trust host ≤ hosts_left side stage
+  pub once : asks_hosts stage + asks_trust host ≤ 1
+
+trust_bounds : (side : Side) (exchange : Exchange) (made : FinishedExchange) (host : Option ServerHost) → EndBounds side (AwaitsNewkeys exchange made host) host
+trust_bounds side exchange made None = record { hosts = omega arith; once = omega arith }
+trust_bounds side exchange made (Some host) = record { hosts = omega arith; once = omega arith }
+
+skip_bounds : (side : Side) (own : List ℕ) (host : Option ServerHost) → host ≡ None → EndBounds side (Created own) host
+skip_bounds side own host e = subst (λ (x : Option ServerHost). EndBounds side (Created own) x) (sym e) (record { hosts = omega arith; once = omega arith })
+
+end_bounds : (side : Side) (s : Setting) (stage : Stage) (seqn : ℕ) (payload : List ℕ) (written : List (List ℕ)) (x : Exchange) (made : FinishedExchange) (host : Option ServerHost) → (Finishes stage payload x made host × (written ≡ [])) ⊎ Skips s stage seqn payload written x made host → EndBounds side stage host
+end_bounds side s (Created own) seqn payload written x made host (inl h) = absurd h.0
+end_bounds side s (Created own) seqn payload written x made host (inr h) = skip_bounds side own host h.host_is
+end_bounds side s (AwaitsGroup o) seqn payload written x made host (inl h) = absurd h.0
+end_bounds side s (AwaitsGroup o) seqn payload written x made host (inr h) = absurd h
+end_bounds side s (AwaitsReply o gex local public) seqn payload written x made host (inl h) = absurd h.0
+end_bounds side s (AwaitsReply o gex local public) seqn payload written x made host (inr h) = absurd h
+end_bounds side s (AwaitsRequest o) seqn payload written x made host (inl h) = absurd h.0
+end_bounds side s (AwaitsRequest o) seqn payload written x made host (inr h) = absurd h
+end_bounds side s (AwaitsValue o gex) seqn payload written x made host (inl h) = absurd h.0
+end_bounds side s (AwaitsValue o gex) seqn payload written x made host (inr h) = absurd h
+end_bounds side s (AwaitsNewkeys y m k) seqn payload written x made host (inl h) = subst (λ (z : Option ServerHost). EndBounds side (AwaitsNewkeys y m k) z) (sym (h.0).host_is) (trust_bounds side y m k)
+end_bounds side s (AwaitsNewkeys y m k) seqn payload written x made host (inr h) = absurd h
+
+-- the calls of the step, and then of the host keys
+pub record EndCalls (side : Side) (stage : Stage) (host : Option ServerHost) (n n' : PartCalls) : Type 0 where
+  pub mid : PartCalls
+  pub step : StepCalls side stage None n mid
+  pub agreement : n'.agreement ≡ mid.agreement
+  pub hosts_later : mid.hosts ≤ n'.hosts
+  pub hosts : n'.hosts ≤ mid.hosts + asks_trust host
+  pub lookups : n'.lookups ≡ mid.lookups
+
+pub step_ended : (side : Side) (stage : Stage) (answer : Result (KexProgress Machine) Error) (p : KexProgress Machine) (host : Option ServerHost) (k : NewKeys) (n n' : PartCalls) → answer ≡ Ok p → p ≡ progress.Done host k → StepCalls side stage (next_of answer) n n' → StepCalls side stage None n n'
+step_ended side stage answer p host k n n' a e h = subst (λ (x : Option Stage). StepCalls side stage x n n') (ap next_of a ∙ ap (λ (x : KexProgress Machine). next_of (Ok x)) e) h
+
+-- what is to come where no exchange is open
+outside_none : (side : Side) (records : List FinishedExchange) → (agreement_to_come side (between records) ≡ 0) × (hosts_to_come side (between records) ≡ 0) × (lookups_to_come side (between records) ≡ 0)
+outside_none side [] = (refl, refl, refl)
+outside_none side (x ∷ records) = (refl, refl, refl)
+
+pub ends_on : (m : Machine) (i : Incoming) (old new : Writer) (host : Option ServerHost) (k : NewKeys) (records : List FinishedExchange) (n n' : PartCalls) → IsDone m i old host k new → EndCalls m.setting.side m.stage host n n' → MoveAsks m.setting.side m.stage (between records) n n'
+ends_on m i old new host k records n n' d c =
+    let b = stage_bounds m.setting.side m.stage in
+    let e = end_bounds m.setting.side m.setting m.stage i.seqn i.payload.now d.written d.exchange d.made host d.ends in
+    let o = outside_none m.setting.side records in
+    let s = c.step in
+    record {
+      agreement = ((let x = s.agreement_later in let y = c.agreement in omega (arith, x, y)), (let x = s.agreement in let y = c.agreement in let z = b.agreement in omega (arith, x, y, z, o.0)));
+      hosts = ((let x = s.hosts_later in let y = c.hosts_later in omega (arith, x, y)), (let x = s.hosts in let y = c.hosts in let z = e.hosts in omega (arith, x, y, z, o.1)));
+      lookups = ((let x = s.lookups_later in let y = c.lookups in omega (arith, x, y)), (let x = s.lookups in let y = c.lookups in let z = b.lookups in omega (arith, x, y, z, o.2)));
+    }
+
+pub ends_refused : (m : Machine) (i : Incoming) (old new : Writer) (host : Option ServerHost) (k : NewKeys) (n n' : PartCalls) → IsDone m i old host k new → EndCalls m.setting.side m.stage host n n' → AsksForMessage m.setting.side (Inside m.stage) n n'
+ends_refused m i old new host k n n' d c =
+    let b = stage_bounds m.setting.side m.stage in
+    let e = end_bounds m.setting.side m.setting m.stage i.seqn i.payload.now d.written d.exchange d.made host d.ends in
+    let s = c.step in
+    record {
+      agreement = ((let x = s.agreement_later in let y = c.agreement in omega (arith, x, y)), (let x = s.agreement in let y = c.agreement in let z = b.agreement_once in omega (arith, x, y, z)), (let x = s.agreement in let y = c.agreement in let z = b.agreement in omega (arith, x, y, z)));
+      hosts = ((let x = s.hosts_later in let y = c.hosts_later in omega (arith, x, y)), (let x = s.hosts in let y = c.hosts in let z = e.once in omega (arith, x, y, z)), (let x = s.hosts in let y = c.hosts in let z = e.hosts in omega (arith, x, y, z)));
+      lookups = ((let x = s.lookups_later in let y = c.lookups in omega (arith, x, y)), (let x = s.lookups in let y = c.lookups in let z = b.lookups_once in omega (arith, x, y, z)), (let x = s.lookups in let y = c.lookups in let z = b.lookups in omega (arith, x, y, z)));
+    }
+
+-- the session behind it
+pub ended_asks : (s s' : Session) (k : NewKeys) (answer : Handled) (m : Machine) (n n' : PartCalls) → Installs s k answer s' → ((records : List FinishedExchange) → MoveAsks m.setting.side m.stage (between records) n n') → MoveAsks m.setting.side m.stage (stands_of s'.finished.items s'.kex) n n'
+ended_asks s s' k Delivers m n n' h f = absurd h
+ended_asks s s' k Done m n n' h f = absurd h
+ended_asks s s' k (Rekeys opening again) m n n' h f = subst (λ (x : Where). MoveAsks m.setting.side m.stage x n n') (sym (ap (λ (x : Session). stands_of s'.finished.items x.kex) h.3)) (f s'.finished.items)
+
+-- ---- a message
+
+one_more : (a b : List FinishedExchange) (x : FinishedExchange) → a ≡ b ++ x ∷ [] → length a ≡ length b + 1
+one_more a b x e = ap length e ∙ length-append b (x ∷ [])
+
+-- how many exchanges were begun behind it
+moved_begun : (says : Says) (s1 s' : Session) (m : Machine) (i : Incoming) (answer : Handled) → Moves says s1 m i answer s' → begun (state_of s') ≡ length s1.finished.items + 1
+moved_begun says s1 s' m i Delivers h = absurd h
+moved_begun says s1 s' m i Done h = ap (λ (x : Session). begun (state_of x)) h.becomes
+moved_begun says s1 s' m i (Rekeys opening again) h =
+    let more = h.installs.2 in
+    let idle : stands_of s'.finished.items s'.kex ≡ between s'.finished.items = ap (λ (x : Session). stands_of s'.finished.items x.kex) h.installs.3 in
+    let none : open_count (stands_of s'.finished.items s'.kex) ≡ 0 = ap open_count idle ∙ closed s'.finished.items in
+    let l = one_more s'.finished.items s1.finished.items _ more in
+    omega (arith, none, l)
+  where
+    closed : (records : List FinishedExchange) → open_count (between records) ≡ 0
+    closed [] = refl
+    closed (x ∷ records) = refl
+
+-- the open exchange's message, or one for which an exchange is begun
+record IsFrom (to_come : Where → ℕ) (each : ℕ) (stage : Stage) (stands : Where) (before after : ℕ) : Type 0 where
+  pub later : before ≤ after
+  pub paid : to_come (Inside stage) ≤ to_come stands + each * (after - before)
+  pub once : to_come (Inside stage) ≤ to_come_for to_come each stands
+
+call_from : (to_come : Where → ℕ) (each : ℕ) (st st' : SideState) (stage : Stage) (n n' : ℕ) → IsFrom to_come each stage st.stands (begun st) (begun st') → StepAsks to_come stage st'.stands n n' → CallsFrom to_come each st st' n n'
+call_from to_come each st st' stage n n' f h = (h.0, (let y = h.1 in let z = f.paid in omega (arith, y, z)))
+
+once_from : (to_come : Where → ℕ) (each : ℕ) (stage : Stage) (stands : Where) (before after n n' : ℕ) → IsFrom to_come each stage stands before after → AsksOnce to_come each (Inside stage) n n' → AsksOnce to_come each stands n n'
+once_from to_come each stage stands before after n n' f h = (h.0, h.1, (let y = h.2 in let z = f.once in omega (arith, y, z)))
+
+from_inside : (to_come : Where → ℕ) (each : ℕ) (stage : Stage) (stands : Where) (before after : ℕ) → stands ≡ Inside stage → after ≡ before → IsFrom to_come each stage stands before after
+from_inside to_come each stage stands before after e f = record { later = omega (arith, f); paid = (let y : to_come stands ≡ to_come (Inside stage) = ap to_come e in omega (arith, y)); once = (let y : to_come_for to_come each stands ≡ to_come (Inside stage) = ap (to_come_for to_come each) e in omega (arith, y)) }
+
+from_outside : (to_come : Where → ℕ) (each : ℕ) (stage : Stage) (stands : Where) (before after : ℕ) → stands ≡ Outside → after ≡ before + 1 → to_come (Inside stage) ≡ each → IsFrom to_come each stage stands before after
+from_outside to_come each stage stands before after e f g = record {
+  later = omega (arith, f);
+  paid = (let d : after - before ≡ 1 = omega (arith, f) in let t : each * (after - before) ≡ each * 1 = ap (λ (x : ℕ). each * x) d in omega (arith, t, g));
+  once = (let y : to_come_for to_come each stands ≡ each = ap (to_come_for to_come each) e in omega (arith, y, g));
+}
+
+-- of each part
+record PartsFrom (side : Side) (stage : Stage) (stands : Where) (before after : ℕ) : Type 0 where
+  pub agreement : IsFrom (agreement_to_come side) (calls_of side) stage stands before after
+  pub hosts : IsFrom (hosts_to_come side) (calls_of side) stage stands before after
+  pub lookups : IsFrom (lookups_to_come side) (lookups_of side) stage stands before after
+
+parts_inside : (side : Side) (stage : Stage) (stands : Where) (before after : ℕ) → stands ≡ Inside stage → after ≡ before → PartsFrom side stage stands before after
+parts_inside side stage stands before after e f = record {
+  agreement = from_inside (agreement_to_come side) (calls_of side) stage stands before after e f;
+  hosts = from_inside (hosts_to_come side) (calls_of side) stage stands before after e f;
+  lookups = from_inside (lookups_to_come side) (lookups_of side) stage stands before after e f;
+}
+
+parts_outside : (side : Side) (stage : Stage) (own : List ℕ) (stands : Where) (before after : ℕ) → stage ≡ Created own → stands ≡ Outside → after ≡ before + 1 → PartsFrom side stage stands before after
+parts_outside side stage own stands before after c e f =
+    let b = begun_first side own in
+    record {
+      agreement = from_outside (agreement_to_come side) (calls_of side) stage stands before after e f (ap (λ (x : Stage). agreement_to_come side (Inside x)) c ∙ b.0);
+      hosts = from_outside (hosts_to_come side) (calls_of side) stage stands before after e f (ap (λ (x : Stage). hosts_to_come side (Inside x)) c ∙ b.1);
+      lookups = from_outside (lookups_to_come side) (lookups_of side) stage stands before after e f (ap (λ (x : Stage). lookups_to_come side (Inside x)) c ∙ b.2);
+    }
+
+parts_for : (s s1 : Session) (m : Machine) (after : ℕ) → after ≡ length s1.finished.items + 1 → IsFor s m s1 → PartsFrom s.side m.stage (stands_of s.finished.items s.kex) (begun (state_of s)) after
+parts_for s s1 m after e (inl f) =
+    let same : length s1.finished.items ≡ length s.finished.items = ap (λ (x : Session). length x.finished.items) (f.0).becomes in
+    let none : open_count (stands_of s.finished.items s.kex) ≡ 0 = ap open_count f.1 in
+    parts_outside s.side m.stage (f.0).item.payload (stands_of s.finished.items s.kex) (begun (state_of s)) after (f.0).stage_is f.1 (omega (arith, e, same, none))
+parts_for s s1 m after e (inr f) =
+    let same : length s1.finished.items ≡ length s.finished.items = ap (λ (x : Session). length x.finished.items) f.1 in
+    let stands : stands_of s.finished.items s.kex ≡ Inside m.stage = ap (λ (k : SessionKexState Machine). stands_of s.finished.items k) f.0 in
+    let one : open_count (stands_of s.finished.items s.kex) ≡ 1 = ap open_count stands in
+    parts_inside s.side m.stage (stands_of s.finished.items s.kex) (begun (state_of s)) after stands (omega (arith, e, same, one))
+
+between_side : (side : Side) (config : Config) (peer : List ℕ) (cause : KexCause) → (setting_between side config peer cause).side ≡ side
+between_side Client config peer cause = refl
+between_side Server config peer cause = refl
+
+-- a message that is taken
+pub message_asks : (says : Says) (s s1 s' : Session) (m : Machine) (i : Incoming) (answer : Handled) (n n' : PartCalls) → IsOpen s → IsFor s m s1 → Moves says s1 m i answer s' → MoveAsks m.setting.side m.stage (stands_of s'.finished.items s'.kex) n n' → AsksBetween s s' n n'
+message_asks says s s1 s' m i answer n n' o f h a =
+    let p = parts_for s s1 m (begun (state_of s')) (moved_begun says s1 s' m i answer h) f in
+    let b : MoveAsks s.side m.stage (stands_of s'.finished.items s'.kex) n n' = subst (λ (x : Side). MoveAsks x m.stage (stands_of s'.finished.items s'.kex) n n') (ap (λ (x : Setting). x.side) (set_for s s1 m o f) ∙ between_side s.side s.config.now _ _) a in
+    record {
+      later = p.agreement.later;
+      within = record {
+        agreement = call_from (agreement_to_come s.side) (calls_of s.side) (state_of s) (state_of s') m.stage n.agreement n'.agreement p.agreement b.agreement;
+        hosts = call_from (hosts_to_come s.side) (calls_of s.side) (state_of s) (state_of s') m.stage n.hosts n'.hosts p.hosts b.hosts;
+        lookups = call_from (lookups_to_come s.side) (lookups_of s.side) (state_of s) (state_of s') m.stage n.lookups n'.lookups p.lookups b.lookups;
+      };
+    }
+
+-- and one that is refused
+pub message_refused_asks : (s s1 : Session) (m : Machine) (n n' : PartCalls) → IsOpen s → IsFor s m s1 → AsksForMessage m.setting.side (Inside m.stage) n n' → AsksForMessage s.side (stands_of s.finished.items s.kex) n n'
+message_refused_asks s s1 m n n' o f a =
+    let p = parts_for s s1 m (length s1.finished.items + 1) refl f in
+    let b : AsksForMessage s.side (Inside m.stage) n n' = subst (λ (x : Side). AsksForMessage x (Inside m.stage) n n') (ap (λ (x : Setting). x.side) (set_for s s1 m o f) ∙ between_side s.side s.config.now _ _) a in
+    record {
+      agreement = once_from (agreement_to_come s.side) (calls_of s.side) m.stage (stands_of s.finished.items s.kex) _ _ n.agreement n'.agreement p.agreement b.agreement;
+      hosts = once_from (hosts_to_come s.side) (calls_of s.side) m.stage (stands_of s.finished.items s.kex) _ _ n.hosts n'.hosts p.hosts b.hosts;
+      lookups = once_from (lookups_to_come s.side) (lookups_of s.side) m.stage (stands_of s.finished.items s.kex) _ _ n.lookups n'.lookups p.lookups b.lookups;
+    }
+
+pub typed_asks : (kex : Bool) (side : Side) (w : Where) (n n' : PartCalls) → kex ≡ true → AsksForMessage side w n n' → AsksForType kex side w n n'
+typed_asks true side w n n' e h = h
+typed_asks false side w n n' e h = cc
+
+-- ---- packets
+
+pub between_same : (s s' : Session) (n : PartCalls) → s' ≡ s → AsksBetween s s' n n
+between_same s s' n e = subst (λ (x : Session). AsksBetween s x n n) (sym e) (record { later = omega arith; within = asks_still s.side (state_of s) (state_of s) n refl })
+
+pub between_join : (a b c : Session) (n m k : PartCalls) → b.side ≡ a.side → AsksBetween a b n m → AsksBetween b c m k → AsksBetween a c n k
+between_join a b c n m k e p q = record {
+  later = (let x = p.later in let y = q.later in omega (arith, x, y));
+  within = asks_join a.side (state_of a) (state_of b) (state_of c) n m k p.later q.later p.within (subst (λ (x : Side). AsksWithin x (state_of b) (state_of c) m k) e q.within);
+}
+
+-- what was asked where a side stands still, and then for what is refused there
+pub to_here : (s : Session) (at : Spot) (read : ℕ) (cause : RefusalCause) (n n' : PartCalls) → AsksForCause cause s.side (stands_of s.finished.items s.kex) n n' → AsksTo s n n' cause (state_at s at read)
+to_here s at read cause n n' h = record { mid = n; before = asks_still s.side (state_of s) (state_at s at read) n refl; last = h }
+
+-- for a packet
+pub to_packet : (s : Session) (at : Spot) (read : ℕ) (i : Item) (payload : List ℕ) (n n' : PartCalls) → payload ≡ i.payload → AsksForType (is_kex (message_type payload)) s.side (stands_of s.finished.items s.kex) n n' → AsksTo s n n' (OfPacket i) (state_at s at read)
+to_packet s at read i payload n n' p h = to_here s at read (OfPacket i) n n' (subst (λ (x : List ℕ). AsksForType (is_kex (message_type x)) s.side (stands_of s.finished.items s.kex) n n') p h)
+
+-- for a payload that was taken
+pub to_kept : (s s' : Session) (at : Spot) (read : ℕ) (n n' : PartCalls) → s' ≡ s → AsksBetween s s' n n' → AsksTo s n n' OfMemory (state_at s at read)
+to_kept s s' at read n n' e h =
+    let k : AsksBetween s s n n' = subst (λ (x : Session). AsksBetween s x n n') e h in
+    record { mid = n'; before = record { agreement = (k.within).agreement; hosts = (k.within).hosts; lookups = (k.within).lookups }; last = refl }
+
+-- for what was written behind a packet
+pub between_written : (s s' : Session) (read : ℕ) (events : List Event) (n : PartCalls) → Steps nothing_said s.side s.config.now (id_text s.config.now.id) (state_at s nowhere read) events (state_at s' nowhere read) → AsksBetween s s' n n
+between_written s s' read events n h =
+    let k = asks_steps nothing_said s.side s.config.now (id_text s.config.now.id) events (state_at s nowhere read) (state_at s' nowhere read) n h in
+    record {
+      later = begun_steps nothing_said s.side s.config.now (id_text s.config.now.id) events (state_at s nowhere read) (state_at s' nowhere read) h;
+      within = record { agreement = k.agreement; hosts = k.hosts; lookups = k.lookups };
+    }
+
+pub to_written : (s s' : Session) (at : Spot) (read : ℕ) (n n' : PartCalls) → AsksBetween s s' n n' → AsksTo s n n' OfMemory (state_at s' at read)
+to_written s s' at read n n' k = record { mid = n'; before = record { agreement = (k.within).agreement; hosts = (k.within).hosts; lookups = (k.within).lookups }; last = refl }
+
+-- behind what was asked before
+pub to_later : (s s1 : Session) (n m k : PartCalls) → s1.side ≡ s.side → AsksBetween s s1 n m → (cause : RefusalCause) (at : SideState) → begun (state_of s1) ≤ begun at → AsksTo s1 m k cause at → AsksTo s n k cause at
+to_later s s1 n m k e p cause at b h =
+    let g : AsksUntil s.side cause (state_of s1) at m k = subst (λ (x : Side). AsksUntil x cause (state_of s1) at m k) e h in
+    record { mid = g.mid; before = asks_join s.side (state_of s) (state_of s1) at n m g.mid p.later b p.within g.before; last = g.last }
+
+-- while the line was heard
+pub to_still : (s : Session) (at : Spot) (read : ℕ) (n : PartCalls) (cause : RefusalCause) (events : List Event) (st : SideState) → Steps nothing_said s.side s.config.now (id_text s.config.now.id) (state_at s at read) events st → AsksTo s n n cause st
+to_still s at read n cause events st h =
+    let k = asks_steps nothing_said s.side s.config.now (id_text s.config.now.id) events (state_at s at read) st n h in
+    record { mid = n; before = record { agreement = k.agreement; hosts = k.hosts; lookups = k.lookups }; last = cause_none cause s.side st.stands n }
+
+pub between_heard : (c mid : Connection) (piece : List ℕ) (n : PartCalls) → Hears c piece mid → AsksBetween c.session mid.session n n
+between_heard c mid piece n h =
+    let k = asks_steps nothing_said c.session.side c.session.config.now (id_text c.session.config.now.id) h.events (state_at c.session (reading_of c) c.reader.count) (state_at mid.session (reading_of mid) mid.reader.count) n h.steps in
+    record {
+      later = begun_steps nothing_said c.session.side c.session.config.now (id_text c.session.config.now.id) h.events (state_at c.session (reading_of c) c.reader.count) (state_at mid.session (reading_of mid) mid.reader.count) h.steps;
+      within = record { agreement = k.agreement; hosts = k.hosts; lookups = k.lookups };
+    }
+
+-- behind a packet what could be written was written, in part or all of it
+pub to_part : (c c1 c2 : Connection) (answer : Handled) (s' : Session) (read : ℕ) (n n' : PartCalls) → IsFixed c.session c1.session → AsksBetween c.session c1.session n n' → TakesUp answer c1 c2 → (g : GoesPart c2.session read s') → AsksTo c.session n n' OfMemory (state_at g.mid (reading_of c2) c2.reader.count)
+to_part c c1 c2 answer s' read n n' fixed a u g = to_written c.session g.mid (reading_of c2) c2.reader.count n n' (between_join c.session c1.session g.mid n n' n' fixed.0 a (subst (λ (x : Session). AsksBetween x g.mid n' n') (ap (λ (x : Connection). x.session) u.rest) (between_written c2.session g.mid read g.events n' (g.writes.steps nowhere))))
+
+pub asks_on : (c c1 c2 : Connection) (answer : Handled) (s' : Session) (read : ℕ) (n n' : PartCalls) → IsFixed c.session c1.session → AsksBetween c.session c1.session n n' → TakesUp answer c1 c2 → GoesOn c2.session read s' → AsksBetween c.session s' n n'
+asks_on c c1 c2 answer s' read n n' fixed a u g = between_join c.session c1.session s' n n' n' fixed.0 a (subst (λ (x : Session). AsksBetween x s' n' n') (ap (λ (x : Connection). x.session) u.rest) (between_written c2.session s' read g.events n' (g.writes.steps nowhere)))
+
+-- ---- as calls answer
+
+pub by_answer : {T : Type 0} (answer : Result T Error) (P : T → Type 0) (A Q : Type 0) → ((x : T) → P x → A → Q) → IfOk answer P → OnOk answer A → OnOk answer Q
+by_answer (Ok x) P A Q f h a = f x h a
+by_answer (Err e) P A Q f h a = tt
+
+pub where_ok : {T : Type 0} (answer : Result T Error) (A Q : Type 0) → (A → Q) → OnOk answer A → OnOk answer Q
+where_ok (Ok x) A Q f a = f a
+where_ok (Err e) A Q f a = tt
+
+pub where_err : {T : Type 0} (answer : Result T Error) (A Q : Type 0) → (A → Q) → OnErr answer A → OnErr answer Q
+where_err (Ok x) A Q f a = tt
+where_err (Err e) A Q f a = f a
