@@ -24,6 +24,9 @@ pub mod GoodSubmits
 pub mod RefusedLinks
 pub mod WholeIds
 pub mod LinkSoFar
+pub mod Asking
+pub mod Brought
+pub mod AskedRuns
 pub mod PlanRuns
 pub mod FaultlessPlans
 pub mod RefusedPlans

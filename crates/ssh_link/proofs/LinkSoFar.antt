@@ -1,5 +1,5 @@
 -- What the calls of a link leave: the same configurations, and parts that say of themselves as they were what they say now.
-use Rattle.std.proofs.Common.{◌≡◌, ℕ, zero, suc, ◌+◌, ◌-◌, ◌*◌, ◌<◌, ◌≤◌, ◌^◌, Bool, true, false, Option, List, [], ◌∷◌, ◌++◌, length, map, take, drop, append_assoc, slice_get, Some, None, Result, Ok, Err, IfErr, IfOk, OnOk, ◌⊎◌, inl, inr, refl, sym, ap, ◌∙◌, subst, arith}
+use Rattle.std.proofs.Common.{◌≡◌, ℕ, zero, suc, ◌+◌, ◌*◌, ◌<◌, ◌≤◌, ◌^◌, Bool, true, false, Option, List, [], ◌∷◌, ◌++◌, length, map, take, drop, append_assoc, slice_get, Some, None, Result, Ok, Err, IfOk, OnOk, inl, inr, refl, sym, ap, ◌∙◌, subst, arith}
 use Rattle.std.proofs.lemmas.List.{take-append-drop}
 use Rattle.ssh_wire.specs.Lines.{id_text}
 use Rattle.ssh_wire.specs.declared.side.Side.{Side}
@@ -12,7 +12,7 @@ use Rattle.ssh_kex.specs.declared.config.Config.{Config}
 use Rattle.ssh_kex.specs.declared.exchange.ServerHost.{ServerHost}
 use Rattle.ssh_kex.specs.declared.group.DhGroup.{DhGroup}
 use Rattle.ssh_kex.specs.declared.group.GexParams.{GexParams}
-use Rattle.ssh_rules.specs.Headline.{IsLastMark, bound_of}
+use Rattle.ssh_rules.specs.Headline.{bound_of}
 use Rattle.ssh_rules.specs.Machine.{Event}
 use Rattle.ssh_rules.specs.Standing.{Acts, RekeyedFrom, Standing, is_outside}
 use Rattle.ssh_rules.specs.declared.link.LinkReport.{LinkReport}
@@ -20,7 +20,7 @@ use Rattle.ssh_rules.specs.declared.link.Mark.{Mark}
 use Rattle.ssh_rules.specs.declared.link.Step.{Step}
 use Rattle.ssh_rules.specs.declared.link.Step.TheVariants.{Submit, Deliver, Rekey, Settle}
 use Rattle.ssh_transport.proofs.Lemmas.{Denying, Weaker, kept_denying, kept_untrusting, kept_weaker, piece_still, steps_weaker}
-use Rattle.ssh_link.specs.Carrying.{AsksKeys, CarriedEnd, CarriedLink, CarriesTo, HasWaiting, IsCarried, IsNewLink, Repeats, Rests, RunsOn, SettlesAll, StepsLink, StepsLinks, SubmitsOne, TakesTurns, both_marks, last_link, reported_link, side_mark}
+use Rattle.ssh_link.specs.Carrying.{AsksKeys, CarriedEnd, CarriedLink, CarriesTo, HasWaiting, IsCarried, IsNewLink, Repeats, Rests, RunsOn, SettlesAll, StepsLink, StepsLinks, SubmitsOne, TakesTurns, both_marks, last_link, reported_link}
 use Rattle.ssh_link.specs.PlanRun.{IsWholeReport}
 use Rattle.ssh_link.specs.RefusedCarrying.{BeginTooMany, IsConfigFault, IsRestless, HasNoEnd, RefusesCarrying, RefusesLink, RefusesRun, RefusesSettle, RefusesStep, RefusesTurn, Telling, bound_behind, most_turns, telling_of}
 use Rattle.ssh_wire.specs.declared.error.ConfigFault.{ConfigFault}
@@ -65,7 +65,7 @@ rekeys_weaker a b w false old new h = h
 asks_weaker : (a b : Says) → Weaker a b → (old new : CarriedEnd) → AsksKeys a old new → AsksKeys b old new
 asks_weaker a b w old new h = record { call = rekeys_weaker a b w (is_outside old.transport.state.stands) old.transport new.transport h.call; taken = h.taken; delivered = h.delivered; submitted = h.submitted }
 
-carries_weaker : (a b : Says) → Weaker a b → (old : CarriedEnd) (wire : List ℕ) (n : ℕ) (new : CarriedEnd) → CarriesTo a old wire n new → CarriesTo b old wire n new
+pub carries_weaker : (a b : Says) → Weaker a b → (old : CarriedEnd) (wire : List ℕ) (n : ℕ) (new : CarriedEnd) → CarriesTo a old wire n new → CarriesTo b old wire n new
 carries_weaker a b w old wire n new h = record {
   fed = h.fed;
   call = record { events = h.call.events; acts = acts_weaker a b w old.transport h.call.events h.fed h.call.acts; input = h.call.input; behind = h.call.behind; line = h.call.line; read = h.call.read; part = h.call.part; small = h.call.small };
@@ -78,7 +78,7 @@ carries_weaker a b w old wire n new h = record {
 turns_weaker : (c c' s s' : Says) → Weaker c c' → Weaker s s' → (old new : CarriedLink) → TakesTurns c s old new → TakesTurns c' s' old new
 turns_weaker c c' s s' v w old new h = record { to_server = carries_weaker s s' w old.server old.client.transport.output _ new.server h.to_server; all_to_server = h.all_to_server; to_client = carries_weaker c c' v old.client new.server.transport.output _ new.client h.to_client; all_to_client = h.all_to_client }
 
-repeats_weaker : (c c' s s' : Says) → Weaker c c' → Weaker s s' → (n : ℕ) (old new : CarriedLink) → Repeats c s n old new → Repeats c' s' n old new
+pub repeats_weaker : (c c' s s' : Says) → Weaker c c' → Weaker s s' → (n : ℕ) (old new : CarriedLink) → Repeats c s n old new → Repeats c' s' n old new
 repeats_weaker c c' s s' v w zero old new h = h
 repeats_weaker c c' s s' v w (suc n) old new h = (h.0, repeats_weaker c c' s s' v w n old h.0 h.1, turns_weaker c c' s s' v w h.0 new h.2, h.3)
 
@@ -257,7 +257,7 @@ rekeys_live says false old new h l = ap (λ (t : Standing). t.failed) h ∙ l
 end_live : (old new : CarriedEnd) → new ≡ old → old.transport.failed ≡ false → new.transport.failed ≡ false
 end_live old new e l = ap (λ (x : CarriedEnd). x.transport.failed) e ∙ l
 
-repeats_live : (c s : Says) (n : ℕ) (old new : CarriedLink) → Repeats c s n old new → BothLive old → BothLive new
+pub repeats_live : (c s : Says) (n : ℕ) (old new : CarriedLink) → Repeats c s n old new → BothLive old → BothLive new
 repeats_live c s zero old new h l = subst BothLive (sym h) l
 repeats_live c s (suc n) old new h l = record { of_client = carries_live c h.0.client new.server.transport.output _ new.client h.2.to_client; of_server = carries_live s h.0.server h.0.client.transport.output _ new.server h.2.to_server }
 
@@ -270,7 +270,7 @@ step_live c s (Rekey Client) old new h l = record { of_client = rekeys_live c (i
 step_live c s (Rekey Server) old new h l = record { of_client = end_live old.client new.client h.1 l.of_client; of_server = rekeys_live s (is_outside old.server.transport.state.stands) old.server.transport new.server.transport h.0.call l.of_server }
 step_live c s Settle old new h l = repeats_live c s h.times old new h.turns l
 
-steps_live : (c s : Says) (steps : List Step) (l : CarriedLink) (links : List CarriedLink) → StepsLinks c s steps l links → BothLive l → BothLive (last_link l links)
+pub steps_live : (c s : Says) (steps : List Step) (l : CarriedLink) (links : List CarriedLink) → StepsLinks c s steps l links → BothLive l → BothLive (last_link l links)
 steps_live c s [] l [] h b = b
 steps_live c s [] l (x ∷ links) h b = absurd h
 steps_live c s (step ∷ steps) l [] h b = absurd h

@@ -54,6 +54,7 @@ parts_seen r config o group steps e h = record {
   step = h.step;
   carries = h.carries;
   reached = h.reached;
+  came = h.came;
   cause = cause_seen (r h.side) h.side config o group e (subst (λ f. IsCauseOf (r h.side) h.side config f group e) (offered_same o h.side) h.cause);
 }
 

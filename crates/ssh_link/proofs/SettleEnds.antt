@@ -1,6 +1,6 @@
 -- With lawful parts no settle comes to no end: each turn in which bytes wait leaves less to do, no side begins more exchanges
 -- than were asked for, and where no byte waits both rest.
-use Rattle.std.proofs.Common.{◌≡◌, inl, inr, ℕ, zero, suc, ◌+◌, ◌-◌, ◌*◌, ◌<◌, ◌≤◌, ◌^◌, Bool, true, false, not, List, [], ◌∷◌, length, refl, sym, ◌∙◌, ap, subst, arith, None, Some, if◌then◌else◌, length-append}
+use Rattle.std.proofs.Common.{◌≡◌, inl, inr, ℕ, zero, suc, ◌+◌, ◌*◌, ◌<◌, ◌≤◌, ◌^◌, Bool, true, false, not, List, [], ◌∷◌, length, refl, sym, ◌∙◌, ap, subst, arith, None, Some, if◌then◌else◌, length-append}
 use Rattle.std.proofs.lemmas.List.{length-take-le}
 use Rattle.ssh_wire.specs.Lines.{id_line, id_text}
 use Rattle.ssh_wire.specs.Sides.{other_side}
@@ -103,7 +103,7 @@ both_rest says config kind s l k i r = elim r.restless [
 
 -- ---- a settle ends
 
-some_bound : (steps : List link.Step) → 1 ≤ bound_of steps
+pub some_bound : (steps : List link.Step) → 1 ≤ bound_of steps
 some_bound [] = omega arith
 some_bound (Submit side p ∷ steps) = let r = some_bound steps in omega (arith, r)
 some_bound (Deliver side n ∷ steps) = some_bound steps

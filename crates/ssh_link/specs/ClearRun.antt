@@ -40,7 +40,8 @@ submitted_payloads side (Deliver s n ∷ steps) = submitted_payloads side steps
 abbrev pub taken_in : Side → ℕ → List ClearStep → ℕ
 taken_in side waiting [] = 0
 taken_in side waiting (Submit s payload ∷ steps) = if same_side s side then taken_in side waiting steps else taken_in side (waiting + packet_size payload) steps
-taken_in side waiting (Deliver s n ∷ steps) = if same_side s side then min n waiting + taken_in side (waiting - min n waiting) steps else taken_in side waiting steps
+taken_in side waiting (Deliver s n ∷ steps) =
+    if same_side s side then min n waiting + taken_in side (waiting - min n waiting) steps else taken_in side waiting steps
 
 -- the payloads whose packets lie whole in the first n bytes
 abbrev pub whole_in : ℕ → List (List ℕ) → List (List ℕ)

@@ -18,6 +18,7 @@ pub mod Program
 pub mod PlanRun
 pub mod PlanParts
 pub mod Carrying
+pub mod Asking
 pub mod RefusedCarrying
 pub mod RunCauses
 pub mod LinkEnds

@@ -39,13 +39,17 @@ delivered_lines side payloads = flat_map (λ payload. report_line side (codes "d
 
 -- what one side did
 abbrev pub side_lines : Side → ClearSide → List ℕ
-side_lines side report = report_line side (codes "wire") (hex_word report.wire) ++ report_line side (codes "taken") (decimal report.taken) ++ delivered_lines side report.delivered
+side_lines side report = report_line side (codes "wire") (hex_word report.wire)
+    ++ report_line side (codes "taken") (decimal report.taken) ++ delivered_lines side report.delivered
 
 -- the report of a clear link: the client, then the server
 abbrev pub clear_report_text : ClearReport → List ℕ
 clear_report_text report = side_lines Client report.client ++ side_lines Server report.server
 
-report-example : clear_report_text (record { client = record { wire = 171 ∷ 9 ∷ []; taken = 12; delivered = [] }; server = record { wire = []; taken = 0; delivered = (1 ∷ []) ∷ [] ∷ [] } })
+report-example : clear_report_text (record {
+  client = record { wire = 171 ∷ 9 ∷ []; taken = 12; delivered = [] };
+  server = record { wire = []; taken = 0; delivered = (1 ∷ []) ∷ [] ∷ [] };
+})
     ≡ codes "client wire ab09\nclient taken 12\nserver wire -\nserver taken 0\nserver delivered 01\nserver delivered -\n"
 unfolding encode_with digits
 report-example = refl
@@ -83,7 +87,8 @@ names_word (name ∷ names) = join_with_byte 44 (name ∷ names)
 abbrev pub error_text : Error → List ℕ
 error_text error.KexInit = codes "KexInit"
 error_text error.UnknownAlgo = codes "UnknownAlgo"
-error_text (error.NoCommonAlgo kind ours theirs) = codes "NoCommonAlgo " ++ kind_name kind ++ codes " ours " ++ names_word ours.0.items ++ codes " theirs " ++ names_word theirs.0.items
+error_text (error.NoCommonAlgo kind ours theirs) = codes "NoCommonAlgo " ++ kind_name kind ++ codes " ours "
+    ++ names_word ours.0.items ++ codes " theirs " ++ names_word theirs.0.items
 error_text error.Version = codes "Version"
 error_text error.Kex = codes "Kex"
 error_text error.PacketAuth = codes "PacketAuth"
@@ -95,7 +100,8 @@ error_text (error.PacketSize size) = codes "PacketSize " ++ decimal size
 error_text error.Disconnect = codes "Disconnect"
 error_text error.DecryptionError = codes "DecryptionError"
 error_text error.IO = codes "IO"
-error_text (error.StrictKeyExchangeViolation message_type sequence_number) = codes "StrictKeyExchangeViolation " ++ decimal message_type ++ codes " " ++ decimal sequence_number
+error_text (error.StrictKeyExchangeViolation message_type sequence_number) =
+    codes "StrictKeyExchangeViolation " ++ decimal message_type ++ codes " " ++ decimal sequence_number
 error_text error.Signature = codes "Signature"
 error_text (error.SshEncoding fault) = codes "SshEncoding " ++ encoding_name fault
 error_text (error.InvalidConfig fault) = codes "InvalidConfig " ++ config_name fault

@@ -1,7 +1,8 @@
 -- The causes of what a run of a link is refused.
-use Rattle.std.specs.Prelude.{◌≡◌, ◌⊎◌, ℕ, Bool, true, false, List, [], ◌++◌, ◌∷◌, None, Ok, refl}
+use Rattle.std.specs.Prelude.{◌≡◌, ◌⊎◌, ◌+◌, ◌<◌, ℕ, Bool, true, false, if◌then◌else◌, List, [], ◌++◌, ◌∷◌, length, None, Ok, refl}
 use Rattle.std.specs.List.{list_all}
-use Rattle.ssh_wire.specs.Sides.{same_side}
+use Rattle.ssh_wire.specs.Lines.{id_line}
+use Rattle.ssh_wire.specs.Sides.{other_side, same_side}
 use Rattle.ssh_wire.specs.declared.error.Error.{Error}
 use Rattle.ssh_wire.specs.declared.error.Error.TheVariants as errors
 use Rattle.ssh_wire.specs.declared.side.Side.{Side}
@@ -48,6 +49,29 @@ pub record ReachesStep (steps : List Step) (step : Step) : Type 0 where
   pub steps_are : steps ≡ before ++ step ∷ behind
   pub good : all_submits_good before ≡ true
 
+-- whether a settle is among them
+abbrev pub has_settle : List Step → Bool
+has_settle [] = false
+has_settle (Submit side p ∷ steps) = has_settle steps
+has_settle (Deliver side n ∷ steps) = has_settle steps
+has_settle (Rekey side ∷ steps) = has_settle steps
+has_settle (Settle ∷ steps) = true
+
+-- how many bytes their deliveries bring to a side at most
+abbrev pub most_brought : Side → List Step → ℕ
+most_brought side [] = 0
+most_brought side (Submit s p ∷ steps) = most_brought side steps
+most_brought side (Deliver s n ∷ steps) = (if same_side s side then n else 0) + most_brought side steps
+most_brought side (Rekey s ∷ steps) = most_brought side steps
+most_brought side (Settle ∷ steps) = most_brought side steps
+
+brought-example : most_brought Client (Deliver Client 40 ∷ Deliver Server 9 ∷ Deliver Client 2 ∷ []) ≡ 42
+brought-example = refl
+
+-- they let a side take more than the other's version line: a settle does, and deliveries of more bytes
+abbrev pub BringMessages : Side → Config → List Step → Type 0
+BringMessages side other steps = has_settle steps ≡ false → length (id_line other.id) < most_brought side steps
+
 -- the first payload that isn't good is refused
 pub record IsBadSubmit (steps : List Step) (error : Error) : Type 0 where
   pub side : Side
@@ -67,14 +91,17 @@ pub record IsPartsCause (rises : Side → Rises) (config : Side → Config) (off
   pub step : Step
   pub carries : carries_to side step ≡ true
   pub reached : ReachesStep steps step
+  pub came : BringMessages side (config (other_side side)) (reached.before ++ step ∷ [])
   pub cause : IsCauseOf (rises side) side config (offered side) group error
 
 -- whatever they are
-pub record IsAnyPartsCause (rises : Side → Rises) (steps : List Step) (error : Error) : Type 0 where
+pub record IsAnyPartsCause (rises : Side → Rises) (config : Side → Config) (steps : List Step) (error : Error)
+    : Type 0 where
   pub side : Side
   pub step : Step
   pub carries : carries_to side step ≡ true
   pub reached : ReachesStep steps step
+  pub came : BringMessages side (config (other_side side)) (reached.before ++ step ∷ [])
   pub cause : IsCauseOfAny (rises side) side error
 
 -- Why a run is refused where the parts of both sides are lawful: a configuration, the first payload that isn't good, what
@@ -88,7 +115,7 @@ IsRunCause rises config offered group steps error = (error ≡ errors.Memory)
 abbrev pub IsAnyRunCause : (Side → Rises) → (Side → Config) → List Step → Error → Type 0
 IsAnyRunCause rises config steps error = (error ≡ errors.Memory)
     ⊎ (IsConfigFault (config Client) (config Server) error ⊎ (IsBadSubmit steps error
-    ⊎ (IsAnyPartsCause rises steps error ⊎ IsUnsettled steps error)))
+    ⊎ (IsAnyPartsCause rises config steps error ⊎ IsUnsettled steps error)))
 
 -- Both configurations pass, both agreements offer the key exchange that they choose, and each payload is good: obliging
 -- parts refuse nothing in such a run.

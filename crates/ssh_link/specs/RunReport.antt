@@ -31,7 +31,8 @@ names_words names =
 
 -- exchange k, what was negotiated in it, its hash and the session id
 abbrev pub exchange_line : Side → ℕ → FinishedExchange → List ℕ
-exchange_line side k x = join_with_byte 32 (side_name side ∷ codes "exchange" ∷ decimal k ∷ names_words x.names ++ hex_word x.hash ∷ hex_word x.session_id ∷ []) ++ 10 ∷ []
+exchange_line side k x =
+    join_with_byte 32 (side_name side ∷ codes "exchange" ∷ decimal k ∷ names_words x.names ++ hex_word x.hash ∷ hex_word x.session_id ∷ []) ++ 10 ∷ []
 
 -- one line for each exchange, counted from k
 abbrev pub exchange_lines : Side → ℕ → List FinishedExchange → List ℕ

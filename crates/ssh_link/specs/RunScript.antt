@@ -60,7 +60,8 @@ abbrev pub all_kex_names : List kexes.Name
 all_kex_names = kex_names ++ ExtInfoC ∷ ExtInfoS ∷ StrictC ∷ StrictS ∷ []
 
 abbrev pub cipher_names : List ciphers.Name
-cipher_names = cipher.Clear ∷ cipher.NoCipher ∷ cipher.Aes128Ctr ∷ cipher.Aes192Ctr ∷ cipher.Aes256Ctr ∷ cipher.Aes128Gcm ∷ cipher.Aes256Gcm ∷ cipher.Aes128Cbc ∷ cipher.Aes192Cbc ∷ cipher.Aes256Cbc ∷ []
+cipher_names = cipher.Clear ∷ cipher.NoCipher ∷ cipher.Aes128Ctr ∷ cipher.Aes192Ctr ∷ cipher.Aes256Ctr
+    ∷ cipher.Aes128Gcm ∷ cipher.Aes256Gcm ∷ cipher.Aes128Cbc ∷ cipher.Aes192Cbc ∷ cipher.Aes256Cbc ∷ []
 
 abbrev pub mac_names : List macs.Name
 mac_names = mac.NoMac ∷ mac.HmacSha1 ∷ mac.HmacSha256 ∷ mac.HmacSha512 ∷ mac.HmacSha1Etm ∷ mac.HmacSha256Etm ∷ mac.HmacSha512Etm ∷ []
@@ -174,7 +175,8 @@ with_refusal s part.Groups call = record s { refuse_groups = call }
 
 -- whether a line gave this blob
 abbrev pub has_blob : Hosts → List ℕ → Bool
-has_blob host blob = list_any (λ (key : HostKey). bytes_eq key.blob blob) host.keys || list_any (λ (certificate : HostCertificate). bytes_eq certificate.blob blob) host.certificates
+has_blob host blob = list_any (λ (key : HostKey). bytes_eq key.blob blob) host.keys
+    || list_any (λ (certificate : HostCertificate). bytes_eq certificate.blob blob) host.certificates
 
 abbrev pub with_key : Hosts → Option HostKey → Option Hosts
 with_key host None = None
@@ -182,7 +184,8 @@ with_key host (Some key) = if has_blob host key.blob then None else Some (record
 
 abbrev pub with_certificate : Hosts → Option HostCertificate → Option Hosts
 with_certificate host None = None
-with_certificate host (Some certificate) = if has_blob host certificate.blob then None else Some (record host { certificates = host.certificates ++ certificate ∷ [] })
+with_certificate host (Some certificate) =
+    if has_blob host certificate.blob then None else Some (record host { certificates = host.certificates ++ certificate ∷ [] })
 
 abbrev pub host_key : Algorithm → List ℕ → HostKey
 host_key algorithm blob = record { algorithm = algorithm; blob = blob }
@@ -194,11 +197,17 @@ host_certificate algorithm blob key_blob = record { algorithm = algorithm; blob 
 abbrev pub set_side : Setting → List (List ℕ) → SideSetup → Option SideSetup
 set_side setting.Id words s = option_map (λ id. with_config s (record s.config { id = id })) (from_word standard_of words)
 set_side setting.RawId words s = option_map (λ id. with_config s (record s.config { id = id })) (from_word raw_of words)
-set_side setting.Kex words s = option_map (λ names. with_preferred s (record s.config.preferred { kex = names })) (from_word (list_of kex_text all_kex_names) words)
-set_side setting.Key words s = option_map (λ names. with_preferred s (record s.config.preferred { key = names })) (from_word (list_of algorithm_name algorithms) words)
-set_side setting.Certificates words s = option_map (λ names. with_preferred s (record s.config.preferred { host_key_certificates = names })) (from_word (list_of algorithm_name algorithms) words)
-set_side setting.Cipher words s = option_map (λ names. with_preferred s (record s.config.preferred { cipher = names })) (from_word (list_of cipher_text cipher_names) words)
-set_side setting.Mac words s = option_map (λ names. with_preferred s (record s.config.preferred { mac = names })) (from_word (list_of mac_text mac_names) words)
+set_side setting.Kex words s =
+    option_map (λ names. with_preferred s (record s.config.preferred { kex = names })) (from_word (list_of kex_text all_kex_names) words)
+set_side setting.Key words s =
+    option_map (λ names. with_preferred s (record s.config.preferred { key = names })) (from_word (list_of algorithm_name algorithms) words)
+set_side setting.Certificates words s =
+    option_map (λ names. with_preferred s (record s.config.preferred { host_key_certificates = names }))
+    (from_word (list_of algorithm_name algorithms) words)
+set_side setting.Cipher words s =
+    option_map (λ names. with_preferred s (record s.config.preferred { cipher = names })) (from_word (list_of cipher_text cipher_names) words)
+set_side setting.Mac words s =
+    option_map (λ names. with_preferred s (record s.config.preferred { mac = names })) (from_word (list_of mac_text mac_names) words)
 set_side setting.Limits words s = from_two (with_limits s) number_of number_of words
 set_side setting.GroupSizes words s = option_map (λ gex. with_config s (record s.config { gex = gex })) (from_three sizes size_of size_of size_of words)
 set_side setting.Host words s = None
@@ -219,7 +228,8 @@ set_server setting.Mac words s = set_side setting.Mac words s
 set_server setting.Limits words s = set_side setting.Limits words s
 set_server setting.GroupSizes words s = set_side setting.GroupSizes words s
 set_server setting.Host words s = option_map (with_hosts s) (with_key s.config.host (from_two host_key algorithm_of hex_of words))
-set_server setting.HostCertificate words s = option_map (with_hosts s) (with_certificate s.config.host (from_three host_certificate algorithm_of hex_of hex_of words))
+set_server setting.HostCertificate words s =
+    option_map (with_hosts s) (with_certificate s.config.host (from_three host_certificate algorithm_of hex_of hex_of words))
 set_server setting.Seed words s = set_side setting.Seed words s
 set_server setting.Refuse words s = set_side setting.Refuse words s
 set_server setting.Group words s = option_map (λ bits. record s { group_bits = bits }) (from_word size_of words)

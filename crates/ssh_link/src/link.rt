@@ -1,12 +1,14 @@
 //! The run of a link: a client and a server over an honest carrier.
 
-ghost use Rattle.std.specs.Prelude.{◌≡◌, ◌⊎◌, ◌≤◌, ◌<◌, ◌^◌, [], Err, IfErr, IfOk, IfSome, None, OnOk, false, length, true};
+ghost use Rattle.std.specs.Prelude.{◌≡◌, ◌⊎◌, ◌≤◌, ◌<◌, ◌^◌, [], Err, IfErr, IfOk, IfSome, None, OnErr, OnOk, false, length, true};
 ghost use Rattle.std.specs.Str.{is_utf8};
 ghost use Rattle.ssh_kex.specs.Stepping.{says_of};
 ghost use Rattle.ssh_rules.specs.AnyParts.{IsReadLink};
 ghost use Rattle.ssh_rules.specs.Headline.{IsLink};
 ghost use Rattle.ssh_rules.specs.Valid as valid;
 ghost use Rattle.ssh_rules.specs.Valid.{HasSizes, first_config_fault};
+ghost use Rattle.ssh_link.specs.Asking.{CarriedAsks, RunAsks};
+ghost use Rattle.ssh_rules.specs.Asking.{counted_by};
 ghost use Rattle.ssh_link.specs.Carrying.{IsCarried, text_of_id};
 ghost use Rattle.ssh_link.specs.PlanRun.{IsWholeReport};
 ghost use Rattle.ssh_link.specs.RefusedCarrying.{RefusesLink, telling_of};
@@ -74,6 +76,10 @@ pub fn run_link<A: Agreement, H: HostKeys, G: GroupLookup, R: Rng>(
         → G.obliging server_parts.old.groups (record { client = client.now; server = server.now })
         → IfErr result (λ e. e ≡ Memory) }
     ensures read { IfOk result (IsReadLink (H.accepts client_parts.old.hosts) (H.trusts client_parts.old.hosts) client.now server.now) }
+    ensures calls { A.lawful client_parts.old.agreement (record { client = client.now; server = server.now })
+        → A.lawful server_parts.old.agreement (record { client = client.now; server = server.now })
+        → G.lawful server_parts.old.groups (record { client = client.now; server = server.now })
+        → RunAsks client.now server.now steps.now (counted_by A.calls H.calls G.calls client_parts.old.agreement client_parts.old.hosts client_parts.old.groups) (counted_by A.calls H.calls G.calls client_parts.new.agreement client_parts.new.hosts client_parts.new.groups) (counted_by A.calls H.calls G.calls server_parts.old.agreement server_parts.old.hosts server_parts.old.groups) (counted_by A.calls H.calls G.calls server_parts.new.agreement server_parts.new.hosts server_parts.new.groups) }
 {
     see_types(client);
     see_types(server);
@@ -126,6 +132,7 @@ fn carry_steps<A: Agreement, H: HostKeys, G: GroupLookup, R: Rng>(
     ensures few { OnOk result (length steps.now < 2 ^ 64) }
     ensures refused { IfErr result (λ e. RefusesLink (telling_of A.lawful A.obliging A.offered A.client_makes A.server_makes A.agrees A.refusals H.lawful H.obliging H.accepts H.trusts H.makes H.refused_sign H.refused_verify H.refused_check G.lawful G.obliging G.group G.refusals client.now client_parts.old.agreement client_parts.new.agreement client_parts.old.hosts client_parts.new.hosts client_parts.old.groups client_parts.new.groups) (telling_of A.lawful A.obliging A.offered A.client_makes A.server_makes A.agrees A.refusals H.lawful H.obliging H.accepts H.trusts H.makes H.refused_sign H.refused_verify H.refused_check G.lawful G.obliging G.group G.refusals server.now server_parts.old.agreement server_parts.new.agreement server_parts.old.hosts server_parts.new.hosts server_parts.old.groups server_parts.new.groups) client.now server.now steps.now e) }
     ensures carried { IfOk result (IsCarried (says_of A.lawful A.offered A.client_makes A.server_makes A.agrees H.lawful H.obliging H.accepts H.trusts H.makes G.lawful G.group client.now client_parts.old.agreement client_parts.old.hosts client_parts.old.groups) (says_of A.lawful A.offered A.client_makes A.server_makes A.agrees H.lawful H.obliging H.accepts H.trusts H.makes G.lawful G.group server.now server_parts.old.agreement server_parts.old.hosts server_parts.old.groups) client.now server.now steps.now) }
+    ensures asks { CarriedAsks (says_of A.lawful A.offered A.client_makes A.server_makes A.agrees H.lawful H.obliging H.accepts H.trusts H.makes G.lawful G.group client.now client_parts.old.agreement client_parts.old.hosts client_parts.old.groups) (says_of A.lawful A.offered A.client_makes A.server_makes A.agrees H.lawful H.obliging H.accepts H.trusts H.makes G.lawful G.group server.now server_parts.old.agreement server_parts.old.hosts server_parts.old.groups) client.now server.now steps.now (counted_by A.calls H.calls G.calls client_parts.old.agreement client_parts.old.hosts client_parts.old.groups) (counted_by A.calls H.calls G.calls client_parts.new.agreement client_parts.new.hosts client_parts.new.groups) (counted_by A.calls H.calls G.calls server_parts.old.agreement server_parts.old.hosts server_parts.old.groups) (counted_by A.calls H.calls G.calls server_parts.new.agreement server_parts.new.hosts server_parts.new.groups) }
 {
     if let Some(fault) = first_fault(client, server) {
         return Err(Error::InvalidConfig(fault));
@@ -137,6 +144,7 @@ fn carry_steps<A: Agreement, H: HostKeys, G: GroupLookup, R: Rng>(
 
 impl<'c> Link<'c> {
     ghost use Rattle.ssh_kex.specs.Parts.{KeepsAgreement, KeepsGroups, KeepsHosts};
+    ghost use Rattle.ssh_link.specs.Asking.{LinkAsks, PartAsks, SideAsks, TurnsAsk};
     ghost use Rattle.ssh_link.specs.Carrying.{HasWaiting, IsNewLink, RunsOn, SettlesAll, StepsLink, TakesTurns, reported_link};
     ghost use Rattle.ssh_link.specs.LinkEnds.{link_mark, link_of};
     ghost use Rattle.ssh_link.specs.RefusedCarrying.{BeginTooMany, IsConfigFault, RefusesRun, RefusesSettle, RefusesStep, RefusesSubmit, RefusesTurn, begun_by, bound_behind, telling_of};
@@ -168,6 +176,7 @@ impl<'c> Link<'c> {
     }
 
     /// Carries out all steps: the marks before the first and behind each.
+    #[tactic(auto, using(crate::proofs::Asking::side_still, crate::proofs::Asking::link_none))]
     fn run<A: Agreement, H: HostKeys, G: GroupLookup, R: Rng>(
         &mut self,
         alloc: Global,
@@ -178,6 +187,7 @@ impl<'c> Link<'c> {
         ensures few { length steps.now < 2 ^ 64 }
         ensures refused { self.old.bound ≡ 1 → self.old.client.transport.failed ≡ false → self.old.server.transport.failed ≡ false → IfErr result (λ e. RefusesRun (telling_of A.lawful A.obliging A.offered A.client_makes A.server_makes A.agrees A.refusals H.lawful H.obliging H.accepts H.trusts H.makes H.refused_sign H.refused_verify H.refused_check G.lawful G.obliging G.group G.refusals self.old.client.transport.config client_parts.old.agreement client_parts.new.agreement client_parts.old.hosts client_parts.new.hosts client_parts.old.groups client_parts.new.groups) (telling_of A.lawful A.obliging A.offered A.client_makes A.server_makes A.agrees A.refusals H.lawful H.obliging H.accepts H.trusts H.makes H.refused_sign H.refused_verify H.refused_check G.lawful G.obliging G.group G.refusals self.old.server.transport.config server_parts.old.agreement server_parts.new.agreement server_parts.old.hosts server_parts.new.hosts server_parts.old.groups server_parts.new.groups) steps.now (link_of self.old) e) }
         ensures runs { IfOk result (λ marks. RunsOn (says_of A.lawful A.offered A.client_makes A.server_makes A.agrees H.lawful H.obliging H.accepts H.trusts H.makes G.lawful G.group self.old.client.transport.config client_parts.old.agreement client_parts.old.hosts client_parts.old.groups) (says_of A.lawful A.offered A.client_makes A.server_makes A.agrees H.lawful H.obliging H.accepts H.trusts H.makes G.lawful G.group self.old.server.transport.config server_parts.old.agreement server_parts.old.hosts server_parts.old.groups) steps.now (link_of self.old) (link_of self.new) marks.items) }
+        ensures asks { self.old.client.transport.failed ≡ false → self.old.server.transport.failed ≡ false → LinkAsks (says_of A.lawful A.offered A.client_makes A.server_makes A.agrees H.lawful H.obliging H.accepts H.trusts H.makes G.lawful G.group self.old.client.transport.config client_parts.old.agreement client_parts.old.hosts client_parts.old.groups) (says_of A.lawful A.offered A.client_makes A.server_makes A.agrees H.lawful H.obliging H.accepts H.trusts H.makes G.lawful G.group self.old.server.transport.config server_parts.old.agreement server_parts.old.hosts server_parts.old.groups) steps.now (link_of self.old) (counted_by A.calls H.calls G.calls client_parts.old.agreement client_parts.old.hosts client_parts.old.groups) (counted_by A.calls H.calls G.calls client_parts.new.agreement client_parts.new.hosts client_parts.new.groups) (counted_by A.calls H.calls G.calls server_parts.old.agreement server_parts.old.hosts server_parts.old.groups) (counted_by A.calls H.calls G.calls server_parts.new.agreement server_parts.new.hosts server_parts.new.groups) }
     {
         let mut marks = Vec::with_capacity(alloc, steps.len().saturating_add(1))?;
         marks.push(self.mark())?;
@@ -189,6 +199,7 @@ impl<'c> Link<'c> {
     }
 
     /// Carries out one step.
+    #[tactic(auto, using(crate::proofs::Asking::turns_part, crate::proofs::Asking::turns_still))]
     fn step<A: Agreement, H: HostKeys, G: GroupLookup, R: Rng>(
         &mut self,
         client_parts: &mut Parts<A, H, G, R>,
@@ -204,6 +215,9 @@ impl<'c> Link<'c> {
         ensures server_agreement { KeepsAgreement A.lawful A.obliging A.offered A.refusals A.calls server_parts.old.agreement server_parts.new.agreement }
         ensures server_hosts { KeepsHosts H.lawful H.obliging H.accepts H.trusts H.refused_sign H.refused_verify H.refused_check H.calls server_parts.old.hosts server_parts.new.hosts }
         ensures server_groups { KeepsGroups G.lawful G.obliging G.group G.refusals G.calls server_parts.old.groups server_parts.new.groups }
+        ensures asks_client { OnOk result (SideAsks self.old.client.transport self.new.client.transport (counted_by A.calls H.calls G.calls client_parts.old.agreement client_parts.old.hosts client_parts.old.groups) (counted_by A.calls H.calls G.calls client_parts.new.agreement client_parts.new.hosts client_parts.new.groups)) }
+        ensures asks_server { OnOk result (SideAsks self.old.server.transport self.new.server.transport (counted_by A.calls H.calls G.calls server_parts.old.agreement server_parts.old.hosts server_parts.old.groups) (counted_by A.calls H.calls G.calls server_parts.new.agreement server_parts.new.hosts server_parts.new.groups)) }
+        ensures asked { self.old.client.transport.failed ≡ false → self.old.server.transport.failed ≡ false → OnErr result (TurnsAsk (says_of A.lawful A.offered A.client_makes A.server_makes A.agrees H.lawful H.obliging H.accepts H.trusts H.makes G.lawful G.group self.old.client.transport.config client_parts.old.agreement client_parts.old.hosts client_parts.old.groups) (says_of A.lawful A.offered A.client_makes A.server_makes A.agrees H.lawful H.obliging H.accepts H.trusts H.makes G.lawful G.group self.old.server.transport.config server_parts.old.agreement server_parts.old.hosts server_parts.old.groups) (link_of self.old) (counted_by A.calls H.calls G.calls client_parts.old.agreement client_parts.old.hosts client_parts.old.groups) (counted_by A.calls H.calls G.calls client_parts.new.agreement client_parts.new.hosts client_parts.new.groups) (counted_by A.calls H.calls G.calls server_parts.old.agreement server_parts.old.hosts server_parts.old.groups) (counted_by A.calls H.calls G.calls server_parts.new.agreement server_parts.new.hosts server_parts.new.groups)) }
     {
         match step {
             Step::Submit(side, payload) => {
@@ -216,7 +230,7 @@ impl<'c> Link<'c> {
     }
 
     /// Submits a payload to a side.
-    #[tactic(auto, using(ssh_transport::proofs::Lemmas::agreement_same, ssh_transport::proofs::Lemmas::hosts_same, ssh_transport::proofs::Lemmas::groups_same))]
+    #[tactic(auto, using(ssh_transport::proofs::Lemmas::agreement_same, ssh_transport::proofs::Lemmas::hosts_same, ssh_transport::proofs::Lemmas::groups_same, crate::proofs::Asking::side_still, crate::proofs::Asking::side_same))]
     fn submit<A: Agreement, H: HostKeys, G: GroupLookup, R: Rng>(
         &mut self,
         client_parts: &mut Parts<A, H, G, R>,
@@ -233,6 +247,10 @@ impl<'c> Link<'c> {
         ensures server_agreement { KeepsAgreement A.lawful A.obliging A.offered A.refusals A.calls server_parts.old.agreement server_parts.new.agreement }
         ensures server_hosts { KeepsHosts H.lawful H.obliging H.accepts H.trusts H.refused_sign H.refused_verify H.refused_check H.calls server_parts.old.hosts server_parts.new.hosts }
         ensures server_groups { KeepsGroups G.lawful G.obliging G.group G.refusals G.calls server_parts.old.groups server_parts.new.groups }
+        ensures asks_client { OnOk result (SideAsks self.old.client.transport self.new.client.transport (counted_by A.calls H.calls G.calls client_parts.old.agreement client_parts.old.hosts client_parts.old.groups) (counted_by A.calls H.calls G.calls client_parts.new.agreement client_parts.new.hosts client_parts.new.groups)) }
+        ensures asks_server { OnOk result (SideAsks self.old.server.transport self.new.server.transport (counted_by A.calls H.calls G.calls server_parts.old.agreement server_parts.old.hosts server_parts.old.groups) (counted_by A.calls H.calls G.calls server_parts.new.agreement server_parts.new.hosts server_parts.new.groups)) }
+        ensures calls_client { (counted_by A.calls H.calls G.calls client_parts.new.agreement client_parts.new.hosts client_parts.new.groups) ≡ (counted_by A.calls H.calls G.calls client_parts.old.agreement client_parts.old.hosts client_parts.old.groups) }
+        ensures calls_server { (counted_by A.calls H.calls G.calls server_parts.new.agreement server_parts.new.hosts server_parts.new.groups) ≡ (counted_by A.calls H.calls G.calls server_parts.old.agreement server_parts.old.hosts server_parts.old.groups) }
     {
         self.bound = self.bound.saturating_add(2);
         match side {
@@ -242,7 +260,7 @@ impl<'c> Link<'c> {
     }
 
     /// Carries bytes to a side.
-    #[tactic(auto, using(ssh_transport::proofs::Lemmas::agreement_same, ssh_transport::proofs::Lemmas::hosts_same, ssh_transport::proofs::Lemmas::groups_same))]
+    #[tactic(auto, using(ssh_transport::proofs::Lemmas::agreement_same, ssh_transport::proofs::Lemmas::hosts_same, ssh_transport::proofs::Lemmas::groups_same, crate::proofs::Asking::side_still, crate::proofs::Asking::client_part, crate::proofs::Asking::server_part))]
     fn deliver<A: Agreement, H: HostKeys, G: GroupLookup, R: Rng>(
         &mut self,
         client_parts: &mut Parts<A, H, G, R>,
@@ -259,6 +277,9 @@ impl<'c> Link<'c> {
         ensures server_agreement { KeepsAgreement A.lawful A.obliging A.offered A.refusals A.calls server_parts.old.agreement server_parts.new.agreement }
         ensures server_hosts { KeepsHosts H.lawful H.obliging H.accepts H.trusts H.refused_sign H.refused_verify H.refused_check H.calls server_parts.old.hosts server_parts.new.hosts }
         ensures server_groups { KeepsGroups G.lawful G.obliging G.group G.refusals G.calls server_parts.old.groups server_parts.new.groups }
+        ensures asks_client { OnOk result (SideAsks self.old.client.transport self.new.client.transport (counted_by A.calls H.calls G.calls client_parts.old.agreement client_parts.old.hosts client_parts.old.groups) (counted_by A.calls H.calls G.calls client_parts.new.agreement client_parts.new.hosts client_parts.new.groups)) }
+        ensures asks_server { OnOk result (SideAsks self.old.server.transport self.new.server.transport (counted_by A.calls H.calls G.calls server_parts.old.agreement server_parts.old.hosts server_parts.old.groups) (counted_by A.calls H.calls G.calls server_parts.new.agreement server_parts.new.hosts server_parts.new.groups)) }
+        ensures asked { self.old.client.transport.failed ≡ false → self.old.server.transport.failed ≡ false → OnErr result (PartAsks (says_of A.lawful A.offered A.client_makes A.server_makes A.agrees H.lawful H.obliging H.accepts H.trusts H.makes G.lawful G.group self.old.client.transport.config client_parts.old.agreement client_parts.old.hosts client_parts.old.groups) (says_of A.lawful A.offered A.client_makes A.server_makes A.agrees H.lawful H.obliging H.accepts H.trusts H.makes G.lawful G.group self.old.server.transport.config server_parts.old.agreement server_parts.old.hosts server_parts.old.groups) (link_of self.old) (counted_by A.calls H.calls G.calls client_parts.old.agreement client_parts.old.hosts client_parts.old.groups) (counted_by A.calls H.calls G.calls client_parts.new.agreement client_parts.new.hosts client_parts.new.groups) (counted_by A.calls H.calls G.calls server_parts.old.agreement server_parts.old.hosts server_parts.old.groups) (counted_by A.calls H.calls G.calls server_parts.new.agreement server_parts.new.hosts server_parts.new.groups)) }
     {
         match side {
             Side::Client => self
@@ -271,7 +292,7 @@ impl<'c> Link<'c> {
     }
 
     /// Asks a side for new keys.
-    #[tactic(auto, using(ssh_transport::proofs::Lemmas::agreement_same, ssh_transport::proofs::Lemmas::hosts_same, ssh_transport::proofs::Lemmas::groups_same))]
+    #[tactic(auto, using(ssh_transport::proofs::Lemmas::agreement_same, ssh_transport::proofs::Lemmas::hosts_same, ssh_transport::proofs::Lemmas::groups_same, crate::proofs::Asking::side_still, crate::proofs::Asking::side_same))]
     fn rekey<A: Agreement, H: HostKeys, G: GroupLookup, R: Rng>(
         &mut self,
         client_parts: &mut Parts<A, H, G, R>,
@@ -287,6 +308,10 @@ impl<'c> Link<'c> {
         ensures server_agreement { KeepsAgreement A.lawful A.obliging A.offered A.refusals A.calls server_parts.old.agreement server_parts.new.agreement }
         ensures server_hosts { KeepsHosts H.lawful H.obliging H.accepts H.trusts H.refused_sign H.refused_verify H.refused_check H.calls server_parts.old.hosts server_parts.new.hosts }
         ensures server_groups { KeepsGroups G.lawful G.obliging G.group G.refusals G.calls server_parts.old.groups server_parts.new.groups }
+        ensures asks_client { OnOk result (SideAsks self.old.client.transport self.new.client.transport (counted_by A.calls H.calls G.calls client_parts.old.agreement client_parts.old.hosts client_parts.old.groups) (counted_by A.calls H.calls G.calls client_parts.new.agreement client_parts.new.hosts client_parts.new.groups)) }
+        ensures asks_server { OnOk result (SideAsks self.old.server.transport self.new.server.transport (counted_by A.calls H.calls G.calls server_parts.old.agreement server_parts.old.hosts server_parts.old.groups) (counted_by A.calls H.calls G.calls server_parts.new.agreement server_parts.new.hosts server_parts.new.groups)) }
+        ensures calls_client { (counted_by A.calls H.calls G.calls client_parts.new.agreement client_parts.new.hosts client_parts.new.groups) ≡ (counted_by A.calls H.calls G.calls client_parts.old.agreement client_parts.old.hosts client_parts.old.groups) }
+        ensures calls_server { (counted_by A.calls H.calls G.calls server_parts.new.agreement server_parts.new.hosts server_parts.new.groups) ≡ (counted_by A.calls H.calls G.calls server_parts.old.agreement server_parts.old.hosts server_parts.old.groups) }
     {
         self.bound = self.bound.saturating_add(1);
         match side {
@@ -296,7 +321,7 @@ impl<'c> Link<'c> {
     }
 
     /// Lets the server take all that waits for it, then the client, until nothing waits.
-    #[tactic(auto, using(ssh_transport::proofs::Lemmas::agreement_same, ssh_transport::proofs::Lemmas::hosts_same, ssh_transport::proofs::Lemmas::groups_same))]
+    #[tactic(auto, using(ssh_transport::proofs::Lemmas::agreement_same, ssh_transport::proofs::Lemmas::hosts_same, ssh_transport::proofs::Lemmas::groups_same, crate::proofs::Asking::side_still, crate::proofs::Asking::turns_end))]
     fn settle<A: Agreement, H: HostKeys, G: GroupLookup, R: Rng>(
         &mut self,
         client_parts: &mut Parts<A, H, G, R>,
@@ -313,6 +338,9 @@ impl<'c> Link<'c> {
         ensures server_agreement { KeepsAgreement A.lawful A.obliging A.offered A.refusals A.calls server_parts.old.agreement server_parts.new.agreement }
         ensures server_hosts { KeepsHosts H.lawful H.obliging H.accepts H.trusts H.refused_sign H.refused_verify H.refused_check H.calls server_parts.old.hosts server_parts.new.hosts }
         ensures server_groups { KeepsGroups G.lawful G.obliging G.group G.refusals G.calls server_parts.old.groups server_parts.new.groups }
+        ensures asks_client { OnOk result (SideAsks self.old.client.transport self.new.client.transport (counted_by A.calls H.calls G.calls client_parts.old.agreement client_parts.old.hosts client_parts.old.groups) (counted_by A.calls H.calls G.calls client_parts.new.agreement client_parts.new.hosts client_parts.new.groups)) }
+        ensures asks_server { OnOk result (SideAsks self.old.server.transport self.new.server.transport (counted_by A.calls H.calls G.calls server_parts.old.agreement server_parts.old.hosts server_parts.old.groups) (counted_by A.calls H.calls G.calls server_parts.new.agreement server_parts.new.hosts server_parts.new.groups)) }
+        ensures asked { self.old.client.transport.failed ≡ false → self.old.server.transport.failed ≡ false → OnErr result (TurnsAsk (says_of A.lawful A.offered A.client_makes A.server_makes A.agrees H.lawful H.obliging H.accepts H.trusts H.makes G.lawful G.group self.old.client.transport.config client_parts.old.agreement client_parts.old.hosts client_parts.old.groups) (says_of A.lawful A.offered A.client_makes A.server_makes A.agrees H.lawful H.obliging H.accepts H.trusts H.makes G.lawful G.group self.old.server.transport.config server_parts.old.agreement server_parts.old.hosts server_parts.old.groups) (link_of self.old) (counted_by A.calls H.calls G.calls client_parts.old.agreement client_parts.old.hosts client_parts.old.groups) (counted_by A.calls H.calls G.calls client_parts.new.agreement client_parts.new.hosts client_parts.new.groups) (counted_by A.calls H.calls G.calls server_parts.old.agreement server_parts.old.hosts server_parts.old.groups) (counted_by A.calls H.calls G.calls server_parts.new.agreement server_parts.new.hosts server_parts.new.groups)) }
     {
         let mut turns = self.bound.saturating_mul(TURNS);
         while self.waits() {
@@ -329,6 +357,7 @@ impl<'c> Link<'c> {
     }
 
     /// Lets the server take all that waits for it, then the client.
+    #[tactic(auto, using(crate::proofs::Asking::client_part, crate::proofs::Asking::server_part, crate::proofs::Asking::half_part))]
     fn turn<A: Agreement, H: HostKeys, G: GroupLookup, R: Rng>(
         &mut self,
         client_parts: &mut Parts<A, H, G, R>,
@@ -343,6 +372,9 @@ impl<'c> Link<'c> {
         ensures server_agreement { KeepsAgreement A.lawful A.obliging A.offered A.refusals A.calls server_parts.old.agreement server_parts.new.agreement }
         ensures server_hosts { KeepsHosts H.lawful H.obliging H.accepts H.trusts H.refused_sign H.refused_verify H.refused_check H.calls server_parts.old.hosts server_parts.new.hosts }
         ensures server_groups { KeepsGroups G.lawful G.obliging G.group G.refusals G.calls server_parts.old.groups server_parts.new.groups }
+        ensures asks_client { OnOk result (SideAsks self.old.client.transport self.new.client.transport (counted_by A.calls H.calls G.calls client_parts.old.agreement client_parts.old.hosts client_parts.old.groups) (counted_by A.calls H.calls G.calls client_parts.new.agreement client_parts.new.hosts client_parts.new.groups)) }
+        ensures asks_server { OnOk result (SideAsks self.old.server.transport self.new.server.transport (counted_by A.calls H.calls G.calls server_parts.old.agreement server_parts.old.hosts server_parts.old.groups) (counted_by A.calls H.calls G.calls server_parts.new.agreement server_parts.new.hosts server_parts.new.groups)) }
+        ensures asked { self.old.client.transport.failed ≡ false → self.old.server.transport.failed ≡ false → OnErr result (PartAsks (says_of A.lawful A.offered A.client_makes A.server_makes A.agrees H.lawful H.obliging H.accepts H.trusts H.makes G.lawful G.group self.old.client.transport.config client_parts.old.agreement client_parts.old.hosts client_parts.old.groups) (says_of A.lawful A.offered A.client_makes A.server_makes A.agrees H.lawful H.obliging H.accepts H.trusts H.makes G.lawful G.group self.old.server.transport.config server_parts.old.agreement server_parts.old.hosts server_parts.old.groups) (link_of self.old) (counted_by A.calls H.calls G.calls client_parts.old.agreement client_parts.old.hosts client_parts.old.groups) (counted_by A.calls H.calls G.calls client_parts.new.agreement client_parts.new.hosts client_parts.new.groups) (counted_by A.calls H.calls G.calls server_parts.old.agreement server_parts.old.hosts server_parts.old.groups) (counted_by A.calls H.calls G.calls server_parts.new.agreement server_parts.new.hosts server_parts.new.groups)) }
     {
         self.server
             .deliver(server_parts, self.client.output(), u64::MAX)?;

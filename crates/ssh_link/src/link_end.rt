@@ -1,6 +1,6 @@
 //! One side of a link over an honest carrier.
 
-ghost use Rattle.std.specs.Prelude.{◌≡◌, ◌≤◌, ◌++◌, ◌-◌, IfErr, IfOk, OnOk, drop, false, length, true};
+ghost use Rattle.std.specs.Prelude.{◌≡◌, ◌≤◌, ◌++◌, ◌-◌, IfErr, IfOk, OnErr, OnOk, drop, false, length, true};
 
 use rand_core::Rng;
 use ssh_kex::{Agreement, GroupLookup, HostKeys, Parts};
@@ -22,6 +22,8 @@ pub(crate) struct LinkEnd<'c> {
 impl<'c> LinkEnd<'c> {
     ghost use Rattle.ssh_kex.specs.Parts.{KeepsAgreement, KeepsGroups, KeepsHosts};
     ghost use Rattle.ssh_kex.specs.Stepping.{says_of};
+    ghost use Rattle.ssh_link.specs.Asking.{PieceAsks, SideAsks};
+    ghost use Rattle.ssh_rules.specs.Asking.{counted_by};
     ghost use Rattle.ssh_link.specs.Carrying.{AsksKeys, CarriesTo, Rests, SubmitsOne, all_bytes, first_end};
     ghost use Rattle.ssh_link.specs.LinkEnds.{end_mark, end_of};
     ghost use Rattle.ssh_link.specs.RefusedCarrying.{IsRestless, RefusesCarrying, RefusesSubmit, begun_by, telling_of};
@@ -54,7 +56,7 @@ impl<'c> LinkEnd<'c> {
     }
 
     /// Submits a payload.
-    #[tactic(auto, using(ssh_transport::proofs::Lemmas::agreement_same, ssh_transport::proofs::Lemmas::hosts_same, ssh_transport::proofs::Lemmas::groups_same))]
+    #[tactic(auto, using(ssh_transport::proofs::Lemmas::agreement_same, ssh_transport::proofs::Lemmas::hosts_same, ssh_transport::proofs::Lemmas::groups_same, crate::proofs::Asking::counted_same, crate::proofs::Asking::submitted_asks))]
     pub(crate) fn submit<A: Agreement, H: HostKeys, G: GroupLookup, R: Rng>(
         &mut self,
         parts: &mut Parts<A, H, G, R>,
@@ -65,6 +67,8 @@ impl<'c> LinkEnd<'c> {
         ensures agreement { KeepsAgreement A.lawful A.obliging A.offered A.refusals A.calls parts.old.agreement parts.new.agreement }
         ensures hosts { KeepsHosts H.lawful H.obliging H.accepts H.trusts H.refused_sign H.refused_verify H.refused_check H.calls parts.old.hosts parts.new.hosts }
         ensures groups { KeepsGroups G.lawful G.obliging G.group G.refusals G.calls parts.old.groups parts.new.groups }
+        ensures calls { (counted_by A.calls H.calls G.calls parts.new.agreement parts.new.hosts parts.new.groups) ≡ (counted_by A.calls H.calls G.calls parts.old.agreement parts.old.hosts parts.old.groups) }
+        ensures side { OnOk result (SideAsks self.old.transport self.new.transport (counted_by A.calls H.calls G.calls parts.old.agreement parts.old.hosts parts.old.groups) (counted_by A.calls H.calls G.calls parts.old.agreement parts.old.hosts parts.old.groups)) }
     {
         self.transport.submit(parts, payload)?;
         self.submitted = self.submitted.saturating_add(1);
@@ -72,7 +76,7 @@ impl<'c> LinkEnd<'c> {
     }
 
     /// Asks for new keys.
-    #[tactic(auto, using(ssh_transport::proofs::Lemmas::agreement_same, ssh_transport::proofs::Lemmas::hosts_same, ssh_transport::proofs::Lemmas::groups_same))]
+    #[tactic(auto, using(ssh_transport::proofs::Lemmas::agreement_same, ssh_transport::proofs::Lemmas::hosts_same, ssh_transport::proofs::Lemmas::groups_same, crate::proofs::Asking::counted_same, crate::proofs::Asking::rekeyed_asks))]
     pub(crate) fn rekey<A: Agreement, H: HostKeys, G: GroupLookup, R: Rng>(
         &mut self,
         parts: &mut Parts<A, H, G, R>,
@@ -82,11 +86,14 @@ impl<'c> LinkEnd<'c> {
         ensures agreement { KeepsAgreement A.lawful A.obliging A.offered A.refusals A.calls parts.old.agreement parts.new.agreement }
         ensures hosts { KeepsHosts H.lawful H.obliging H.accepts H.trusts H.refused_sign H.refused_verify H.refused_check H.calls parts.old.hosts parts.new.hosts }
         ensures groups { KeepsGroups G.lawful G.obliging G.group G.refusals G.calls parts.old.groups parts.new.groups }
+        ensures calls { (counted_by A.calls H.calls G.calls parts.new.agreement parts.new.hosts parts.new.groups) ≡ (counted_by A.calls H.calls G.calls parts.old.agreement parts.old.hosts parts.old.groups) }
+        ensures side { OnOk result (SideAsks self.old.transport self.new.transport (counted_by A.calls H.calls G.calls parts.old.agreement parts.old.hosts parts.old.groups) (counted_by A.calls H.calls G.calls parts.old.agreement parts.old.hosts parts.old.groups)) }
     {
         self.transport.rekey(parts)
     }
 
     /// Takes so many bytes of the other's output, or all that wait where fewer do.
+    #[tactic(auto, using(crate::proofs::Asking::fed_asks, crate::proofs::Asking::kept_asks))]
     pub(crate) fn deliver<A: Agreement, H: HostKeys, G: GroupLookup, R: Rng>(
         &mut self,
         parts: &mut Parts<A, H, G, R>,
@@ -99,6 +106,8 @@ impl<'c> LinkEnd<'c> {
         ensures agreement { KeepsAgreement A.lawful A.obliging A.offered A.refusals A.calls parts.old.agreement parts.new.agreement }
         ensures hosts { KeepsHosts H.lawful H.obliging H.accepts H.trusts H.refused_sign H.refused_verify H.refused_check H.calls parts.old.hosts parts.new.hosts }
         ensures groups { KeepsGroups G.lawful G.obliging G.group G.refusals G.calls parts.old.groups parts.new.groups }
+        ensures asks { OnOk result (SideAsks self.old.transport self.new.transport (counted_by A.calls H.calls G.calls parts.old.agreement parts.old.hosts parts.old.groups) (counted_by A.calls H.calls G.calls parts.new.agreement parts.new.hosts parts.new.groups)) }
+        ensures asked { self.old.transport.failed ≡ false → OnErr result (PieceAsks (says_of A.lawful A.offered A.client_makes A.server_makes A.agrees H.lawful H.obliging H.accepts H.trusts H.makes G.lawful G.group self.old.transport.config parts.old.agreement parts.old.hosts parts.old.groups) (end_of self.old) wire.now count (counted_by A.calls H.calls G.calls parts.old.agreement parts.old.hosts parts.old.groups) (counted_by A.calls H.calls G.calls parts.new.agreement parts.new.hosts parts.new.groups)) }
     {
         let waiting = rest_of(wire, self.taken);
         let count = count.min(waiting.len() as u64) as usize;

@@ -208,7 +208,7 @@ any_refused says denies untrusted r config w cl sl side took piece old new e val
     quiet = subst (λ c. IsQuiet c f.at) f.config f.done
 
     v : TurnsBy t side (took ++ piece) f.events mid h peer
-    v = taken_turn says config side took piece f.events f.behind h peer old mid x.whole_id x.stands x.honest (record { side = refl; config = refl; steps = f.steps; output = refl; delivered = refl; quiet = quiet; live = refl }) f.heard f.read
+    v = taken_turn says config side took piece f.events f.behind h peer old mid x.whole_id x.stands x.honest (record { side = refl; config = refl; steps = f.steps; output = refl; not_called = (quiet).not_called; live = refl }) f.heard f.read
 
     k : LinkEnd
     k = end_behind side h f.events v.piece mid

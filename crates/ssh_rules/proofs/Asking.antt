@@ -1,5 +1,5 @@
 -- How often a side's parts are asked: no more than its events and its messages let them be.
-use Rattle.std.proofs.Common.{◌≡◌, ℕ, ◌+◌, ◌-◌, ◌*◌, ◌≤◌, Bool, true, false, List, [], ◌∷◌, refl, sym, ap, ◌∙◌, subst, arith, Option, Some, None}
+use Rattle.std.proofs.Common.{◌≡◌, ℕ, ◌+◌, ◌≤◌, Bool, true, false, List, refl, ap, ◌∙◌, arith, Option, None}
 use Rattle.ssh_wire.specs.declared.side.Side.{Side}
 use Rattle.ssh_wire.specs.declared.side.Side.TheVariants.{Client, Server}
 use Rattle.ssh_kex.specs.Setting.{Says}
@@ -8,10 +8,11 @@ use Rattle.ssh_kex.specs.Stepping.{asks_agreement, asks_hosts, asks_groups, once
 use Rattle.ssh_kex.specs.declared.config.Config.{Config}
 use Rattle.ssh_rules.specs.Asking.{PartCalls, AsksWithin, AsksForMessage, AsksForType, AsksForCause, AsksUntil, AsksOnce}
 use Rattle.ssh_rules.specs.Calls.{agreement_left, hosts_left, lookups_left}
-use Rattle.ssh_rules.specs.Counting.{begun, agreement_to_come, hosts_to_come, lookups_to_come, calls_of, lookups_of, CallsFrom}
-use Rattle.ssh_rules.specs.Machine.{Where, Silent, Outside, Inside, SideState, Event, Steps}
+use Rattle.ssh_rules.specs.Counting.{begun, agreement_to_come, hosts_to_come, lookups_to_come, calls_of, lookups_of, CallsFrom, group_in, groups_chosen, groups_in, request_due}
+use Rattle.ssh_rules.specs.Machine.{Where, SideState, Event, Steps, names_now}
 use Rattle.ssh_rules.specs.Standing.{OfFault, OfMemory, OfPacket, OfVersion, RefusalCause}
 use Rattle.ssh_rules.proofs.Calls.{at_most_one}
+use Rattle.ssh_rules.proofs.GroupsChosen.{steps_groups}
 use Rattle.ssh_rules.proofs.CallsRun.{Counts, Pays, calls_join, calls_steps, agreement_counts, agreement_pays, hosts_counts, hosts_pays, lookups_counts, lookups_pays}
 
 -- ---- states
@@ -20,11 +21,16 @@ calls_still : (to_come : Where → ℕ) (each : ℕ) (st st' : SideState) (n : �
 calls_still to_come each st st' n e = let a : to_come st'.stands ≡ to_come st.stands = ap to_come e in (omega arith, omega (arith, a))
 
 -- nothing is asked where a side stands still
-pub asks_still : (side : Side) (st st' : SideState) (n : PartCalls) → st'.stands ≡ st.stands → AsksWithin side st st' n n
-asks_still side st st' n e = record {
+pub asks_still : (side : Side) (st st' : SideState) (n : PartCalls) → st'.stands ≡ st.stands → st'.records ≡ st.records → AsksWithin side st st' n n
+asks_still side st st' n e f = record {
   agreement = calls_still (agreement_to_come side) (calls_of side) st st' n.agreement e;
   hosts = calls_still (hosts_to_come side) (calls_of side) st st' n.hosts e;
   lookups = calls_still (lookups_to_come side) (lookups_of side) st st' n.lookups e;
+  groups = (
+      let a : request_due st'.stands ≡ request_due st.stands = ap request_due e in
+      let b : groups_chosen st' ≡ groups_chosen st = ap (λ (w : Where). groups_in st'.records + group_in (names_now w)) e ∙ ap (λ r. groups_in r + group_in (names_now st.stands)) f in
+      omega (arith, a, b)
+      );
 }
 
 pub asks_join : (side : Side) (a b c : SideState) (n m k : PartCalls) → begun a ≤ begun b → begun b ≤ begun c → AsksWithin side a b n m → AsksWithin side b c m k → AsksWithin side a c n k
@@ -32,6 +38,7 @@ asks_join side a b c n m k l r p q = record {
   agreement = calls_join (agreement_to_come side) (calls_of side) a b c n.agreement m.agreement k.agreement l r p.agreement q.agreement;
   hosts = calls_join (hosts_to_come side) (calls_of side) a b c n.hosts m.hosts k.hosts l r p.hosts q.hosts;
   lookups = calls_join (lookups_to_come side) (lookups_of side) a b c n.lookups m.lookups k.lookups l r p.lookups q.lookups;
+  groups = (let x = p.groups in let y = q.groups in omega (arith, x, y));
 }
 
 none_from : (c : Counts) (says : Says) (side : Side) (config : Config) (own_id : List ℕ) (log : List Event) (st st' : SideState) (n : ℕ) → Pays c says side config own_id → Steps says side config own_id st log st' → CallsFrom c.to_come c.each st st' n n
@@ -43,6 +50,7 @@ asks_steps says side config own_id log st st' n h = record {
   agreement = none_from (agreement_counts side) says side config own_id log st st' n.agreement (agreement_pays says side config own_id) h;
   hosts = none_from (hosts_counts side) says side config own_id log st st' n.hosts (hosts_pays says side config own_id) h;
   lookups = none_from (lookups_counts side) says side config own_id log st st' n.lookups (lookups_pays says side config own_id) h;
+  groups = steps_groups says side config own_id log st st' n.lookups h;
 }
 
 -- ---- what a stage asks
@@ -85,7 +93,7 @@ once_none to_come each w n = (omega arith, omega arith, omega arith)
 
 -- none is asked
 pub message_none : (side : Side) (w : Where) (n : PartCalls) → AsksForMessage side w n n
-message_none side w n = record { agreement = once_none (agreement_to_come side) (calls_of side) w n.agreement; hosts = once_none (hosts_to_come side) (calls_of side) w n.hosts; lookups = once_none (lookups_to_come side) (lookups_of side) w n.lookups }
+message_none side w n = record { agreement = once_none (agreement_to_come side) (calls_of side) w n.agreement; hosts = once_none (hosts_to_come side) (calls_of side) w n.hosts; lookups = once_none (lookups_to_come side) (lookups_of side) w n.lookups; groups = omega arith }
 
 pub type_none : (kex : Bool) (side : Side) (w : Where) (n : PartCalls) → AsksForType kex side w n n
 type_none true side w n = message_none side w n

@@ -1,5 +1,5 @@
 -- Each call on a transport that is a side of a link is a turn of it.
-use Rattle.std.proofs.Common.{◌≡◌, ℕ, List, [], ◌∷◌, ◌++◌, length, drop, refl, sym, ◌∙◌, ap, subst, Some, inl, inr, length-append, append-nil, append_assoc}
+use Rattle.std.proofs.Common.{false, ◌≡◌, ℕ, List, [], ◌∷◌, ◌++◌, length, drop, refl, sym, ◌∙◌, ap, subst, Some, inl, inr, length-append, append-nil, append_assoc}
 use Rattle.ssh_wire.specs.Lines.{NotYet, Id, Version, id_of, id_line, id_text}
 use Rattle.ssh_wire.specs.Reading.{IdReading, still_allowed}
 use Rattle.ssh_wire.specs.Sides.{other_side}
@@ -64,21 +64,34 @@ no_bytes side at (ExchangeFinished i x ∷ es) e = absurd (cons_nil i (handled e
 at_side : (P : Side → Config → SideState → Type 0) (a a' : Side) (b b' : Config) (c c' : SideState) → a ≡ a' → b ≡ b' → c ≡ c' → P a b c → P a' b' c'
 at_side P a a' b b' c c' e f g p = subst (λ z. P a' b' z) g (subst (λ y. P a' y c) f (subst (λ x. P x b c) e p))
 
+-- some events led from a transport to another, and nothing was called for that isn't done
+pub record ActsPart (says : Says) (old : Standing) (events : List Event) (new : Standing) : Type 0 where
+  pub side : new.side ≡ old.side
+  pub config : new.config ≡ old.config
+  pub steps : Steps says old.side old.config (id_text old.config.id) old.state events new.state
+  pub output : new.output ≡ old.output ++ sent_bytes old.side old.state.writing events
+  pub not_called : new.state.called ≡ false
+  pub live : new.failed ≡ false
+
+part_of : (says : Says) (old : Standing) (events : List Event) (new : Standing) → Acts says old events new → ActsPart says old events new
+part_of says old events new a = record { side = a.side; config = a.config; steps = a.steps; output = a.output; not_called = a.quiet.not_called; live = a.live }
+
 record ActsAt (says : Says) (side : Side) (config : Config) (events : List Event) (h : LinkEnd) (old new : Standing) : Type 0 where
   pub side_is : new.side ≡ side
   pub config_is : new.config ≡ config
   pub steps : Steps says side config (id_text config.id) h.state events new.state
   pub output : new.output ≡ old.output ++ sent_bytes side h.state.writing events
-  pub quiet : IsQuiet config new.state
 
-acts_at : (says : Side → Says) (config : Side → Config) (side : Side) (took : List ℕ) (events : List Event) (h : LinkEnd) (old new : Standing) → StandsAs (talkers says config) side took old h → Acts (says side) old events new → ActsAt (says side) side (config side) events h old new
+acts_at : (says : Side → Says) (config : Side → Config) (side : Side) (took : List ℕ) (events : List Event) (h : LinkEnd) (old new : Standing) → StandsAs (talkers says config) side took old h → ActsPart (says side) old events new → ActsAt (says side) side (config side) events h old new
 acts_at says config side took events h old new s a = record {
   side_is = a.side ∙ s.side_is;
   config_is = a.config ∙ s.config_is;
   steps = at_side (λ x y z. Steps (says side) x y (id_text y.id) z events new.state) old.side side old.config (config side) old.state h.state s.side_is s.config_is s.state_is a.steps;
   output = at_side (λ x y z. new.output ≡ old.output ++ sent_bytes x z.writing events) old.side side old.config (config side) old.state h.state s.side_is s.config_is s.state_is a.output;
-  quiet = subst (λ c. IsQuiet c new.state) (a.config ∙ s.config_is) a.quiet;
 }
+
+quiet_at : (says : Side → Says) (config : Side → Config) (side : Side) (took : List ℕ) (events : List Event) (h : LinkEnd) (old new : Standing) → StandsAs (talkers says config) side took old h → Acts (says side) old events new → IsQuiet (config side) new.state
+quiet_at says config side took events h old new s a = subst (λ c. IsQuiet c new.state) (a.config ∙ s.config_is) a.quiet
 
 -- ---- lists
 
@@ -109,7 +122,7 @@ pub record TurnsBy (t : Talkers) (side : Side) (took : List ℕ) (events : List 
   pub stands : StandsAs t side took new (end_behind side h events piece new)
 
 -- Some events that a piece of an honest peer's wire led to, whether or not something whole is left.
-pub taken_turn : (says : Side → Says) (config : Side → Config) (side : Side) (took piece : List ℕ) (events : List Event) (behind : List ℕ) (h peer : LinkEnd) (old new : Standing) → IsWholeId (config (other_side side)) → StandsAs (talkers says config) side took old h → HasFront (id_line (config (other_side side)).id ++ peer.sent) (took ++ piece) → Acts (says side) old events new → ReadsIdLine old piece events new.line behind → behind ≡ read_bytes old.side old.state.reading events ++ new.waiting → TurnsBy (talkers says config) side (took ++ piece) events new h peer
+pub taken_turn : (says : Side → Says) (config : Side → Config) (side : Side) (took piece : List ℕ) (events : List Event) (behind : List ℕ) (h peer : LinkEnd) (old new : Standing) → IsWholeId (config (other_side side)) → StandsAs (talkers says config) side took old h → HasFront (id_line (config (other_side side)).id ++ peer.sent) (took ++ piece) → ActsPart (says side) old events new → ReadsIdLine old piece events new.line behind → behind ≡ read_bytes old.side old.state.reading events ++ new.waiting → TurnsBy (talkers says config) side (took ++ piece) events new h peer
 taken_turn says config side took piece events behind h peer old new whole s honest acts line_read read_is = by s.come where
   line : List ℕ
   line = id_line (config (other_side side)).id
@@ -126,7 +139,7 @@ taken_turn says config side took piece events behind h peer old new whole s hone
   turn_with : (p : List ℕ) → h.unfinished ++ p ≡ behind → HasFront peer.sent (h.fed ++ p) → HearsAs text events → HasCome line (took ++ piece) new.line new.waiting (end_behind side h events p new) → TurnsBy (talkers says config) side (took ++ piece) events new h peer
   turn_with p e front heard come = record {
     piece = p;
-    turn = record { steps = a.steps; sends = refl; takes = refl; reads = e ∙ read; honest = front; heard = heard; answered = a.quiet.not_called };
+    turn = record { steps = a.steps; sends = refl; takes = refl; reads = e ∙ read; honest = front; heard = heard; answered = acts.not_called };
     stands = record { side_is = a.side_is; config_is = a.config_is; state_is = refl; live = acts.live; come = come };
   }
 
@@ -189,16 +202,16 @@ input_turn says config side took piece h peer old new whole s honest i = record 
   behind = end_behind side h i.events v.piece new;
   turn = v.turn;
   stands = v.stands;
-  rests = record { quiet = a.quiet; part = i.part };
+  rests = record { quiet = quiet_at says config side took i.events h old new s i.acts; part = i.part };
   sent_is = refl;
   output_is = a.output;
   delivered_is = i.acts.delivered;
 } where
   a : ActsAt (says side) side (config side) i.events h old new
-  a = acts_at says config side took i.events h old new s i.acts
+  a = acts_at says config side took i.events h old new s (part_of (says side) old i.events new i.acts)
 
   v : TurnsBy (talkers says config) side (took ++ piece) i.events new h peer
-  v = taken_turn says config side took piece i.events i.behind h peer old new whole s honest i.acts i.line i.read
+  v = taken_turn says config side took piece i.events i.behind h peer old new whole s honest (part_of (says side) old i.events new i.acts) i.line i.read
 
 -- An honest peer's wire is never answered as one that has no version line.
 pub no_version : (says : Side → Says) (config : Side → Config) (side : Side) (took piece : List ℕ) (events : List Event) (h peer : LinkEnd) (old : Standing) → IsWholeId (config (other_side side)) → StandsAs (talkers says config) side took old h → HasFront (id_line (config (other_side side)).id ++ peer.sent) (took ++ piece) → IsNoId old.side old.line piece events → ⊥
@@ -228,15 +241,15 @@ quiet_turn says config side took events h peer old new s r front acts none silen
   piece = [];
   written = sent_bytes side h.state.writing events;
   behind = behind;
-  turn = record { steps = a.steps; sends = refl; takes = sym (append-nil h.fed); reads = append-nil h.unfinished ∙ ap (λ q. q ++ h.unfinished) (sym (no_bytes side h.state.reading events none)); honest = front; heard = none_as _ events silent; answered = a.quiet.not_called };
+  turn = record { steps = a.steps; sends = refl; takes = sym (append-nil h.fed); reads = append-nil h.unfinished ∙ ap (λ q. q ++ h.unfinished) (sym (no_bytes side h.state.reading events none)); honest = front; heard = none_as _ events silent; answered = acts.quiet.not_called };
   stands = record { side_is = a.side_is; config_is = a.config_is; state_is = refl; live = acts.live; come = come s.come };
-  rests = rests_again (says side) side (config side) (id_text (config side).id) events h behind r none a.steps refl a.quiet;
+  rests = rests_again (says side) side (config side) (id_text (config side).id) events h behind r none a.steps refl (quiet_at says config side took events h old new s acts);
   sent_is = refl;
   output_is = a.output;
   delivered_is = acts.delivered;
 } where
   a : ActsAt (says side) side (config side) events h old new
-  a = acts_at says config side took events h old new s acts
+  a = acts_at says config side took events h old new s (part_of (says side) old events new acts)
 
   behind : LinkEnd
   behind = record { state = new.state; sent = h.sent ++ sent_bytes side h.state.writing events; fed = h.fed; unfinished = h.unfinished }

@@ -43,7 +43,7 @@ pub use Rattle.ssh_rules.proofs.OnlyParts.{PartsRefuse, ReadsWell, only_parts_re
 pub use Rattle.ssh_rules.proofs.NextWhole.{next_opens, next_whole}
 pub use Rattle.ssh_rules.proofs.Facing.{IsFaced, is_faced}
 pub use Rattle.ssh_rules.proofs.NoneRefused.{AreMet, host_presented, nothing_refused, parts_decide}
-pub use Rattle.ssh_rules.proofs.RefusedTurns.{AreLawful, refused_turn}
+pub use Rattle.ssh_rules.proofs.RefusedTurns.{fit_of, AreLawful, refused_turn}
 pub use Rattle.ssh_rules.proofs.LinkCauses.{Causes, Tells, link_cause, none_in_link, offers_by}
 pub use Rattle.ssh_rules.proofs.AnyRefusals.{any_refused, client_played, reached_played, server_played}
 pub use Rattle.ssh_rules.proofs.Obliged.{AreSmall, Duties}
@@ -51,3 +51,5 @@ pub use Rattle.ssh_rules.proofs.Owed.{PartLaws, duties_of, small_of}
 pub use Rattle.ssh_rules.proofs.RunHandled.{behind_handled, handled_place, run_handled, run_faulted}
 pub use Rattle.ssh_rules.proofs.Numbers.{few_run}
 pub use Rattle.ssh_rules.proofs.Moved.{same_mark}
+pub use Rattle.ssh_rules.proofs.AskedLinks.{AskedFew, FewAt, IsSoFar, RefusedHere, asked_few, begun_of, few_at, kinds_of, so_far_settled, times_up}
+pub use Rattle.ssh_rules.proofs.Came.{came}

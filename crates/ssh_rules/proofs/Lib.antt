@@ -73,6 +73,7 @@ pub mod OneRun
 pub mod Trail
 pub mod Starts
 pub mod CallsRun
+pub mod GroupsChosen
 pub mod Asking
 pub mod FewAsked
 pub mod LinkFew
@@ -99,4 +100,6 @@ pub mod AnyRefusals
 pub mod SettleRoom
 pub mod SettleEnds
 pub mod Owed
+pub mod AskedLinks
+pub mod Came
 pub mod Lemmas

@@ -37,7 +37,7 @@ nil_front [] b e = refl
 nil_front (x ∷ a) b e = cc
 
 -- and no fault
-nothing_refused : (sealing : Sealing) (number : ℕ) (fault : Fault) → front_of sealing number [] ≡ Refused fault → ⊥
+pub nothing_refused : (sealing : Sealing) (number : ℕ) (fault : Fault) → front_of sealing number [] ≡ Refused fault → ⊥
 unfolding front_of
 nothing_refused Clear number fault e = (let q : Unfinished ≡ Refused fault = e in cc)
 nothing_refused (Block running mac) number fault e = (let q : Unfinished ≡ Refused fault = e in cc)

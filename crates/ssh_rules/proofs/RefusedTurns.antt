@@ -189,7 +189,7 @@ stage_kex (AwaitsValue o gex) = by (Rattle.ssh_kex.specs.Messages.is_gex o.names
   by false = refl
 stage_kex (AwaitsNewkeys exchange made host) = refl
 
-kex_twice : (t : ℕ) → is_kex_type t ≡ true → is_kex_type t ≡ false → ⊥
+pub kex_twice : (t : ℕ) → is_kex_type t ≡ true → is_kex_type t ≡ false → ⊥
 kex_twice t e f = (let q : true ≡ false = sym e ∙ f in cc)
 
 stage_not_out : (s : Where) (stage : Stage) → s ≡ Inside stage → s ≡ Outside → ⊥
@@ -305,7 +305,7 @@ refused_turn says denies untrusted config w cl sl side took piece old new e m r 
   by OfVersion f a = absurd (no_version says config side took piece f.events h peer old r.whole_id r.stands r.honest f.heard)
   by (OfFault fault) f a = absurd (let s = seen_by t b.world b.cl b.sl side fit b.reached in next_opens t side s.log s.plog (one_of side b.world.client b.world.server) (one_of (other_side side) b.world.client b.world.server) fault s.run s.peer_run s.fed s.front s.agree (subst (λ z. front_of z.state.reading.sealing z.state.reading.number z.unfinished ≡ Rattle.ssh_packet.specs.Front.Refused fault) (sym b.here) f.next)) where
     v : TurnsBy t side (took ++ piece) f.events (stood_at (says side) old piece (OfFault fault) new f) h peer
-    v = taken_turn says config side took piece f.events f.behind h peer old (stood_at (says side) old piece (OfFault fault) new f) r.whole_id r.stands r.honest (record { side = refl; config = refl; steps = f.steps; output = refl; delivered = refl; quiet = subst (λ c. IsQuiet c f.at) f.config f.done; live = refl }) f.heard f.read
+    v = taken_turn says config side took piece f.events f.behind h peer old (stood_at (says side) old piece (OfFault fault) new f) r.whole_id r.stands r.honest (record { side = refl; config = refl; steps = f.steps; output = refl; not_called = (subst (λ c. IsQuiet c f.at) f.config f.done).not_called; live = refl }) f.heard f.read
 
     b : Behind t w side v.piece f.events (end_behind side h f.events v.piece (stood_at (says side) old piece (OfFault fault) new f))
     b = behind_turn t w cl sl side v.piece f.events (end_behind side h f.events v.piece (stood_at (says side) old piece (OfFault fault) new f)) fit r.reached v.turn
@@ -317,7 +317,7 @@ refused_turn says denies untrusted config w cl sl side took piece old new e m r 
     quiet = subst (λ c. IsQuiet c f.at) f.config f.done
 
     v : TurnsBy t side (took ++ piece) f.events mid h peer
-    v = taken_turn says config side took piece f.events f.behind h peer old mid r.whole_id r.stands r.honest (record { side = refl; config = refl; steps = f.steps; output = refl; delivered = refl; quiet = quiet; live = refl }) f.heard f.read
+    v = taken_turn says config side took piece f.events f.behind h peer old mid r.whole_id r.stands r.honest (record { side = refl; config = refl; steps = f.steps; output = refl; not_called = (quiet).not_called; live = refl }) f.heard f.read
 
     k : LinkEnd
     k = end_behind side h f.events v.piece mid

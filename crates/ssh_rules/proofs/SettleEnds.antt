@@ -47,7 +47,7 @@ steps_allow t kind steps snapshots h r =
     omega (arith, a.0, a.1, c, d, e)
 
 -- a settle asks for none, and submits nothing
-settle_allows : (t : Talkers) (s s' : Snapshot) → LeadsOn t (Some Settle) s s' → submitted_in s'.cl ≡ submitted_in s.cl → submitted_in s'.sl ≡ submitted_in s.sl → most_allowed s'.cl s'.sl ≡ most_allowed s.cl s.sl
+pub settle_allows : (t : Talkers) (s s' : Snapshot) → LeadsOn t (Some Settle) s s' → submitted_in s'.cl ≡ submitted_in s.cl → submitted_in s'.sl ≡ submitted_in s.sl → most_allowed s'.cl s'.sl ≡ most_allowed s.cl s.sl
 settle_allows t s s' b e f =
     let x = none_client t Settle s s' (λ q. cc) b in
     let y = none_server t Settle s s' (λ q. cc) b in
@@ -55,7 +55,7 @@ settle_allows t s s' b e f =
     let d = ap length f in
     omega (arith, x, y, c, d)
 
-few_begun : (t : Talkers) (turns : List Turn) (w : World) (cl sl : List Event) → AreFit t → HaveLimits t → Plays t first_world turns w → cl ≡ client_log turns → sl ≡ server_log turns → IsReached t w cl sl → (begun w.client.state ≤ most_allowed cl sl) × (begun w.server.state ≤ most_allowed cl sl)
+pub few_begun : (t : Talkers) (turns : List Turn) (w : World) (cl sl : List Event) → AreFit t → HaveLimits t → Plays t first_world turns w → cl ≡ client_log turns → sl ≡ server_log turns → IsReached t w cl sl → (begun w.client.state ≤ most_allowed cl sl) × (begun w.server.state ≤ most_allowed cl sl)
 few_begun t turns w cl sl fit limits p ec es h =
     let b = link_bounded t turns w fit limits p in
     let m : most_begun cl sl ≡ most_begun (client_log turns) (server_log turns) = ap (λ q. most_begun q sl) ec ∙ ap (λ q. most_begun (client_log turns) q) es in
@@ -63,7 +63,7 @@ few_begun t turns w cl sl fit limits p ec es h =
     let y = few_sent t Server sl w.server h.server in
     (omega (arith, b.0, m, x, y), omega (arith, b.1, m, x, y))
 
-leads_then : (t : Talkers) (step : Option link.Step) (s m s' : Snapshot) → LeadsTo t s m → LeadsOn t step m s' → LeadsTo t s s'
+pub leads_then : (t : Talkers) (step : Option link.Step) (s m s' : Snapshot) → LeadsTo t s m → LeadsOn t step m s' → LeadsTo t s s'
 leads_then t step s m s' l b = record {
   turns = l.turns ++ b.turns;
   plays = plays_join t l.turns b.turns s.world m.world s'.world l.plays b.plays;

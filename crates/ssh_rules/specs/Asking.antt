@@ -3,7 +3,7 @@ use Rattle.std.specs.Prelude.{◌≡◌, ℕ, ◌+◌, ◌≤◌, if◌then◌el
 use Rattle.ssh_packet.specs.Sealing.{Item}
 use Rattle.ssh_wire.specs.declared.side.Side.{Side}
 use Rattle.ssh_kex.specs.Setting.{Says}
-use Rattle.ssh_rules.specs.Counting.{CallsFrom, agreement_to_come, calls_of, hosts_to_come, lookups_of, lookups_to_come}
+use Rattle.ssh_rules.specs.Counting.{CallsFrom, LookupsFrom, agreement_to_come, calls_of, hosts_to_come, lookups_of, lookups_to_come, request_due}
 use Rattle.ssh_rules.specs.Log.{handled}
 use Rattle.ssh_rules.specs.Machine.{Event, Inside, Outside, SideState, Silent, Where}
 use Rattle.ssh_rules.specs.MessageTypes.{is_kex_type, type_of}
@@ -19,11 +19,13 @@ pub record PartCalls : Type 0 where
 abbrev pub counted_by : {A H G : Type 0} (agreement : A → ℕ) (hosts : H → ℕ) (lookups : G → ℕ) → A → H → G → PartCalls
 counted_by agreement hosts lookups a h g = record { agreement = agreement a; hosts = hosts h; lookups = lookups g }
 
--- Between two states each part was asked no more often than was to come and than the exchanges that were begun ask it.
+-- Between two states each part was asked no more often than was to come and than the exchanges that were begun ask it, and
+-- the lookup in group exchanges alone.
 pub record AsksWithin (side : Side) (st st' : SideState) (calls calls' : PartCalls) : Type 0 where
   pub agreement : CallsFrom (agreement_to_come side) (calls_of side) st st' calls.agreement calls'.agreement
   pub hosts : CallsFrom (hosts_to_come side) (calls_of side) st st' calls.hosts calls'.hosts
   pub lookups : CallsFrom (lookups_to_come side) (lookups_of side) st st' calls.lookups calls'.lookups
+  pub groups : LookupsFrom st st' calls.lookups calls'.lookups
 
 -- ---- one message
 
@@ -38,11 +40,12 @@ abbrev pub AsksOnce : (Where → ℕ) → ℕ → Where → ℕ → ℕ → Type
 AsksOnce to_come each stands calls calls' =
     (calls ≤ calls') × (calls' ≤ calls + 1) × (calls' ≤ calls + to_come_for to_come each stands)
 
--- each part, for a message of an exchange
+-- each part, for a message of an exchange, and the lookup where it may be the request for a group
 pub record AsksForMessage (side : Side) (stands : Where) (calls calls' : PartCalls) : Type 0 where
   pub agreement : AsksOnce (agreement_to_come side) (calls_of side) stands calls.agreement calls'.agreement
   pub hosts : AsksOnce (hosts_to_come side) (calls_of side) stands calls.hosts calls'.hosts
   pub lookups : AsksOnce (lookups_to_come side) (lookups_of side) stands calls.lookups calls'.lookups
+  pub groups : calls'.lookups ≤ calls.lookups + request_due stands
 
 -- by whether a packet is one
 abbrev pub AsksForType : Bool → Side → Where → PartCalls → PartCalls → Type 0

@@ -1,10 +1,13 @@
 -- How much a side can still write.
-use Rattle.std.specs.Prelude.{ℕ, ◌+◌, ◌-◌, ◌*◌, ◌≤◌, length}
+use Rattle.std.specs.Prelude.{ℕ, ◌+◌, ◌-◌, ◌*◌, ◌≤◌, if◌then◌else◌, List, [], ◌∷◌, length, Option, Some, None}
 use Rattle.ssh_wire.specs.declared.side.Side.{Side}
 use Rattle.ssh_wire.specs.declared.side.Side.TheVariants.{Client, Server}
+use Rattle.ssh_negotiate.specs.declared.negotiation.Names.{Names}
+use Rattle.ssh_kex.specs.Messages.{is_gex}
+use Rattle.ssh_kex.specs.declared.exchange.FinishedExchange.{FinishedExchange}
 use Rattle.ssh_kex.specs.Stages.{Created, AwaitsGroup, AwaitsReply, AwaitsRequest, AwaitsValue, AwaitsNewkeys}
 use Rattle.ssh_rules.specs.Calls.{agreement_left, hosts_left, lookups_left}
-use Rattle.ssh_rules.specs.Machine.{Where, Silent, Outside, Inside, SideState}
+use Rattle.ssh_rules.specs.Machine.{Where, Silent, Outside, Inside, SideState, names_now}
 
 -- the exchange that is open
 abbrev pub open_count : Where → ℕ
@@ -67,3 +70,34 @@ lookups_of Server = 1
 abbrev pub CallsFrom : (Where → ℕ) → ℕ → SideState → SideState → ℕ → ℕ → Type 0
 CallsFrom to_come each st st' calls calls' =
     (calls ≤ calls') × (calls' + to_come st'.stands ≤ calls + to_come st.stands + each * (begun st' - begun st))
+
+-- ---- group exchanges
+
+-- one where a group exchange was chosen
+abbrev pub group_in : Option Names → ℕ
+group_in None = 0
+group_in (Some n) = if is_gex n.kex then 1 else 0
+
+abbrev pub groups_in : List FinishedExchange → ℕ
+groups_in [] = 0
+groups_in (x ∷ records) = group_in (Some x.names) + groups_in records
+
+-- for how many exchanges a group exchange was chosen, the open one among them
+abbrev pub groups_chosen : SideState → ℕ
+groups_chosen st = groups_in st.records + group_in (names_now st.stands)
+
+-- one where the request for a group is still to come
+abbrev pub request_due : Where → ℕ
+request_due Silent = 0
+request_due Outside = 0
+request_due (Inside (Created own)) = 0
+request_due (Inside (AwaitsGroup o)) = 0
+request_due (Inside (AwaitsReply o group local public)) = 0
+request_due (Inside (AwaitsRequest o)) = 1
+request_due (Inside (AwaitsValue o group)) = 0
+request_due (Inside (AwaitsNewkeys exchange made host)) = 0
+
+-- a count of calls of the lookup: it rose only where a group exchange was chosen
+abbrev pub LookupsFrom : SideState → SideState → ℕ → ℕ → Type 0
+LookupsFrom st st' calls calls' =
+    calls' + request_due st'.stands + groups_chosen st ≤ calls + request_due st.stands + groups_chosen st'

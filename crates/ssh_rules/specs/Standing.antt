@@ -1,5 +1,5 @@
 -- A transport, as contracts see it, and what its calls do.
-use Rattle.std.specs.Prelude.{◌≡◌, ℕ, ◌<◌, Bool, true, false, List, [], ◌∷◌, ◌++◌, length, drop}
+use Rattle.std.specs.Prelude.{◌≡◌, ℕ, ◌<◌, Bool, true, false, List, [], ◌∷◌, ◌++◌, length, drop, ◌⊎◌}
 use Rattle.ssh_wire.specs.Lines as lines
 use Rattle.ssh_wire.specs.Lines.{IdFound, id_of, id_line, id_text}
 use Rattle.ssh_wire.specs.Reading.{IdReading, Waiting, Heard, Failed, still_allowed, reading_left}
@@ -144,16 +144,16 @@ IsNoId side (Waiting bytes others) piece events =
 IsNoId side (Heard text) piece events = ⊥
 IsNoId side Failed piece events = ⊥
 
--- what is read of the id line, by the cause: Version is that of the line, and Memory may come before its end
+-- what is read of the id line, by the cause: Version is that of the line, and Memory may come before anything is done
 abbrev pub HearsBy : RefusalCause → Standing → List ℕ → List Event → IdReading → List ℕ → Type 0
 HearsBy OfVersion old piece events line behind = IsNoId old.side old.line piece events
-HearsBy OfMemory old piece events line behind = Unit {0}
+HearsBy OfMemory old piece events line behind = (events ≡ []) ⊎ ReadsIdLine old piece events line behind
 HearsBy (OfFault fault) old piece events line behind = ReadsIdLine old piece events line behind
 HearsBy (OfPacket i) old piece events line behind = ReadsIdLine old piece events line behind
 
--- a packet or a fault is looked at when nothing is left to do
+-- a packet or a fault is looked at when nothing is left to do; memory may be wanting for what is
 abbrev pub IsIdleBefore : RefusalCause → Config → SideState → Type 0
-IsIdleBefore OfMemory config st = Unit {0}
+IsIdleBefore OfMemory config st = st.called ≡ false
 IsIdleBefore OfVersion config st = IsQuiet config st
 IsIdleBefore (OfFault fault) config st = IsQuiet config st
 IsIdleBefore (OfPacket i) config st = IsQuiet config st

@@ -6,12 +6,13 @@ use Rattle.ssh_wire.specs.declared.error.Error.{Error}
 use Rattle.ssh_wire.specs.declared.side.Side.{Side}
 use Rattle.ssh_wire.specs.declared.side.Side.TheVariants.{Client, Server}
 use Rattle.ssh_negotiate.specs.declared.kex.KexCause.{KexCause}
+use Rattle.ssh_negotiate.specs.declared.negotiation.Names.{Names}
 use Rattle.ssh_packet.specs.Sealing.{Item}
 use Rattle.ssh_packet.specs.Stream.{message_type}
 use Rattle.ssh_packet.specs.Writing.{Writer}
 use Rattle.ssh_packet.specs.declared.reader.Incoming.{Incoming}
 use Rattle.ssh_kex.specs.Setting.{Says, Setting}
-use Rattle.ssh_kex.specs.Stages.{Stage, Created, AwaitsGroup, AwaitsReply, AwaitsRequest, AwaitsValue, AwaitsNewkeys, Machine, Finishes, Skips}
+use Rattle.ssh_kex.specs.Stages.{Stage, Created, AwaitsGroup, AwaitsReply, AwaitsRequest, AwaitsValue, AwaitsNewkeys, Machine, Finishes, Skips, names_of}
 use Rattle.ssh_kex.specs.Stepping.{asks_agreement, asks_hosts, asks_groups, next_of, DropsGuess, IsDone, Progresses, TakesOne}
 use Rattle.ssh_kex.specs.declared.config.Config.{Config}
 use Rattle.ssh_kex.specs.declared.exchange.Exchange.{Exchange}
@@ -22,15 +23,15 @@ use Rattle.ssh_kex.specs.declared.progress.KexProgress.{KexProgress}
 use Rattle.ssh_kex.specs.declared.progress.KexProgress.TheVariants.{NeedsReply}
 use Rattle.ssh_kex.specs.declared.progress.KexProgress.TheVariants as progress
 use Rattle.ssh_kex.specs.declared.session_state.SessionKexState.{SessionKexState}
-use Rattle.ssh_kex.specs.declared.session_state.SessionKexState.TheVariants.{Idle, InProgress}
 use Rattle.ssh_rules.specs.Asking.{AsksForCause, AsksForMessage, AsksForType, AsksOnce, AsksUntil, AsksWithin, PartCalls, to_come_for}
 use Rattle.ssh_rules.specs.Calls.{agreement_left, hosts_left, lookups_left}
-use Rattle.ssh_rules.specs.Counting.{CallsFrom, agreement_to_come, begun, calls_of, hosts_to_come, lookups_of, lookups_to_come, open_count}
-use Rattle.ssh_rules.specs.Machine.{Event, Inside, Outside, SideState, Silent, Spot, Steps, Where}
+use Rattle.ssh_rules.specs.Counting.{CallsFrom, agreement_to_come, begun, calls_of, group_in, groups_chosen, groups_in, hosts_to_come, lookups_of, lookups_to_come, open_count, request_due}
+use Rattle.ssh_rules.specs.Machine.{Event, Inside, Outside, SideState, Spot, Steps, Where, names_now}
 use Rattle.ssh_rules.specs.Standing.{OfMemory, OfPacket, RefusalCause}
-use Rattle.ssh_rules.proofs.Asking.{StageBounds, asks_join, asks_still, asks_steps, cause_none, dropped_asks, stage_bounds}
+use Rattle.ssh_rules.proofs.Asking.{asks_join, asks_still, asks_steps, cause_none, dropped_asks, stage_bounds}
 use Rattle.ssh_rules.proofs.Calls.{asks_left, asks_lookups}
 use Rattle.ssh_rules.proofs.CallsRun.{begun_first, dropped_calls}
+use Rattle.ssh_rules.proofs.GroupsChosen.{dropped_group, groups_more, request_alone, taken_group}
 use Rattle.ssh_rules.proofs.Left.{begun_steps}
 use Rattle.ssh_transport.specs.Asking.{AsksBetween, AsksTo, MoveAsks, StepAsks, asks_trust, nowhere, state_of}
 use Rattle.ssh_transport.specs.Handling.{Installs, IsFor, IsOpen, Moves}
@@ -67,6 +68,7 @@ taken_asks says m i old new kex reset n n' (inl d) c =
       agreement = (c.agreement_later, (let y = c.agreement in omega (arith, y, z.0, k.0, a)));
       hosts = (c.hosts_later, (let y = c.hosts in omega (arith, y, z.1, k.1, h)));
       lookups = (c.lookups_later, (let y = c.lookups in omega (arith, y, z.2, k.2, l)));
+      groups = c.lookups;
     }
 taken_asks says m i old new kex reset n n' (inr t) c =
     let r = asks_left says m.setting m.stage i.seqn i.payload.now t.written kex.stage t.takes in
@@ -75,6 +77,7 @@ taken_asks says m i old new kex reset n n' (inr t) c =
       agreement = (c.agreement_later, (let y = c.agreement in omega (arith, y, r.0)));
       hosts = (c.hosts_later, (let y = c.hosts in omega (arith, y, r.1)));
       lookups = (c.lookups_later, (let y = c.lookups in omega (arith, y, q)));
+      groups = c.lookups;
     }
 
 -- a machine that awaits more
@@ -91,6 +94,7 @@ refused_asks side stage answer error n n' e h =
       agreement = (c.agreement_later, (let y = c.agreement in let z = b.agreement_once in omega (arith, y, z)), (let y = c.agreement in let z = b.agreement in omega (arith, y, z)));
       hosts = (c.hosts_later, (let y = c.hosts in let z = b.hosts_once in omega (arith, y, z)), (let y = c.hosts in let z = b.hosts in omega (arith, y, z)));
       lookups = (c.lookups_later, (let y = c.lookups in let z = b.lookups_once in omega (arith, y, z)), (let y = c.lookups in let z = b.lookups in omega (arith, y, z)));
+      groups = (let y = c.lookups in let z = request_alone stage in omega (arith, y, z));
     }
 
 -- ---- the end of an exchange
@@ -148,6 +152,7 @@ ends_on m i old new host k records n n' d c =
       agreement = ((let x = s.agreement_later in let y = c.agreement in omega (arith, x, y)), (let x = s.agreement in let y = c.agreement in let z = b.agreement in omega (arith, x, y, z, o.0)));
       hosts = ((let x = s.hosts_later in let y = c.hosts_later in omega (arith, x, y)), (let x = s.hosts in let y = c.hosts in let z = e.hosts in omega (arith, x, y, z, o.1)));
       lookups = ((let x = s.lookups_later in let y = c.lookups in omega (arith, x, y)), (let x = s.lookups in let y = c.lookups in let z = b.lookups in omega (arith, x, y, z, o.2)));
+      groups = (let x = s.lookups in let y = c.lookups in omega (arith, x, y));
     }
 
 pub ends_refused : (m : Machine) (i : Incoming) (old new : Writer) (host : Option ServerHost) (k : NewKeys) (n n' : PartCalls) → IsDone m i old host k new → EndCalls m.setting.side m.stage host n n' → AsksForMessage m.setting.side (Inside m.stage) n n'
@@ -159,6 +164,7 @@ ends_refused m i old new host k n n' d c =
       agreement = ((let x = s.agreement_later in let y = c.agreement in omega (arith, x, y)), (let x = s.agreement in let y = c.agreement in let z = b.agreement_once in omega (arith, x, y, z)), (let x = s.agreement in let y = c.agreement in let z = b.agreement in omega (arith, x, y, z)));
       hosts = ((let x = s.hosts_later in let y = c.hosts_later in omega (arith, x, y)), (let x = s.hosts in let y = c.hosts in let z = e.once in omega (arith, x, y, z)), (let x = s.hosts in let y = c.hosts in let z = e.hosts in omega (arith, x, y, z)));
       lookups = ((let x = s.lookups_later in let y = c.lookups in omega (arith, x, y)), (let x = s.lookups in let y = c.lookups in let z = b.lookups_once in omega (arith, x, y, z)), (let x = s.lookups in let y = c.lookups in let z = b.lookups in omega (arith, x, y, z)));
+      groups = (let x = s.lookups in let y = c.lookups in let z = request_alone m.stage in omega (arith, x, y, z));
     }
 
 -- the session behind it
@@ -246,9 +252,86 @@ between_side : (side : Side) (config : Config) (peer : List ℕ) (cause : KexCau
 between_side Client config peer cause = refl
 between_side Server config peer cause = refl
 
+-- ---- group exchanges
+
+-- where a message is for a session's machine, its request and its group are those of the stage
+record GroupsFor (s : Session) (stage : Stage) (records : List FinishedExchange) : Type 0 where
+  pub due : request_due (stands_of s.finished.items s.kex) ≡ request_due (Inside stage)
+  pub chosen : groups_chosen (state_of s) ≡ groups_in records + group_in (names_of stage)
+
+groups_for : (s s1 : Session) (m : Machine) → IsFor s m s1 → GroupsFor s m.stage s1.finished.items
+groups_for s s1 m (inl f) =
+    let stage : m.stage ≡ Created (f.0).item.payload = (f.0).stage_is in
+    let same : groups_in s1.finished.items ≡ groups_in s.finished.items = ap (λ (x : Session). groups_in x.finished.items) (f.0).becomes in
+    let none : group_in (names_now (stands_of s.finished.items s.kex)) ≡ 0 = ap (λ (w : Where). group_in (names_now w)) f.1 in
+    let first : group_in (names_of m.stage) ≡ 0 = ap (λ (x : Stage). group_in (names_of x)) stage in
+    record {
+      due = ap request_due f.1 ∙ sym (ap (λ (x : Stage). request_due (Inside x)) stage);
+      chosen = omega (arith, same, none, first);
+    }
+groups_for s s1 m (inr f) =
+    let same : groups_in s1.finished.items ≡ groups_in s.finished.items = ap (λ (x : Session). groups_in x.finished.items) f.1 in
+    let stands : stands_of s.finished.items s.kex ≡ Inside m.stage = ap (λ (k : SessionKexState Machine). stands_of s.finished.items k) f.0 in
+    let now : group_in (names_now (stands_of s.finished.items s.kex)) ≡ group_in (names_of m.stage) = ap (λ (w : Where). group_in (names_now w)) stands in
+    record { due = ap request_due stands; chosen = omega (arith, same, now) }
+
+-- an exchange that ends asks for no group any more
+ended_group : (s : Setting) (stage : Stage) (seqn : ℕ) (payload : List ℕ) (written : List (List ℕ)) (x : Exchange) (made : FinishedExchange) (host : Option ServerHost) → (Finishes stage payload x made host × (written ≡ [])) ⊎ Skips s stage seqn payload written x made host → asks_groups stage + group_in (names_of stage) ≤ request_due (Inside stage) + group_in (Some made.names)
+ended_group s (Created own) seqn payload written x made host (inl h) = absurd h.0
+ended_group s (Created own) seqn payload written x made host (inr h) = omega arith
+ended_group s (AwaitsGroup o) seqn payload written x made host (inl h) = absurd h.0
+ended_group s (AwaitsGroup o) seqn payload written x made host (inr h) = absurd h
+ended_group s (AwaitsReply o gex local public) seqn payload written x made host (inl h) = absurd h.0
+ended_group s (AwaitsReply o gex local public) seqn payload written x made host (inr h) = absurd h
+ended_group s (AwaitsRequest o) seqn payload written x made host (inl h) = absurd h.0
+ended_group s (AwaitsRequest o) seqn payload written x made host (inr h) = absurd h
+ended_group s (AwaitsValue o gex) seqn payload written x made host (inl h) = absurd h.0
+ended_group s (AwaitsValue o gex) seqn payload written x made host (inr h) = absurd h
+ended_group s (AwaitsNewkeys y m k) seqn payload written x made host (inl h) = (let a : group_in (Some made.names) ≡ group_in (Some m.names) = ap (λ (z : FinishedExchange). group_in (Some z.names)) (h.0).made_is in omega (arith, a))
+ended_group s (AwaitsNewkeys y m k) seqn payload written x made host (inr h) = absurd h
+
+-- a message that was handed to the machine
+moved_groups : (says : Says) (s1 s' : Session) (m : Machine) (i : Incoming) (answer : Handled) → Moves says s1 m i answer s' → asks_groups m.stage + request_due (stands_of s'.finished.items s'.kex) + (groups_in s1.finished.items + group_in (names_of m.stage)) ≤ request_due (Inside m.stage) + groups_chosen (state_of s')
+moved_groups says s1 s' m i Delivers h = absurd h
+moved_groups says s1 s' m i Done h =
+    let due : request_due (stands_of s'.finished.items s'.kex) ≡ request_due (Inside (h.next).stage) = ap (λ (x : Session). request_due (stands_of x.finished.items x.kex)) h.becomes in
+    let chosen : groups_chosen (state_of s') ≡ groups_in s1.finished.items + group_in (names_of (h.next).stage) = ap (λ (x : Session). groups_chosen (state_of x)) h.becomes in
+    elim h.does [
+      | inl d ↦ (
+          let z = dropped_asks m.setting.side m.stage (Some (h.next).stage) d.drops in
+          let k = dropped_group m.setting.side m.stage in
+          let e : (h.next).stage ≡ Rattle.ssh_kex.specs.Stages.guess_dropped m.setting.side m.stage = ap (λ (x : Machine). x.stage) d.kex_is in
+          let a = ap (λ (x : Stage). request_due (Inside x)) e in
+          let b = ap (λ (x : Stage). group_in (names_of x)) e in
+          omega (arith, due, chosen, z.2, k.0, k.1, a, b)
+          )
+      | inr t ↦ (
+          let g = taken_group says m.setting m.stage i.seqn i.payload.now t.written (h.next).stage t.takes in
+          omega (arith, due, chosen, g)
+          )
+    ]
+moved_groups says s1 s' m i (Rekeys opening again) h =
+    let more = h.installs.2 in
+    let idle : stands_of s'.finished.items s'.kex ≡ between s'.finished.items = ap (λ (x : Session). stands_of s'.finished.items x.kex) h.installs.3 in
+    let due : request_due (stands_of s'.finished.items s'.kex) ≡ 0 = ap request_due idle ∙ none_due s'.finished.items in
+    let now : group_in (names_now (stands_of s'.finished.items s'.kex)) ≡ 0 = ap (λ (w : Where). group_in (names_now w)) idle ∙ none_now s'.finished.items in
+    let records = ap groups_in more ∙ groups_more s1.finished.items _ in
+    let names : group_in (Some (h.newkeys).names) ≡ group_in (Some (h.done).made.names) = ap (λ (n : Names). group_in (Some n)) ((h.done).newkeys).names_is in
+    let e = ended_group m.setting m.stage i.seqn i.payload.now (h.done).written (h.done).exchange (h.done).made h.host (h.done).ends in
+    omega (arith, due, now, records, names, e)
+  where
+    none_due : (records : List FinishedExchange) → request_due (between records) ≡ 0
+    none_due [] = refl
+    none_due (x ∷ records) = refl
+
+    none_now : (records : List FinishedExchange) → group_in (names_now (between records)) ≡ 0
+    none_now [] = refl
+    none_now (x ∷ records) = refl
+
 -- a message that is taken
 pub message_asks : (says : Says) (s s1 s' : Session) (m : Machine) (i : Incoming) (answer : Handled) (n n' : PartCalls) → IsOpen s → IsFor s m s1 → Moves says s1 m i answer s' → MoveAsks m.setting.side m.stage (stands_of s'.finished.items s'.kex) n n' → AsksBetween s s' n n'
 message_asks says s s1 s' m i answer n n' o f h a =
+    let g = groups_for s s1 m f in
     let p = parts_for s s1 m (begun (state_of s')) (moved_begun says s1 s' m i answer h) f in
     let b : MoveAsks s.side m.stage (stands_of s'.finished.items s'.kex) n n' = subst (λ (x : Side). MoveAsks x m.stage (stands_of s'.finished.items s'.kex) n n') (ap (λ (x : Setting). x.side) (set_for s s1 m o f) ∙ between_side s.side s.config.now _ _) a in
     record {
@@ -257,6 +340,7 @@ message_asks says s s1 s' m i answer n n' o f h a =
         agreement = call_from (agreement_to_come s.side) (calls_of s.side) (state_of s) (state_of s') m.stage n.agreement n'.agreement p.agreement b.agreement;
         hosts = call_from (hosts_to_come s.side) (calls_of s.side) (state_of s) (state_of s') m.stage n.hosts n'.hosts p.hosts b.hosts;
         lookups = call_from (lookups_to_come s.side) (lookups_of s.side) (state_of s) (state_of s') m.stage n.lookups n'.lookups p.lookups b.lookups;
+        groups = (let x = b.groups in let y = moved_groups says s1 s' m i answer h in let z = g.due in let w = g.chosen in omega (arith, x, y, z, w));
       };
     }
 
@@ -269,6 +353,7 @@ message_refused_asks s s1 m n n' o f a =
       agreement = once_from (agreement_to_come s.side) (calls_of s.side) m.stage (stands_of s.finished.items s.kex) _ _ n.agreement n'.agreement p.agreement b.agreement;
       hosts = once_from (hosts_to_come s.side) (calls_of s.side) m.stage (stands_of s.finished.items s.kex) _ _ n.hosts n'.hosts p.hosts b.hosts;
       lookups = once_from (lookups_to_come s.side) (lookups_of s.side) m.stage (stands_of s.finished.items s.kex) _ _ n.lookups n'.lookups p.lookups b.lookups;
+      groups = (let x = b.groups in let z = (groups_for s s1 m f).due in omega (arith, x, z));
     }
 
 pub typed_asks : (kex : Bool) (side : Side) (w : Where) (n n' : PartCalls) → kex ≡ true → AsksForMessage side w n n' → AsksForType kex side w n n'
@@ -278,7 +363,7 @@ typed_asks false side w n n' e h = cc
 -- ---- packets
 
 pub between_same : (s s' : Session) (n : PartCalls) → s' ≡ s → AsksBetween s s' n n
-between_same s s' n e = subst (λ (x : Session). AsksBetween s x n n) (sym e) (record { later = omega arith; within = asks_still s.side (state_of s) (state_of s) n refl })
+between_same s s' n e = subst (λ (x : Session). AsksBetween s x n n) (sym e) (record { later = omega arith; within = asks_still s.side (state_of s) (state_of s) n refl refl })
 
 pub between_join : (a b c : Session) (n m k : PartCalls) → b.side ≡ a.side → AsksBetween a b n m → AsksBetween b c m k → AsksBetween a c n k
 between_join a b c n m k e p q = record {
@@ -288,7 +373,7 @@ between_join a b c n m k e p q = record {
 
 -- what was asked where a side stands still, and then for what is refused there
 pub to_here : (s : Session) (at : Spot) (read : ℕ) (cause : RefusalCause) (n n' : PartCalls) → AsksForCause cause s.side (stands_of s.finished.items s.kex) n n' → AsksTo s n n' cause (state_at s at read)
-to_here s at read cause n n' h = record { mid = n; before = asks_still s.side (state_of s) (state_at s at read) n refl; last = h }
+to_here s at read cause n n' h = record { mid = n; before = asks_still s.side (state_of s) (state_at s at read) n refl refl; last = h }
 
 -- for a packet
 pub to_packet : (s : Session) (at : Spot) (read : ℕ) (i : Item) (payload : List ℕ) (n n' : PartCalls) → payload ≡ i.payload → AsksForType (is_kex (message_type payload)) s.side (stands_of s.finished.items s.kex) n n' → AsksTo s n n' (OfPacket i) (state_at s at read)
@@ -298,7 +383,7 @@ to_packet s at read i payload n n' p h = to_here s at read (OfPacket i) n n' (su
 pub to_kept : (s s' : Session) (at : Spot) (read : ℕ) (n n' : PartCalls) → s' ≡ s → AsksBetween s s' n n' → AsksTo s n n' OfMemory (state_at s at read)
 to_kept s s' at read n n' e h =
     let k : AsksBetween s s n n' = subst (λ (x : Session). AsksBetween s x n n') e h in
-    record { mid = n'; before = record { agreement = (k.within).agreement; hosts = (k.within).hosts; lookups = (k.within).lookups }; last = refl }
+    record { mid = n'; before = record { agreement = (k.within).agreement; hosts = (k.within).hosts; lookups = (k.within).lookups; groups = (k.within).groups }; last = refl }
 
 -- for what was written behind a packet
 pub between_written : (s s' : Session) (read : ℕ) (events : List Event) (n : PartCalls) → Steps nothing_said s.side s.config.now (id_text s.config.now.id) (state_at s nowhere read) events (state_at s' nowhere read) → AsksBetween s s' n n
@@ -306,11 +391,11 @@ between_written s s' read events n h =
     let k = asks_steps nothing_said s.side s.config.now (id_text s.config.now.id) events (state_at s nowhere read) (state_at s' nowhere read) n h in
     record {
       later = begun_steps nothing_said s.side s.config.now (id_text s.config.now.id) events (state_at s nowhere read) (state_at s' nowhere read) h;
-      within = record { agreement = k.agreement; hosts = k.hosts; lookups = k.lookups };
+      within = record { agreement = k.agreement; hosts = k.hosts; lookups = k.lookups; groups = k.groups };
     }
 
 pub to_written : (s s' : Session) (at : Spot) (read : ℕ) (n n' : PartCalls) → AsksBetween s s' n n' → AsksTo s n n' OfMemory (state_at s' at read)
-to_written s s' at read n n' k = record { mid = n'; before = record { agreement = (k.within).agreement; hosts = (k.within).hosts; lookups = (k.within).lookups }; last = refl }
+to_written s s' at read n n' k = record { mid = n'; before = record { agreement = (k.within).agreement; hosts = (k.within).hosts; lookups = (k.within).lookups; groups = (k.within).groups }; last = refl }
 
 -- behind what was asked before
 pub to_later : (s s1 : Session) (n m k : PartCalls) → s1.side ≡ s.side → AsksBetween s s1 n m → (cause : RefusalCause) (at : SideState) → begun (state_of s1) ≤ begun at → AsksTo s1 m k cause at → AsksTo s n k cause at
@@ -322,14 +407,14 @@ to_later s s1 n m k e p cause at b h =
 pub to_still : (s : Session) (at : Spot) (read : ℕ) (n : PartCalls) (cause : RefusalCause) (events : List Event) (st : SideState) → Steps nothing_said s.side s.config.now (id_text s.config.now.id) (state_at s at read) events st → AsksTo s n n cause st
 to_still s at read n cause events st h =
     let k = asks_steps nothing_said s.side s.config.now (id_text s.config.now.id) events (state_at s at read) st n h in
-    record { mid = n; before = record { agreement = k.agreement; hosts = k.hosts; lookups = k.lookups }; last = cause_none cause s.side st.stands n }
+    record { mid = n; before = record { agreement = k.agreement; hosts = k.hosts; lookups = k.lookups; groups = k.groups }; last = cause_none cause s.side st.stands n }
 
 pub between_heard : (c mid : Connection) (piece : List ℕ) (n : PartCalls) → Hears c piece mid → AsksBetween c.session mid.session n n
 between_heard c mid piece n h =
     let k = asks_steps nothing_said c.session.side c.session.config.now (id_text c.session.config.now.id) h.events (state_at c.session (reading_of c) c.reader.count) (state_at mid.session (reading_of mid) mid.reader.count) n h.steps in
     record {
       later = begun_steps nothing_said c.session.side c.session.config.now (id_text c.session.config.now.id) h.events (state_at c.session (reading_of c) c.reader.count) (state_at mid.session (reading_of mid) mid.reader.count) h.steps;
-      within = record { agreement = k.agreement; hosts = k.hosts; lookups = k.lookups };
+      within = record { agreement = k.agreement; hosts = k.hosts; lookups = k.lookups; groups = k.groups };
     }
 
 -- behind a packet what could be written was written, in part or all of it

@@ -88,10 +88,10 @@ fails_begin says denies untrusted asked c c' piece error still b d e = record {
   delivered = d ∙ sym (append-nil c.delivered.items);
   records = b.records;
   input = (refl, refl);
-  done = tt;
+  done = refl;
   line = Failed;
   behind = [];
-  heard = tt;
+  heard = inl refl;
   left = [];
   read = refl;
   next = tt;
@@ -112,7 +112,7 @@ hears_cause : (cause : RefusalCause) (t : Standing) (piece : List ℕ) (events :
 hears_cause (OfFault fault) t piece events line behind n h = h
 hears_cause (OfPacket i) t piece events line behind n h = h
 hears_cause OfVersion t piece events line behind n h = absurd (n refl)
-hears_cause OfMemory t piece events line behind n h = tt
+hears_cause OfMemory t piece events line behind n h = inr h
 
 pub fails_behind : (says : Says) (denies : Denies) (untrusted : ServerHost → Type 0) (asked later : RefusalCause → SideState → Type 0) (c mid c' : Connection) (piece : List ℕ) (error : Error) → Later mid later asked → Hears c piece mid → IsHeard mid.session.line → Stops says denies untrusted later mid error c' → Fails says denies untrusted asked c piece error c'
 fails_behind says denies untrusted asked later c mid c' piece error a h i k = record {
@@ -202,7 +202,7 @@ asking_piece says denies untrusted n n' c mid c' piece error x b r f = record {
   few = refused_few says c.session.side c.session.config.now (id_text c.session.config.now.id) f.events f.cause (standing_of c).state f.state n n' f.steps until;
 } where
   until : AsksUntil c.session.side f.cause (standing_of c).state f.state n n'
-  until = record { mid = (f.asks).mid; before = record { agreement = ((f.asks).before).agreement; hosts = ((f.asks).before).hosts; lookups = ((f.asks).before).lookups }; last = (f.asks).last }
+  until = record { mid = (f.asks).mid; before = record { agreement = ((f.asks).before).agreement; hosts = ((f.asks).before).hosts; lookups = ((f.asks).before).lookups; groups = ((f.asks).before).groups }; last = (f.asks).last }
 
 pub asked_answer : (says : Says) (denies : Denies) (untrusted : ServerHost → Type 0) (n n' : PartCalls) (c mid c' : Connection) (piece : List ℕ) (answer done : Result (Unit {0}) Error) → done ≡ answer → IsFixed c.session mid.session → OnErr answer (Breaks (standing_of mid) (standing_of c')) → OnErr answer (IsAsBefore mid.session c'.session) → IfErr answer (λ e. Fails says denies untrusted (AsksTo c.session n n') c piece e mid) → OnErr done (RefusesAsking says (standing_of c) piece (standing_of c') n n')
 asked_answer says denies untrusted n n' c mid c' piece (Ok u) done d x b r f = subst (λ (y : Result (Unit {0}) Error). OnErr y (RefusesAsking says (standing_of c) piece (standing_of c') n n')) (sym d) tt
@@ -210,5 +210,5 @@ asked_answer says denies untrusted n n' c mid c' piece (Err e) done d x b r f = 
 
 pub asks_answer : (n n' : PartCalls) (c mid c' : Connection) (answer done : Result (Unit {0}) Error) → done ≡ answer → OnOk answer (c' ≡ mid) → OnOk answer (AsksBetween c.session mid.session n n') → OnOk done (AsksWithin c.session.side (standing_of c).state (standing_of c').state n n')
 asks_answer n n' c mid c' (Ok u) done d e h = subst (λ (y : Result (Unit {0}) Error). OnOk y (AsksWithin c.session.side (standing_of c).state (standing_of c').state n n')) (sym d)
-    (subst (λ (x : Connection). AsksWithin c.session.side (standing_of c).state (standing_of x).state n n') (sym e) (record { agreement = (h.within).agreement; hosts = (h.within).hosts; lookups = (h.within).lookups }))
+    (subst (λ (x : Connection). AsksWithin c.session.side (standing_of c).state (standing_of x).state n n') (sym e) (record { agreement = (h.within).agreement; hosts = (h.within).hosts; lookups = (h.within).lookups; groups = (h.within).groups }))
 asks_answer n n' c mid c' (Err x) done d e h = subst (λ (y : Result (Unit {0}) Error). OnOk y (AsksWithin c.session.side (standing_of c).state (standing_of c').state n n')) (sym d) tt

@@ -44,7 +44,7 @@ idle_before : (cause : RefusalCause) (config : Config) (st : SideState) → IsQu
 idle_before (OfFault fault) config st q = q
 idle_before (OfPacket i) config st q = q
 idle_before OfVersion config st q = q
-idle_before OfMemory config st q = tt
+idle_before OfMemory config st q = q.not_called
 
 -- ---- where it stands
 
@@ -81,7 +81,7 @@ stops_memory says denies untrusted asked c c' error e o d f a = record {
   silent = tt;
   left = c.reader.waiting;
   bytes = refl;
-  done = tt;
+  done = refl;
   next = tt;
   line = λ x. (let y : OfMemory ≡ OfVersion = x in cc);
   why = e;

@@ -1,8 +1,9 @@
 -- How often the parts are asked, call by call.
-use Rattle.std.specs.Prelude.{◌≡◌, ℕ, ◌+◌, ◌≤◌, Option, Some, None}
+use Rattle.std.specs.Prelude.{ℕ, ◌+◌, ◌≤◌, Option, Some, None}
 use Rattle.ssh_packet.specs.Sealing.{Clear}
 use Rattle.ssh_wire.specs.declared.side.Side.{Side}
 use Rattle.ssh_kex.specs.Stages.{Stage}
+use Rattle.ssh_kex.specs.Stepping.{asks_groups}
 use Rattle.ssh_kex.specs.declared.exchange.ServerHost.{ServerHost}
 use Rattle.ssh_rules.specs.Asking.{AsksUntil, AsksWithin, PartCalls}
 use Rattle.ssh_rules.specs.Counting.{agreement_to_come, begun, hosts_to_come, lookups_to_come}
@@ -21,11 +22,12 @@ abbrev pub StepAsks : (Where → ℕ) → Stage → Where → ℕ → ℕ → Ty
 StepAsks to_come stage stands calls calls' =
     (calls ≤ calls') × (calls' + to_come stands ≤ calls + to_come (Inside stage))
 
--- each part
+-- each part, and the lookup where the stage asks it
 pub record MoveAsks (side : Side) (stage : Stage) (stands : Where) (calls calls' : PartCalls) : Type 0 where
   pub agreement : StepAsks (agreement_to_come side) stage stands calls.agreement calls'.agreement
   pub hosts : StepAsks (hosts_to_come side) stage stands calls.hosts calls'.hosts
   pub lookups : StepAsks (lookups_to_come side) stage stands calls.lookups calls'.lookups
+  pub groups : calls'.lookups ≤ calls.lookups + asks_groups stage
 
 -- where nothing is read
 abbrev pub nowhere : Spot

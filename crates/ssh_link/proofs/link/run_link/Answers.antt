@@ -15,6 +15,7 @@ use Rattle.ssh_link.specs.RefusedCarrying.{Telling, telling_of}
 use Rattle.ssh_link.specs.RunCauses.{offered_by, rises_by}
 use Rattle.ssh_link.proofs.GoodSubmits.{steps_good}
 use Rattle.ssh_link.proofs.RefusedLinks.{any_run_cause, if_refused, lawful_causes, obliging_complete, ok_good, run_cause, says_in, tells_by}
+use Rattle.ssh_link.proofs.AskedRuns.{all_asked}
 use Rattle.ssh_link.proofs.CarriedLinks.{carried_is_link, carried_is_read}
 use Rattle.ssh_link.proofs.LinkSoFar.{if_told, of_sides, whole_run}
 use Rattle.ssh_link.proofs.WholeIds.{whole_id}
@@ -88,3 +89,16 @@ returns-clause-complete g c = λ v oa ob oh oi oj.
     g.met.H.HostKeys.obliging_lawful g.met.G.GroupLookup.small g.met.H.HostKeys.obliging_trusts
     t c.args.client_parts.now.agreement c.carry_steps.new.client_parts.agreement c.args.server_parts.now.agreement c.carry_steps.new.server_parts.agreement c.args.client_parts.now.hosts c.carry_steps.new.client_parts.hosts c.args.server_parts.now.hosts c.carry_steps.new.server_parts.hosts c.args.client_parts.now.groups c.carry_steps.new.client_parts.groups c.args.server_parts.now.groups c.carry_steps.new.server_parts.groups c.args.steps.now e v (of_sides (λ s. HasSizes (config_of t s)) c.see_types.ensures.sizes c.see_types-2.ensures.sizes) oa ob oh oi oj
     (of_sides (λ s. IsWholeId (config_of t s)) (whole_id Client c.args.client.now (v.valid Client) c.see_types.ensures.text) (whole_id Server c.args.server.now (v.valid Server) c.see_types-2.ensures.text)) r)
+
+pub returns-clause-calls : goal.returns-clause-calls
+returns-clause-calls g c = λ la lb lg.
+    let t : Setup = record { client = c.args.client.now; server = c.args.server.now } in
+    let a = c.args.client_parts.now.agreement in
+    let b = c.args.server_parts.now.agreement in
+    let says = says_by (says_of g.A.Agreement.lawful g.A.Agreement.offered g.A.Agreement.client_makes g.A.Agreement.server_makes g.A.Agreement.agrees g.H.HostKeys.lawful g.H.HostKeys.obliging g.H.HostKeys.accepts g.H.HostKeys.trusts g.H.HostKeys.makes g.G.GroupLookup.lawful g.G.GroupLookup.group) t a b c.args.client_parts.now.hosts c.args.server_parts.now.hosts c.args.client_parts.now.groups c.args.server_parts.now.groups in
+    let sizes = of_sides (λ s. HasSizes (config_of t s)) c.see_types.ensures.sizes c.see_types-2.ensures.sizes in
+    all_asked says (config_of t) c.args.steps.now _ _ _ _ sizes
+    (λ v. of_sides (λ s. IsWholeId (config_of t s)) (whole_id Client c.args.client.now (v Client) c.see_types.ensures.text) (whole_id Server c.args.server.now (v Server) c.see_types-2.ensures.text))
+    (λ name group local client server p q cm sm cp sq. g.met.A.Agreement.one_secret a t name group local client server p q la (cm t la) (sm t lb) (cp t la) (sq t lb))
+    (λ sizes group f. (f t lg).1)
+    c.carry_steps.ensures.asks

@@ -15,7 +15,7 @@ returns c =
     let server = c.in_ok-server_parts.ensures in
     let bits = c.in_ok-server_parts.server_parts.groups.inner.bits in
     record {
-      report = subst (λ p. IfOk c.run_link.result (IsPlanRun p)) c.script.view_is (plan_told plan c.as_slice.result.now bits c.run_link.result c.as_slice.ensures.value server.bits c.run_link.ensures.report (λ l. c.run_link.ensures.link tt tt l));
+      report = subst (λ p. IfOk c.run_link.result (IsPlanRun p)) c.script.view_is (plan_told plan c.as_slice.result.now bits c.in_ok-client_parts.client_parts.hosts.inner.trusted c.run_link.result c.as_slice.ensures.value server.bits client.trusted c.run_link.ensures.report c.run_link.ensures.read (λ l. c.run_link.ensures.link tt tt l));
       causes = subst (λ p. IsLawful p.server.group_bits p.client.config.gex → IfErr c.run_link.result (IsPlanCause p)) c.script.view_is
           (plan_cause plan c.as_slice.result.now bits _ c.run_link.result c.as_slice.ensures.value server.bits (λ l. c.run_link.ensures.causes tt tt tt tt l));
       complete = subst (λ p. IsFaultlessPlan p → IfErr c.run_link.result (λ e. e ≡ Memory)) c.script.view_is
