@@ -33,52 +33,97 @@ pub(crate) fn answer(kind: &str, row: &mut Row<'_>, found: &mut String) -> Resul
     if kind != "play" {
         return Ok(false);
     }
-    let alloc = row.alloc();
-    let client_prefers = preferred(row)?;
-    let server_prefers = preferred(row)?;
-    let mut host = ServerKeys {
-        keys: some(keys(row)?)?,
-        certificates: some(certificates(row)?)?,
-    };
-    let cause = cause_of(row)?;
-    let settings = Settings::of(row)?;
-    if settings.blob > 0 {
-        host.keys = keys_of(alloc, settings.blob)?;
-    }
-    let none = ServerKeys {
-        keys: Vec::new(alloc),
-        certificates: Vec::new(alloc),
-    };
-    let trusted = if settings.trusts {
-        trusted_by(alloc, &host)?
-    } else {
-        Vec::new(alloc)
-    };
-    let client_config = config_of(alloc, CLIENT_ID, client_prefers, settings.gex, none)?;
-    let server_config = config_of(alloc, SERVER_ID, server_prefers, settings.gex, host)?;
-    let handed = settings.handed(&settings.client, trusted);
-    let mut client = Seat::of(
-        alloc,
-        Side::Client,
-        &client_config,
-        SERVER_ID,
-        cause,
-        handed,
-    )?;
-    let handed = settings.handed(&settings.server, Vec::new(alloc));
-    let mut server = Seat::of(
-        alloc,
-        Side::Server,
-        &server_config,
-        CLIENT_ID,
-        cause,
-        handed,
-    )?;
+    let setup = Setup::of(row)?;
     let given = given_of(row)?;
-    if played(&mut client, &mut server, given.as_slice(), found)? {
-        say_end(found, &client, &server)?;
-    }
+    setup.play(given.as_slice(), found)?;
     Ok(true)
+}
+
+/// How both sides are set up.
+#[derive(Drop)]
+struct Setup {
+    client: Config,
+    server: Config,
+    cause: KexCause,
+    settings: Settings,
+}
+
+impl Setup {
+    /// The words before the messages.
+    fn of(row: &mut Row<'_>) -> Result<Setup, Fault> {
+        let alloc = row.alloc();
+        let client_prefers = preferred(row)?;
+        let server_prefers = preferred(row)?;
+        let mut host = ServerKeys {
+            keys: some(keys(row)?)?,
+            certificates: some(certificates(row)?)?,
+        };
+        let cause = cause_of(row)?;
+        let settings = Settings::of(row)?;
+        if settings.blob > 0 {
+            host.keys = keys_of(alloc, settings.blob)?;
+        }
+        let none = ServerKeys {
+            keys: Vec::new(alloc),
+            certificates: Vec::new(alloc),
+        };
+        Ok(Setup {
+            client: config_of(alloc, CLIENT_ID, client_prefers, settings.gex, none)?,
+            server: config_of(alloc, SERVER_ID, server_prefers, settings.gex, host)?,
+            cause,
+            settings,
+        })
+    }
+
+    /// The hosts that the client trusts.
+    fn trusted(&self, alloc: Global) -> Result<Vec<TrustedHost>, Fault> {
+        if self.settings.trusts {
+            trusted_by(alloc, &self.server.host)
+        } else {
+            Ok(Vec::new(alloc))
+        }
+    }
+
+    /// A side that has sent its KEXINIT.
+    fn seat(&self, alloc: Global, side: Side) -> Result<Seat<'_>, Fault> {
+        let (config, peer_id, refused, trusted) = match side {
+            Side::Client => (
+                &self.client,
+                SERVER_ID,
+                &self.settings.client,
+                self.trusted(alloc)?,
+            ),
+            Side::Server => (
+                &self.server,
+                CLIENT_ID,
+                &self.settings.server,
+                Vec::new(alloc),
+            ),
+        };
+        let handed = self.settings.handed(refused, trusted);
+        Seat::of(alloc, side, config, peer_id, self.cause, handed)
+    }
+
+    /// Lets both machines speak.
+    fn play(&self, given: &[Given], found: &mut String) -> Result<(), Fault> {
+        let alloc = *found.allocator();
+        let mut client = self.seat(alloc, Side::Client)?;
+        let mut server = self.seat(alloc, Side::Server)?;
+        spoken(&mut client, &mut server, given, found)
+    }
+}
+
+/// What both say, and whether they agree where none is refused.
+fn spoken(
+    client: &mut Seat<'_>,
+    server: &mut Seat<'_>,
+    given: &[Given],
+    found: &mut String,
+) -> Result<(), Fault> {
+    if played(client, server, given, found)? {
+        say_end(found, client, server)?;
+    }
+    Ok(())
 }
 
 /// What has to be given.
