@@ -74,7 +74,7 @@ TABLE = {
     ("ssh_link", "specs.Delivering"): {"Finds": "FindsPackets", "IsRefused": "RefusesPacket"},
     ("ssh_link", "specs.Receiving"): {"Takes": "TakesPiece"},
     ("ssh_link", "specs.ClearRun"): {"submitted": "submitted_payloads"},
-    ("ssh_link", "specs.Report"): {
+    ("ssh_script", "specs.Report"): {
         "delivered_printed": "delivered_lines", "side_printed": "side_lines", "clear_printed": "clear_report_text",
         "fault_printed": "fault_line", "refusal_printed": "refusal_line",
     },

@@ -7,13 +7,13 @@ use lib.Utf8.{encode}
 use Rattle.ssh_wire.specs.declared.ssh_id.SshId.{SshId}
 use Rattle.ssh_link.specs.ClearRun.{IsWholeLine}
 use Rattle.ssh_link.specs.Program.{AnswersScript, AnswersLinkScript, AnswersText, AnswersLeft, client_id, server_id}
-use Rattle.ssh_link.specs.RunScript.{run_script}
+use Rattle.ssh_script.specs.RunScript.{run_script}
 use Rattle.ssh_link.specs.declared.command.ScriptCommand.{ScriptCommand}
 use Rattle.ssh_link.specs.declared.command.ScriptCommand.TheVariants as command
-use Rattle.ssh_link.specs.Script.{clear_script}
+use Rattle.ssh_script.specs.Script.{clear_script}
 use Rattle.ssh_wire.specs.Outside.{TakesFront, ReachesEnd}
 use Rattle.ssh_link.specs.declared.answer.Answer.{Answer}
-use Rattle.ssh_link.specs.declared.script.ScriptKind.TheVariants.{TooLong}
+use Rattle.ssh_script.specs.declared.script.ScriptKind.TheVariants.{TooLong}
 
 client_whole : IsWholeLine client_id
 unfolding is_utf8 chars encode

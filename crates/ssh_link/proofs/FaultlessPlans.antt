@@ -22,11 +22,11 @@ use Rattle.ssh_rules.specs.Valid.{config_fault, is_bad_size, is_good_payload}
 use Rattle.ssh_rules.specs.declared.link.Step.{Step}
 use Rattle.ssh_rules.specs.declared.link.Step.TheVariants.{Deliver, Rekey, Settle}
 use Rattle.ssh_vectors.specs.Hosts.{TrustsHosts, TrustsKey}
-use Rattle.ssh_link.specs.Generated.{drawn, generated_steps, payload_drawn, rekey_drawn, side_drawn, state_behind, state_behind_turn, turn_by, turn_steps, turns_from, generated_plan}
+use Rattle.ssh_script.specs.Generated.{drawn, generated_steps, payload_drawn, rekey_drawn, side_drawn, state_behind, state_behind_turn, turn_by, turn_steps, turns_from, generated_plan}
 use Rattle.ssh_link.specs.PlanParts.{IsFaultlessPlan, configs_of, offers_exchange, trusted_key, trusted_of}
-use Rattle.ssh_link.specs.Plans.{Plan}
+use Rattle.ssh_script.specs.Plans.{Plan}
 use Rattle.ssh_link.specs.Program.{AnswersGen, IsRefusal}
-use Rattle.ssh_link.specs.RunScript.{host_key}
+use Rattle.ssh_script.specs.RunScript.{host_key}
 use Rattle.ssh_link.specs.RunCauses.{all_submits_good}
 use Rattle.ssh_link.specs.declared.answer.Answer.{Answer}
 use Rattle.ssh_link.specs.declared.stream.ReadError.{ReadError}

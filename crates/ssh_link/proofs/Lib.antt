@@ -1,18 +1,10 @@
 pub mod Carried
-pub mod Cutting
-pub mod GeneratedTurns
-pub mod GivenBlobs
 pub mod Growing
-pub mod Judging
-pub mod Names
-pub mod Numbers
 pub mod ReadLoop
 pub mod Refusals
 pub mod Runs
 pub mod Sent
 pub mod Taking
-pub mod Texts
-pub mod ExchangeLines
 pub mod Answering
 pub mod Commands
 pub mod Stored
@@ -31,4 +23,3 @@ pub mod PlanRuns
 pub mod FaultlessPlans
 pub mod RefusedPlans
 pub mod SmallGroups
-pub mod SummaryLines

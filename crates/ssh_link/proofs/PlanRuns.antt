@@ -9,10 +9,10 @@ use Rattle.ssh_vectors.specs.Agreement.{Agrees, ClientMakes, ServerMakes}
 use Rattle.ssh_vectors.specs.Hosts.{accepted, is_trusted}
 use Rattle.ssh_vectors.specs.Primes.{IsLawful}
 use Rattle.ssh_vectors.specs.declared.hosts.TrustedHost.{TrustedHost}
-use Rattle.ssh_link.specs.Generated.{generated_plan}
+use Rattle.ssh_script.specs.Generated.{generated_plan}
 use Rattle.ssh_link.specs.PlanParts.{trusted_of}
 use Rattle.ssh_link.specs.PlanRun.{IsLinkRun, IsPlanRun, IsWholeReport}
-use Rattle.ssh_link.specs.Plans.{Plan}
+use Rattle.ssh_script.specs.Plans.{Plan}
 
 pub plan_told : (plan : Plan) (steps : List Step) (bits : ℕ) (trusted : List TrustedHost) (r : Result LinkReport Error) → steps ≡ plan.steps → bits ≡ plan.server.group_bits → trusted ≡ trusted_of plan.server.config.host
     → IfOk r (IsWholeReport steps) → IfOk r (IsReadLink (accepted trusted) (is_trusted trusted) plan.client.config plan.server.config)

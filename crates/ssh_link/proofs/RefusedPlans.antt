@@ -15,7 +15,7 @@ use Rattle.ssh_vectors.specs.Primes.{IsLawful, group_for}
 use Rattle.ssh_vectors.specs.declared.hosts.TrustedHost.{TrustedHost}
 use Rattle.ssh_vectors.proofs.Lemmas.{hosts_trusted}
 use Rattle.ssh_link.specs.PlanParts.{IsFaultlessPlan, IsPlanCause, any_rises, configs_of, offers_exchange, trusted_of}
-use Rattle.ssh_link.specs.Plans.{Plan}
+use Rattle.ssh_script.specs.Plans.{Plan}
 use Rattle.ssh_link.specs.Program.{AnswersPlan, IsRefusal}
 use Rattle.ssh_link.specs.declared.answer.Answer.{Answer}
 use Rattle.ssh_link.specs.declared.stream.ReadError.{ReadError}

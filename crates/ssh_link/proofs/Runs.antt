@@ -15,10 +15,10 @@ use Rattle.ssh_link.specs.ClearRun.{IsWholeLine, clear_item, packet_size, clear_
 use Rattle.ssh_link.specs.declared.clear_link.ClearEnd.{ClearEnd}
 use Rattle.ssh_link.specs.declared.clear_link.ClearLink.{ClearLink}
 use Rattle.ssh_link.specs.declared.receiver.Receiver.{Receiver}
-use Rattle.ssh_link.specs.declared.report.ClearReport.{ClearReport}
-use Rattle.ssh_link.specs.declared.report.ClearSide.{ClearSide}
-use Rattle.ssh_link.specs.declared.step.ClearStep.{ClearStep}
-use Rattle.ssh_link.specs.declared.step.ClearStep.TheVariants.{Submit, Deliver}
+use Rattle.ssh_script.specs.declared.report.ClearReport.{ClearReport}
+use Rattle.ssh_script.specs.declared.report.ClearSide.{ClearSide}
+use Rattle.ssh_script.specs.declared.step.ClearStep.{ClearStep}
+use Rattle.ssh_script.specs.declared.step.ClearStep.TheVariants.{Submit, Deliver}
 use Rattle.ssh_link.proofs.Sent.{AreSent, length_packet}
 use Rattle.ssh_link.proofs.Carried.{HasReadOf, HasReadBy, IsPiece, takes_piece, takes_all}
 use Rattle.ssh_link.proofs.Growing.{number_behind, number_behind-push, are_sent_push, clear_wire-push, reads_push, reads_whole}

@@ -9,17 +9,17 @@ use Rattle.ssh_kex.specs.declared.group.GexParams.{GexParams}
 use Rattle.ssh_rules.specs.declared.link.Step.{Step}
 use Rattle.ssh_rules.specs.declared.link.Step.TheVariants.{Submit, Deliver}
 use Rattle.ssh_vectors.specs.Primes.{IsLawful, bits_for}
-use Rattle.ssh_link.specs.Plans.{Plan}
-use Rattle.ssh_link.specs.RunScript.{all_three, both, completed, first_plan, form_makes, from_three, from_two, from_word, plan_from, plan_then, part_of, rekey_by, run_form, run_line, run_script, set_before, set_by, set_server, set_side, set_words, setting_of, settle_of, size_from, size_of, sizes, with_default_key, with_limits, with_refusal, with_step}
-use Rattle.ssh_link.specs.Script.{hex_of, is_comment, longest_script, number_of, pieces, side_of, words_of}
-use Rattle.ssh_link.specs.declared.script.ScriptFault.{ScriptFault}
-use Rattle.ssh_link.specs.declared.script.ScriptKind.{ScriptKind}
-use Rattle.ssh_link.specs.declared.script.ScriptKind.TheVariants.{TooLong}
-use Rattle.ssh_link.specs.declared.setting.Part.{Part}
-use Rattle.ssh_link.specs.declared.setting.Part.TheVariants as part
-use Rattle.ssh_link.specs.declared.setting.Setting.{Setting}
-use Rattle.ssh_link.specs.declared.setting.Setting.TheVariants as setting
-use Rattle.ssh_link.specs.declared.setup.SideSetup.{SideSetup}
+use Rattle.ssh_script.specs.Plans.{Plan}
+use Rattle.ssh_script.specs.RunScript.{all_three, both, completed, first_plan, form_makes, from_three, from_two, from_word, plan_from, plan_then, part_of, rekey_by, run_form, run_line, run_script, set_before, set_by, set_server, set_side, set_words, setting_of, settle_of, size_from, size_of, sizes, with_default_key, with_limits, with_refusal, with_step}
+use Rattle.ssh_script.specs.Script.{hex_of, is_comment, longest_script, number_of, pieces, side_of, words_of}
+use Rattle.ssh_script.specs.declared.script.ScriptFault.{ScriptFault}
+use Rattle.ssh_script.specs.declared.script.ScriptKind.{ScriptKind}
+use Rattle.ssh_script.specs.declared.script.ScriptKind.TheVariants.{TooLong}
+use Rattle.ssh_script.specs.declared.setting.Part.{Part}
+use Rattle.ssh_script.specs.declared.setting.Part.TheVariants as part
+use Rattle.ssh_script.specs.declared.setting.Setting.{Setting}
+use Rattle.ssh_script.specs.declared.setting.Setting.TheVariants as setting
+use Rattle.ssh_script.specs.declared.setup.SideSetup.{SideSetup}
 
 -- ---- what a choice gives
 

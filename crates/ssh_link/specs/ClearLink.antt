@@ -11,8 +11,8 @@ use Rattle.ssh_link.specs.ClearRun.{clear_item, is_bad_size}
 use Rattle.ssh_link.specs.Receiving.{TakesPiece, CannotTake}
 use Rattle.ssh_link.specs.declared.clear_link.ClearEnd.{ClearEnd}
 use Rattle.ssh_link.specs.declared.clear_link.ClearLink.{ClearLink}
-use Rattle.ssh_link.specs.declared.step.ClearStep.{ClearStep}
-use Rattle.ssh_link.specs.declared.step.ClearStep.TheVariants.{Submit, Deliver}
+use Rattle.ssh_script.specs.declared.step.ClearStep.{ClearStep}
+use Rattle.ssh_script.specs.declared.step.ClearStep.TheVariants.{Submit, Deliver}
 
 -- a side that has sent its id line and taken nothing
 pub record IsFresh (id : SshId) (side : ClearEnd) : Type 0 where

@@ -9,10 +9,10 @@ use Rattle.ssh_wire.specs.declared.side.Side.TheVariants.{Client, Server}
 use Rattle.ssh_wire.specs.declared.ssh_id.SshId.{SshId}
 use Rattle.ssh_packet.specs.Sealing.{Item, Clear, padding_length, longest_payload}
 use Rattle.ssh_packet.specs.Stream.{packets}
-use Rattle.ssh_link.specs.declared.report.ClearReport.{ClearReport}
-use Rattle.ssh_link.specs.declared.report.ClearSide.{ClearSide}
-use Rattle.ssh_link.specs.declared.step.ClearStep.{ClearStep}
-use Rattle.ssh_link.specs.declared.step.ClearStep.TheVariants.{Submit, Deliver}
+use Rattle.ssh_script.specs.declared.report.ClearReport.{ClearReport}
+use Rattle.ssh_script.specs.declared.report.ClearSide.{ClearSide}
+use Rattle.ssh_script.specs.declared.step.ClearStep.{ClearStep}
+use Rattle.ssh_script.specs.declared.step.ClearStep.TheVariants.{Submit, Deliver}
 
 -- an id whose line is one id line, whole (RFC 4253 section 4.2)
 abbrev pub IsWholeLine : SshId → Type 0

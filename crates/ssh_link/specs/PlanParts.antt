@@ -14,9 +14,9 @@ use Rattle.ssh_rules.specs.RunLaws.{config_of}
 use Rattle.ssh_vectors.specs.Hosts.{TrustsHosts}
 use Rattle.ssh_vectors.specs.Primes.{IsObliging, group_for}
 use Rattle.ssh_vectors.specs.declared.hosts.TrustedHost.{TrustedHost}
-use Rattle.ssh_link.specs.Plans.{Plan}
+use Rattle.ssh_script.specs.Plans.{Plan}
 use Rattle.ssh_link.specs.RunCauses.{IsRunCause, IsValidRun}
-use Rattle.ssh_link.specs.declared.setup.SideSetup.{SideSetup}
+use Rattle.ssh_script.specs.declared.setup.SideSetup.{SideSetup}
 
 -- a key is trusted as its own
 abbrev pub trusted_key : HostKey → TrustedHost

@@ -9,7 +9,7 @@ use Rattle.ssh_vectors.specs.Agreement.{Agrees, ClientMakes, ServerMakes}
 use Rattle.ssh_vectors.specs.Hosts.{accepted, is_trusted}
 use Rattle.ssh_vectors.specs.Primes.{IsLawful}
 use Rattle.ssh_link.specs.PlanParts.{trusted_of}
-use Rattle.ssh_link.specs.Plans.{Plan}
+use Rattle.ssh_script.specs.Plans.{Plan}
 
 -- the marks are one more than the steps, and the last of them is what the report says of both sides
 pub record IsWholeReport (steps : List Step) (report : LinkReport) : Type 0 where

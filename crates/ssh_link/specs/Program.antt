@@ -15,13 +15,13 @@ use Rattle.ssh_link.specs.ClearRun.{IsClearRun, IsRefusedSize, first_refused}
 use Rattle.ssh_rules.specs.declared.link.LinkReport.{LinkReport}
 use Rattle.ssh_link.specs.PlanParts.{IsRefusedPlan}
 use Rattle.ssh_link.specs.PlanRun.{IsLinkRun}
-use Rattle.ssh_link.specs.Plans.{Plan}
-use Rattle.ssh_link.specs.RunReport.{link_report_text}
-use Rattle.ssh_link.specs.RunScript.{run_script}
-use Rattle.ssh_link.specs.Report.{clear_report_text, fault_line, refusal_line}
-use Rattle.ssh_link.specs.Script.{clear_script, number_of}
-use Rattle.ssh_link.specs.Summary.{summary_text}
-use Rattle.ssh_link.specs.Generated.{generated_plan}
+use Rattle.ssh_script.specs.Plans.{Plan}
+use Rattle.ssh_script.specs.RunReport.{link_report_text}
+use Rattle.ssh_script.specs.RunScript.{run_script}
+use Rattle.ssh_script.specs.Report.{clear_report_text, fault_line, refusal_line}
+use Rattle.ssh_script.specs.Script.{clear_script, number_of}
+use Rattle.ssh_script.specs.Summary.{summary_text}
+use Rattle.ssh_script.specs.Generated.{generated_plan}
 use Rattle.ssh_link.specs.Statuses.{report_written, run_refused, no_command, script_faulty, sink_failed}
 use Rattle.ssh_link.specs.declared.answer.Answer.{Answer}
 use Rattle.ssh_link.specs.declared.answer.Answer.TheVariants.{Usage, Faulty, Refused, Ran, RanLink, RanGen}
@@ -30,9 +30,9 @@ use Rattle.ssh_link.specs.declared.command.Command.{Command}
 use Rattle.ssh_link.specs.declared.command.Command.TheVariants.{Script, Gen}
 use Rattle.ssh_link.specs.declared.command.ScriptCommand.{ScriptCommand}
 use Rattle.ssh_link.specs.declared.command.ScriptCommand.TheVariants as command
-use Rattle.ssh_link.specs.declared.report.ClearReport.{ClearReport}
-use Rattle.ssh_link.specs.declared.script.ScriptFault.{ScriptFault}
-use Rattle.ssh_link.specs.declared.step.ClearStep.{ClearStep}
+use Rattle.ssh_script.specs.declared.report.ClearReport.{ClearReport}
+use Rattle.ssh_script.specs.declared.script.ScriptFault.{ScriptFault}
+use Rattle.ssh_script.specs.declared.step.ClearStep.{ClearStep}
 
 -- the words that a program was called with: those behind its name, or none where one of all isn't UTF-8
 abbrev pub AreWords : {E : Type 0} → Result (IntoIter (String Global) Global) E → List (List ℕ) → Type 0

@@ -4,15 +4,12 @@ ghost use Rattle.std.specs.Prelude.{◌≡◌, [], ◌++◌, IfOk, IfErr};
 ghost use Rattle.ssh_link.specs.Program.{answer_text, answer_status, Shows, ShowsNone};
 ghost use Rattle.ssh_wire.specs.declared.error.Error.TheVariants.{Memory};
 
-use crate::clear_report::print_clear;
 use crate::command::USAGE;
-use crate::link_report::print_report;
-use crate::refusal::{push_fault, push_refusal};
-use crate::report::ClearReport;
-use crate::script::ScriptFault;
 use crate::status::{NO_COMMAND, REPORT_WRITTEN, RUN_REFUSED, SCRIPT_FAULTY};
-use crate::summary::print_summary;
 use ssh_rules::link::LinkReport;
+use ssh_script::{
+    ClearReport, ScriptFault, print_clear, print_report, print_summary, push_fault, push_refusal,
+};
 use ssh_wire::Error;
 use std::alloc::Global;
 

@@ -5,10 +5,9 @@ ghost use Rattle.ssh_wire.specs.declared.error.Error.TheVariants.{Memory};
 ghost use Rattle.ssh_packet.specs.Sealing.{Clear};
 
 use crate::receiver::Receiver;
-use crate::report::{ClearReport, ClearSide};
-use crate::step::ClearStep;
 use rand_core::Rng;
 use ssh_packet::PacketWriter;
+use ssh_script::{ClearReport, ClearSide, ClearStep};
 use ssh_wire::{Blob, Error, PayloadList, Side, SshId};
 use std::alloc::Global;
 use std::mem;

@@ -4,9 +4,9 @@ ghost use Rattle.std.specs.Prelude.{◌≡◌, ℕ, List, map, IfOk};
 ghost use Rattle.std.specs.String.{string_bytes};
 ghost use Rattle.std.specs.Vec.Iter.{into_iter_items};
 ghost use Rattle.ssh_link.specs.Program.{AreWords, command_in, command_named, gen_by};
-ghost use Rattle.ssh_link.specs.Script.{number_of};
+ghost use Rattle.ssh_script.specs.Script.{number_of};
 
-use crate::fields::number;
+use ssh_script::number;
 use std::alloc::{AllocError, Global};
 use std::env::Args;
 use std::io;

@@ -4,9 +4,9 @@ ghost use Rattle.std.specs.Prelude.{◌≡◌, ◌≢◌, ◌≤◌, ◌+◌, �
 ghost use Rattle.std.specs.Process.{exit_status};
 ghost use Rattle.ssh_wire.specs.Outside.{Rose, TakesAtMost, ReachesEnd};
 ghost use Rattle.ssh_wire.specs.declared.ssh_id.SshId.TheVariants.{Standard};
-ghost use Rattle.ssh_link.specs.Parsing.{IsRefusal};
+ghost use Rattle.ssh_script.specs.Parsing.{IsRefusal};
 ghost use Rattle.ssh_link.specs.Program.{AreWords, IsCommand, IsReading, AnswersCommand, AnswersLeft, reads, IsAnswer, Shows, ShowsNone, IsWritten, answer_text, shown_clear, shown_report, shown_refused};
-ghost use Rattle.ssh_link.specs.Script.{clear_script, longest_script};
+ghost use Rattle.ssh_script.specs.Script.{clear_script, longest_script};
 ghost use Rattle.ssh_link.specs.Statuses.{no_command, source_failed, sink_failed, want_of_memory};
 ghost use Rattle.ssh_link.specs.declared.answer.Answer.{Answer};
 ghost use Rattle.ssh_link.specs.declared.stream.ReadError.TheVariants.{Failed, Memory};

@@ -4,10 +4,9 @@ ghost use Rattle.std.specs.Prelude.{◌≡◌, None, IfOk, IfErr, OnOk};
 ghost use Rattle.ssh_link.specs.ClearRun.{IsWholeLine, IsClearRun, first_refused, IsRefusedRun};
 
 use crate::clear_link::ClearLink;
-use crate::report::ClearReport;
-use crate::step::ClearStep;
 use rand_chacha::ChaCha20Rng;
 use rand_core::SeedableRng;
+use ssh_script::{ClearReport, ClearStep};
 use ssh_wire::{Error, SshId};
 use std::alloc::Global;
 

@@ -8,8 +8,8 @@ ghost use Rattle.ssh_link.specs.PlanRun.{IsPlanRun};
 
 use crate::link::run_link;
 use crate::run_parts::script_parts;
-use crate::setup::Script;
 use ssh_rules::link::LinkReport;
+use ssh_script::Script;
 use ssh_wire::Error;
 use std::alloc::Global;
 

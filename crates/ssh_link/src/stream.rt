@@ -2,7 +2,7 @@
 
 ghost use Rattle.std.specs.Prelude.{◌≡◌, ◌≢◌, ◌++◌, ◌+◌, ◌<◌, ◌≤◌, ℕ, List, length, vec_len, Err, IfOk, IfErr};
 ghost use Rattle.ssh_wire.specs.Outside.{Rose, Appends, TakesFront, TakesAtMost, ReachesEnd, AppendsFront};
-ghost use Rattle.ssh_link.specs.Script.{longest_script};
+ghost use Rattle.ssh_script.specs.Script.{longest_script};
 ghost use Rattle.ssh_link.specs.declared.stream.ReadError.TheVariants.{Memory, Failed as ReadFailed};
 
 use ssh_wire::{Failed, Source};

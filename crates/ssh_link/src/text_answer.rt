@@ -2,25 +2,20 @@
 
 ghost use Rattle.std.specs.Prelude.{◌≡◌, Ok, IfOk, IfErr};
 ghost use Rattle.ssh_wire.specs.declared.ssh_id.SshId.TheVariants.{Standard};
-ghost use Rattle.ssh_link.specs.Parsing.{IsRefusal as IsScriptRefusal};
-ghost use Rattle.ssh_link.specs.Generated.{generated_plan};
+ghost use Rattle.ssh_script.specs.Parsing.{IsRefusal as IsScriptRefusal};
+ghost use Rattle.ssh_script.specs.Generated.{generated_plan};
 ghost use Rattle.ssh_link.specs.Program.{AnswersGen, AnswersSteps, AnswersScript, AnswersLinkScript, AnswersPlan, AnswersText, IsRefusal};
-ghost use Rattle.ssh_link.specs.Script.{clear_script};
-ghost use Rattle.ssh_link.specs.RunScript.{run_script};
+ghost use Rattle.ssh_script.specs.Script.{clear_script};
+ghost use Rattle.ssh_script.specs.RunScript.{run_script};
 ghost use Rattle.ssh_vectors.specs.Primes.{IsLawful};
 ghost use Rattle.ssh_link.specs.declared.stream.ReadError.TheVariants.{Memory};
 
 use crate::answer::Answer;
-use crate::clear_script::parse_clear;
 use crate::command::ScriptCommand;
-use crate::generated::generated_script;
-use crate::link_script::parse_script;
 use crate::run::run_clear;
-use crate::script::ScriptError;
 use crate::script_run::run_script;
-use crate::setup::Script;
-use crate::step::ClearStep;
 use crate::stream::ReadError;
+use ssh_script::{ClearStep, Script, ScriptError, generated_script, parse_clear, parse_script};
 use ssh_wire::{Error, SshId, Text};
 use std::alloc::{AllocError, Global};
 

@@ -1,7 +1,7 @@
 use Rattle.std.proofs.Common.{◌∷◌, ◌+◌, drop, List, sym, ap, subst, ◌∙◌}
 use Rattle.std.proofs.lemmas.List.{at_drop_more, at_drop_all}
 use Rattle.std.proofs.lemmas.Result.{err_from_is_err_and}
-use Rattle.ssh_link.specs.declared.step.ClearStep.{ClearStep}
+use Rattle.ssh_script.specs.declared.step.ClearStep.{ClearStep}
 use Rattle.ssh_link.proofs.Runs.{IsUnderWay, starts, goes_on, stops, finishes}
 use Rattle.ssh_link.proofs.run.run_clear.Goals as goal
 

@@ -1,0 +1,10 @@
+pub mod Parsing
+pub mod Report
+pub mod Script
+pub mod LineFaults
+pub mod Plans
+pub mod RunReport
+pub mod Generated
+pub mod Summary
+pub mod RunScript
+pub mod GivenBlobs

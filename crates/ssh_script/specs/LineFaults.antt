@@ -1,0 +1,26 @@
+-- Why a line of a script says nothing.
+use Rattle.std.specs.Prelude.{◌≡◌, ℕ, Option, None, Result, Err}
+use Rattle.ssh_script.specs.declared.line_fault.LineFault.{LineFault}
+use Rattle.ssh_script.specs.declared.line_fault.LineFault.TheVariants as fault
+use Rattle.ssh_script.specs.declared.script.ScriptError.{ScriptError}
+use Rattle.ssh_script.specs.declared.script.ScriptError.TheVariants as error
+use Rattle.ssh_script.specs.declared.script.ScriptKind.{ScriptKind}
+use Rattle.ssh_script.specs.declared.script.ScriptKind.TheVariants.{NotBuilt, Malformed}
+
+-- the line's own fault; memory may end at any time
+abbrev pub IsLineFault : {X : Type 0} → Result X ScriptKind → LineFault → Type 0
+IsLineFault line fault.NotBuilt = line ≡ Err NotBuilt
+IsLineFault line fault.Malformed = line ≡ Err Malformed
+IsLineFault line fault.Memory = Unit {0}
+
+-- words that are wrong; memory may end at any time
+abbrev pub AreWrong : {X : Type 0} → Option X → LineFault → Type 0
+AreWrong read fault.NotBuilt = ⊥
+AreWrong read fault.Malformed = read ≡ None
+AreWrong read fault.Memory = Unit {0}
+
+-- the fault of line n of a script
+abbrev pub fault_at : ℕ → LineFault → ScriptError
+fault_at n fault.NotBuilt = error.Fault (record { line = n; kind = NotBuilt })
+fault_at n fault.Malformed = error.Fault (record { line = n; kind = Malformed })
+fault_at n fault.Memory = error.Memory

@@ -1,0 +1,58 @@
+-- The text of a link's report.
+use Rattle.std.specs.Prelude.{◌≡◌, ℕ, ◌+◌, if◌then◌else◌, List, [], ◌∷◌, ◌++◌, length, codes, refl}
+use Rattle.std.specs.Fmt.{decimal, digits}
+use Rattle.std.specs.List.{join_with_byte}
+use Rattle.hex.specs.Hex.{encode_with}
+use Rattle.ssh_wire.specs.Algorithms.{algorithm_name, certificate_name}
+use Rattle.ssh_wire.specs.declared.side.Side.{Side}
+use Rattle.ssh_wire.specs.declared.side.Side.TheVariants.{Client, Server}
+use Rattle.ssh_mac.specs.Names.{mac_name}
+use Rattle.ssh_packet.specs.Names.{cipher_name}
+use Rattle.ssh_negotiate.specs.Tables.{kex_text}
+use Rattle.ssh_negotiate.specs.declared.negotiation.Names.{Names}
+use Rattle.ssh_kex.specs.declared.exchange.FinishedExchange.{FinishedExchange}
+use Rattle.ssh_rules.specs.declared.link.SideReport.{SideReport}
+use Rattle.ssh_rules.specs.declared.link.LinkReport.{LinkReport}
+use Rattle.ssh_script.specs.Report.{side_name, hex_word, report_line, delivered_lines}
+
+-- KEY: the type of the certificate where one was chosen
+abbrev pub key_word : Names → List ℕ
+key_word names = if names.host_key_is_certificate then certificate_name names.key else algorithm_name names.key
+
+-- STRICT: whether the order of messages was strict and the numbers began again
+abbrev pub strict_word : Names → List ℕ
+strict_word names = if names.strict_kex then codes "strict" else codes "plain"
+
+-- KEX KEY CIPHER MAC MAC STRICT, the client's MAC first
+abbrev pub names_words : Names → List (List ℕ)
+names_words names =
+    kex_text names.kex ∷ key_word names ∷ cipher_name names.cipher ∷ mac_name names.client_mac
+    ∷ mac_name names.server_mac ∷ strict_word names ∷ []
+
+-- exchange k, what was negotiated in it, its hash and the session id
+abbrev pub exchange_line : Side → ℕ → FinishedExchange → List ℕ
+exchange_line side k x =
+    join_with_byte 32 (side_name side ∷ codes "exchange" ∷ decimal k ∷ names_words x.names ++ hex_word x.hash ∷ hex_word x.session_id ∷ []) ++ 10 ∷ []
+
+-- one line for each exchange, counted from k
+abbrev pub exchange_lines : Side → ℕ → List FinishedExchange → List ℕ
+exchange_lines side k [] = []
+exchange_lines side k (x ∷ xs) = exchange_line side k x ++ exchange_lines side (k + 1) xs
+
+-- what one side did
+abbrev pub link_side_lines : Side → SideReport → List ℕ
+link_side_lines side report =
+    report_line side (codes "wire") (hex_word report.wire)
+    ++ report_line side (codes "taken") (decimal report.taken)
+    ++ report_line side (codes "finished") (decimal (length report.exchanges))
+    ++ exchange_lines side 1 report.exchanges
+    ++ delivered_lines side report.delivered
+
+-- the report of a link: the client, then the server
+abbrev pub link_report_text : LinkReport → List ℕ
+link_report_text report = link_side_lines Client report.client ++ link_side_lines Server report.server
+
+side-example : link_side_lines Server (record { wire = 171 ∷ []; taken = 12; delivered = (1 ∷ []) ∷ []; exchanges = [] })
+    ≡ codes "server wire ab\nserver taken 12\nserver finished 0\nserver delivered 01\n"
+unfolding encode_with digits
+side-example = refl
