@@ -3,6 +3,7 @@
 ghost use Rattle.std.specs.Prelude.{◌≡◌, Ok, IfOk, IfErr};
 ghost use Rattle.ssh_wire.specs.declared.ssh_id.SshId.TheVariants.{Standard};
 ghost use Rattle.ssh_script.specs.Parsing.{IsRefusal as IsScriptRefusal};
+ghost use Rattle.ssh_script.specs.Plans.{HasSmallGroups};
 ghost use Rattle.ssh_script.specs.Generated.{generated_plan};
 ghost use Rattle.ssh_link.specs.Program.{AnswersGen, AnswersSteps, AnswersScript, AnswersLinkScript, AnswersPlan, AnswersText, IsRefusal};
 ghost use Rattle.ssh_script.specs.Script.{clear_script};
@@ -90,6 +91,7 @@ fn link_answer(alloc: Global, text: Vec<u8>) -> Result<Answer, ReadError>
 /// The script. The text is freed before it is run.
 fn take_script(alloc: Global, text: Vec<u8>) -> Result<Script, ScriptError>
     ensures read { IfOk result (λ script. run_script text.items ≡ Ok script) }
+    ensures small { IfOk result HasSmallGroups }
     ensures fault { IfErr result (λ error. IsScriptRefusal (run_script text.items) error) }
 {
     parse_script(alloc, text.as_slice())

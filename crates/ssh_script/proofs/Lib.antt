@@ -7,3 +7,4 @@ pub mod Numbers
 pub mod Texts
 pub mod ExchangeLines
 pub mod SummaryLines
+pub mod SmallGroups

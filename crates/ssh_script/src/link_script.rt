@@ -4,6 +4,7 @@ ghost use Rattle.std.specs.Prelude.{◌≡◌, ◌≤◌, Some, Ok, IfOk, IfErr,
 ghost use Rattle.ssh_script.specs.GivenBlobs.{AreBlobsOf};
 ghost use Rattle.ssh_script.specs.LineFaults.{AreWrong, IsLineFault};
 ghost use Rattle.ssh_script.specs.Parsing.{IsRefusal};
+ghost use Rattle.ssh_script.specs.Plans.{HasSmallGroups};
 ghost use Rattle.ssh_script.specs.RunScript.{run_script, plan_from, run_line, run_form, from_two, from_word, settle_of, rekey_by};
 ghost use Rattle.ssh_script.specs.Script.{pieces, words_of, side_of, hex_of, number_of, longest_script};
 ghost use Rattle.ssh_rules.specs.declared.link.Step.TheVariants as step;
@@ -40,6 +41,7 @@ const SET: &[u8] = b"set";
 /// blob again. A text over 67108864 bytes is TooLong, with the line 0. Memory where an allocation failed.
 pub fn parse_script(alloc: Global, text: &[u8]) -> Result<Script, ScriptError>
     ensures read { IfOk result (λ script. run_script text.now ≡ Ok script) }
+    ensures small { IfOk result HasSmallGroups }
     ensures fault { IfErr result (λ error. IsRefusal (run_script text.now) error) }
 {
     if text.len() > LONGEST_SCRIPT {
