@@ -71,9 +71,9 @@ TABLE = {
     ("ssh_negotiate", "specs.Parts"): {
         "guessed": "with_guess", "taking": "front_taken", "Refuses": "RefusesReading",
     },
-    ("ssh_link", "specs.Delivering"): {"Finds": "FindsPackets", "IsRefused": "RefusesPacket"},
-    ("ssh_link", "specs.Receiving"): {"Takes": "TakesPiece"},
-    ("ssh_link", "specs.ClearRun"): {"submitted": "submitted_payloads"},
+    ("ssh_run", "specs.Delivering"): {"Finds": "FindsPackets", "IsRefused": "RefusesPacket"},
+    ("ssh_run", "specs.Receiving"): {"Takes": "TakesPiece"},
+    ("ssh_run", "specs.ClearRun"): {"submitted": "submitted_payloads"},
     ("ssh_script", "specs.Report"): {
         "delivered_printed": "delivered_lines", "side_printed": "side_lines", "clear_printed": "clear_report_text",
         "fault_printed": "fault_line", "refusal_printed": "refusal_line",

@@ -5,7 +5,7 @@ use Rattle.std.specs.Str.{is_utf8, chars}
 use Rattle.std.proofs.lemmas.Bool.{cases_lt, cond-true}
 use lib.Utf8.{encode}
 use Rattle.ssh_wire.specs.declared.ssh_id.SshId.{SshId}
-use Rattle.ssh_link.specs.ClearRun.{IsWholeLine}
+use Rattle.ssh_run.specs.ClearRun.{IsWholeLine}
 use Rattle.ssh_link.specs.Program.{AnswersScript, AnswersLinkScript, AnswersText, AnswersLeft, client_id, server_id}
 use Rattle.ssh_script.specs.RunScript.{run_script}
 use Rattle.ssh_link.specs.declared.command.ScriptCommand.{ScriptCommand}

@@ -27,7 +27,7 @@ use Rattle.ssh_link.specs.PlanParts.{IsFaultlessPlan, configs_of, offers_exchang
 use Rattle.ssh_script.specs.Plans.{Plan}
 use Rattle.ssh_link.specs.Program.{AnswersGen, IsRefusal}
 use Rattle.ssh_script.specs.RunScript.{host_key}
-use Rattle.ssh_link.specs.RunCauses.{all_submits_good}
+use Rattle.ssh_run.specs.RunCauses.{all_submits_good}
 use Rattle.ssh_link.specs.declared.answer.Answer.{Answer}
 use Rattle.ssh_link.specs.declared.stream.ReadError.{ReadError}
 

@@ -19,7 +19,7 @@ use Rattle.ssh_script.specs.Plans.{Plan}
 use Rattle.ssh_link.specs.Program.{AnswersPlan, IsRefusal}
 use Rattle.ssh_link.specs.declared.answer.Answer.{Answer}
 use Rattle.ssh_link.specs.declared.stream.ReadError.{ReadError}
-use Rattle.ssh_link.specs.RunCauses.{IsPartsCause, IsRunCause, IsValidRun, all_submits_good, offered_by}
+use Rattle.ssh_run.specs.RunCauses.{IsPartsCause, IsRunCause, IsValidRun, all_submits_good, offered_by}
 
 -- without the counts
 cause_seen : (r : Rises) (side : Side) (config : Side → Config) (offered : KexName → Bool) (group : DhGroup) (e : Error) → IsCauseOf r side config offered group e → IsCauseOf (any_rises side) side config offered group e

@@ -1,14 +1,5 @@
-pub mod ClearLink
-pub mod ClearRun
-pub mod Delivering
-pub mod Receiving
 pub mod Adapters
 pub mod Statuses
 pub mod Program
 pub mod PlanRun
 pub mod PlanParts
-pub mod Carrying
-pub mod Asking
-pub mod RefusedCarrying
-pub mod RunCauses
-pub mod LinkEnds

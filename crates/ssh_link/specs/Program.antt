@@ -11,7 +11,7 @@ use Rattle.ssh_wire.specs.declared.error.Error.{Error}
 use Rattle.ssh_wire.specs.declared.error.Error.TheVariants.{Memory}
 use Rattle.ssh_wire.specs.declared.ssh_id.SshId.{SshId}
 use Rattle.ssh_wire.specs.declared.ssh_id.SshId.TheVariants.{Standard}
-use Rattle.ssh_link.specs.ClearRun.{IsClearRun, IsRefusedSize, first_refused}
+use Rattle.ssh_run.specs.ClearRun.{IsClearRun, IsRefusedSize, first_refused}
 use Rattle.ssh_rules.specs.declared.link.LinkReport.{LinkReport}
 use Rattle.ssh_link.specs.PlanParts.{IsRefusedPlan}
 use Rattle.ssh_link.specs.PlanRun.{IsLinkRun}

@@ -1,15 +1,10 @@
-//! A link of a client and a server: its run by steps, the run of a script, and the top call of the program.
+//! The run of a script, from its text to the text of its report, and the top call of the program.
 #![tactic(auto)]
 
 mod adapters;
 mod answer;
-mod clear_link;
 mod command;
-mod link;
-mod link_end;
 mod program;
-mod receiver;
-mod run;
 mod run_parts;
 mod script_run;
 mod status;
@@ -19,14 +14,13 @@ mod text_answer;
 pub use crate::adapters::{StdSink, StdSource};
 pub use crate::answer::MainEnd;
 pub use crate::command::Word;
-pub use crate::link::run_link;
 pub use crate::program::{exit_code, link_main};
-pub use crate::run::run_clear;
 pub use crate::script_run::run_script;
 pub use crate::status::{
     NO_COMMAND, REPORT_WRITTEN, RUN_REFUSED, SCRIPT_FAULTY, SINK_FAILED, SOURCE_FAILED,
     WANT_OF_MEMORY, exit_statuses,
 };
+pub use ssh_run::{run_clear, run_link};
 pub use ssh_script::{
     ClearReport, ClearSide, ClearStep, Script, ScriptError, ScriptFault, ScriptKind, SideSetup,
     parse_clear, parse_script, print_clear, print_report, print_summary,

@@ -13,9 +13,9 @@ ghost use Rattle.ssh_link.specs.declared.stream.ReadError.TheVariants.{Memory};
 
 use crate::answer::Answer;
 use crate::command::ScriptCommand;
-use crate::run::run_clear;
 use crate::script_run::run_script;
 use crate::stream::ReadError;
+use ssh_run::run_clear;
 use ssh_script::{ClearStep, Script, ScriptError, generated_script, parse_clear, parse_script};
 use ssh_wire::{Error, SshId, Text};
 use std::alloc::{AllocError, Global};

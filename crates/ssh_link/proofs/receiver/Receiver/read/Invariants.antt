@@ -1,9 +1,0 @@
-use Rattle.std.proofs.Common.{length}
-use Rattle.ssh_link.proofs.ReadLoop.{HasRead}
-use Rattle.ssh_link.proofs.receiver.Receiver.read.Given as goal
-
-abbrev pub invariant-loop : goal.invariant-loop
-invariant-loop l = HasRead l.fn.self l.bytes l.self
-
-abbrev pub decreases-loop : goal.decreases-loop
-decreases-loop l = length l.self.reader.waiting

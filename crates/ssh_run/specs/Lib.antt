@@ -1,0 +1,10 @@
+pub mod ClearLink
+pub mod ClearRun
+pub mod Delivering
+pub mod Receiving
+pub mod Carrying
+pub mod Asking
+pub mod RefusedCarrying
+pub mod RunCauses
+pub mod LinkEnds
+pub mod Reports

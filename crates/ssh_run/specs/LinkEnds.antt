@@ -1,0 +1,27 @@
+-- The sides of a link, as their calls leave them.
+use Rattle.ssh_rules.specs.declared.link.Mark.{Mark}
+use Rattle.ssh_rules.specs.declared.link.SideMark.{SideMark}
+use Rattle.ssh_run.specs.Carrying.{CarriedEnd, CarriedLink, both_marks, side_mark}
+use Rattle.ssh_run.specs.declared.link.Link.{Link}
+use Rattle.ssh_run.specs.declared.link_end.LinkEnd.{LinkEnd}
+
+-- one side
+abbrev pub end_of : LinkEnd → CarriedEnd
+end_of end = record {
+  transport = end.transport;
+  taken = end.taken;
+  delivered = end.delivered.items;
+  submitted = end.submitted;
+}
+
+-- both sides
+abbrev pub link_of : Link → CarriedLink
+link_of link = record { client = end_of link.client; server = end_of link.server }
+
+-- where a side stands
+abbrev pub end_mark : LinkEnd → SideMark
+end_mark end = side_mark (end_of end)
+
+-- where both sides stand
+abbrev pub link_mark : Link → Mark
+link_mark link = both_marks (link_of link)

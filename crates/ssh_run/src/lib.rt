@@ -1,0 +1,11 @@
+//! A client and a server, joined: what a run of steps does, with both sides' bytes in clear, and with exchanges of keys.
+#![tactic(auto)]
+
+mod clear_link;
+mod link;
+mod link_end;
+mod receiver;
+mod run;
+
+pub use crate::link::run_link;
+pub use crate::run::run_clear;

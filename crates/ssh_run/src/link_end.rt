@@ -1,0 +1,198 @@
+//! One side of a link over an honest carrier.
+
+ghost use Rattle.std.specs.Prelude.{◌≡◌, ◌≤◌, ◌++◌, ◌-◌, IfErr, IfOk, OnErr, OnOk, drop, false, length, true};
+
+use rand_core::Rng;
+use ssh_kex::{Agreement, GroupLookup, HostKeys, Parts};
+use ssh_rules::link::{ExchangeList, SideMark, SideReport};
+use ssh_transport::Transport;
+use ssh_wire::{Blob, Error, Payload, PayloadList};
+use std::alloc::{AllocError, Global};
+
+/// One side, and what it did so far. All that it sent is its transport's output.
+#[derive(Drop)]
+pub(crate) struct LinkEnd<'c> {
+    pub(crate) transport: Transport<'c>,
+    /// How many bytes of the other's output it took.
+    pub(crate) taken: usize,
+    pub(crate) delivered: Vec<Payload>,
+    pub(crate) submitted: u64,
+}
+
+impl<'c> LinkEnd<'c> {
+    ghost use Rattle.ssh_kex.specs.Parts.{KeepsAgreement, KeepsGroups, KeepsHosts};
+    ghost use Rattle.ssh_kex.specs.Stepping.{says_of};
+    ghost use Rattle.ssh_run.specs.Asking.{PieceAsks, SideAsks};
+    ghost use Rattle.ssh_rules.specs.Asking.{counted_by};
+    ghost use Rattle.ssh_run.specs.Carrying.{AsksKeys, CarriesTo, Rests, SubmitsOne, all_bytes, first_end};
+    ghost use Rattle.ssh_run.specs.LinkEnds.{end_mark, end_of};
+    ghost use Rattle.ssh_run.specs.RefusedCarrying.{IsRestless, RefusesCarrying, RefusesSubmit, begun_by, telling_of};
+    ghost use Rattle.ssh_wire.specs.declared.error.Error.TheVariants.{Memory};
+
+    /// A side that has sent its id line.
+    pub(crate) fn new(alloc: Global, transport: Transport<'c>) -> LinkEnd<'c>
+        ensures { end_of result ≡ first_end transport.entry }
+    {
+        LinkEnd {
+            transport,
+            taken: 0,
+            delivered: Vec::new(alloc),
+            submitted: 0,
+        }
+    }
+
+    /// All that the side sent.
+    pub(crate) fn output(&self) -> &[u8]
+        ensures { result.now ≡ self.now.transport.output }
+    {
+        self.transport.output()
+    }
+
+    /// How many bytes of the other's output it hasn't taken.
+    pub(crate) fn waiting(&self, wire: &[u8]) -> usize
+        ensures { result ≡ length wire.now - self.now.taken }
+    {
+        wire.len().saturating_sub(self.taken)
+    }
+
+    /// Submits a payload.
+    #[tactic(auto, using(ssh_transport::proofs::Lemmas::agreement_same, ssh_transport::proofs::Lemmas::hosts_same, ssh_transport::proofs::Lemmas::groups_same, crate::proofs::Asking::counted_same, crate::proofs::Asking::submitted_asks))]
+    pub(crate) fn submit<A: Agreement, H: HostKeys, G: GroupLookup, R: Rng>(
+        &mut self,
+        parts: &mut Parts<A, H, G, R>,
+        payload: &[u8],
+    ) -> Result<(), Error>
+        ensures submits { OnOk result (SubmitsOne (says_of A.lawful A.offered A.client_makes A.server_makes A.agrees H.lawful H.obliging H.accepts H.trusts H.makes G.lawful G.group self.old.transport.config parts.old.agreement parts.old.hosts parts.old.groups) (end_of self.old) payload.now (end_of self.new)) }
+        ensures refused { self.old.transport.failed ≡ false → IfErr result (λ e. RefusesSubmit payload.now e) }
+        ensures agreement { KeepsAgreement A.lawful A.obliging A.offered A.refusals A.calls parts.old.agreement parts.new.agreement }
+        ensures hosts { KeepsHosts H.lawful H.obliging H.accepts H.trusts H.refused_sign H.refused_verify H.refused_check H.calls parts.old.hosts parts.new.hosts }
+        ensures groups { KeepsGroups G.lawful G.obliging G.group G.refusals G.calls parts.old.groups parts.new.groups }
+        ensures calls { (counted_by A.calls H.calls G.calls parts.new.agreement parts.new.hosts parts.new.groups) ≡ (counted_by A.calls H.calls G.calls parts.old.agreement parts.old.hosts parts.old.groups) }
+        ensures side { OnOk result (SideAsks self.old.transport self.new.transport (counted_by A.calls H.calls G.calls parts.old.agreement parts.old.hosts parts.old.groups) (counted_by A.calls H.calls G.calls parts.old.agreement parts.old.hosts parts.old.groups)) }
+    {
+        self.transport.submit(parts, payload)?;
+        self.submitted = self.submitted.saturating_add(1);
+        Ok(())
+    }
+
+    /// Asks for new keys.
+    #[tactic(auto, using(ssh_transport::proofs::Lemmas::agreement_same, ssh_transport::proofs::Lemmas::hosts_same, ssh_transport::proofs::Lemmas::groups_same, crate::proofs::Asking::counted_same, crate::proofs::Asking::rekeyed_asks))]
+    pub(crate) fn rekey<A: Agreement, H: HostKeys, G: GroupLookup, R: Rng>(
+        &mut self,
+        parts: &mut Parts<A, H, G, R>,
+    ) -> Result<(), Error>
+        ensures asks { OnOk result (AsksKeys (says_of A.lawful A.offered A.client_makes A.server_makes A.agrees H.lawful H.obliging H.accepts H.trusts H.makes G.lawful G.group self.old.transport.config parts.old.agreement parts.old.hosts parts.old.groups) (end_of self.old) (end_of self.new)) }
+        ensures refused { self.old.transport.failed ≡ false → IfErr result (λ e. e ≡ Memory) }
+        ensures agreement { KeepsAgreement A.lawful A.obliging A.offered A.refusals A.calls parts.old.agreement parts.new.agreement }
+        ensures hosts { KeepsHosts H.lawful H.obliging H.accepts H.trusts H.refused_sign H.refused_verify H.refused_check H.calls parts.old.hosts parts.new.hosts }
+        ensures groups { KeepsGroups G.lawful G.obliging G.group G.refusals G.calls parts.old.groups parts.new.groups }
+        ensures calls { (counted_by A.calls H.calls G.calls parts.new.agreement parts.new.hosts parts.new.groups) ≡ (counted_by A.calls H.calls G.calls parts.old.agreement parts.old.hosts parts.old.groups) }
+        ensures side { OnOk result (SideAsks self.old.transport self.new.transport (counted_by A.calls H.calls G.calls parts.old.agreement parts.old.hosts parts.old.groups) (counted_by A.calls H.calls G.calls parts.old.agreement parts.old.hosts parts.old.groups)) }
+    {
+        self.transport.rekey(parts)
+    }
+
+    /// Takes so many bytes of the other's output, or all that wait where fewer do.
+    #[tactic(auto, using(crate::proofs::Asking::fed_asks, crate::proofs::Asking::kept_asks))]
+    pub(crate) fn deliver<A: Agreement, H: HostKeys, G: GroupLookup, R: Rng>(
+        &mut self,
+        parts: &mut Parts<A, H, G, R>,
+        wire: &[u8],
+        count: u64,
+    ) -> Result<(), Error>
+        ensures carries { OnOk result (CarriesTo (says_of A.lawful A.offered A.client_makes A.server_makes A.agrees H.lawful H.obliging H.accepts H.trusts H.makes G.lawful G.group self.old.transport.config parts.old.agreement parts.old.hosts parts.old.groups) (end_of self.old) wire.now count (end_of self.new)) }
+        ensures all { OnOk result (count ≡ all_bytes → length wire.now ≤ self.new.taken) }
+        ensures refused { self.old.transport.failed ≡ false → IfErr result (λ e. RefusesCarrying (telling_of A.lawful A.obliging A.offered A.client_makes A.server_makes A.agrees A.refusals H.lawful H.obliging H.accepts H.trusts H.makes H.refused_sign H.refused_verify H.refused_check G.lawful G.obliging G.group G.refusals self.old.transport.config parts.old.agreement parts.new.agreement parts.old.hosts parts.new.hosts parts.old.groups parts.new.groups) (end_of self.old) wire.now count e) }
+        ensures agreement { KeepsAgreement A.lawful A.obliging A.offered A.refusals A.calls parts.old.agreement parts.new.agreement }
+        ensures hosts { KeepsHosts H.lawful H.obliging H.accepts H.trusts H.refused_sign H.refused_verify H.refused_check H.calls parts.old.hosts parts.new.hosts }
+        ensures groups { KeepsGroups G.lawful G.obliging G.group G.refusals G.calls parts.old.groups parts.new.groups }
+        ensures asks { OnOk result (SideAsks self.old.transport self.new.transport (counted_by A.calls H.calls G.calls parts.old.agreement parts.old.hosts parts.old.groups) (counted_by A.calls H.calls G.calls parts.new.agreement parts.new.hosts parts.new.groups)) }
+        ensures asked { self.old.transport.failed ≡ false → OnErr result (PieceAsks (says_of A.lawful A.offered A.client_makes A.server_makes A.agrees H.lawful H.obliging H.accepts H.trusts H.makes G.lawful G.group self.old.transport.config parts.old.agreement parts.old.hosts parts.old.groups) (end_of self.old) wire.now count (counted_by A.calls H.calls G.calls parts.old.agreement parts.old.hosts parts.old.groups) (counted_by A.calls H.calls G.calls parts.new.agreement parts.new.hosts parts.new.groups)) }
+    {
+        let waiting = rest_of(wire, self.taken);
+        let count = count.min(waiting.len() as u64) as usize;
+        self.transport.feed(parts, &waiting[..count])?;
+        self.taken += count;
+        let delivered = self.transport.take_delivered();
+        keep(&mut self.delivered, delivered.into_vec())?;
+        Ok(())
+    }
+
+    /// How many exchanges it has begun, with the first, inside which it is from its start on.
+    pub(crate) fn begun(&self) -> u128
+        ensures { result ≡ begun_by (end_of self.now) }
+    {
+        self.transport.finished() as u128 + u128::from(self.transport.inside())
+    }
+
+    /// Whether it is outside an exchange and holds no unfinished input.
+    pub(crate) fn rests(&self) -> bool
+        ensures rests { result ≡ true → Rests (end_of self.now) }
+        ensures restless { result ≡ false → IsRestless (end_of self.now) }
+    {
+        !self.transport.inside() && self.transport.unfinished() == 0
+    }
+
+    /// Where it stands.
+    pub(crate) fn mark(&self) -> SideMark
+        ensures { result ≡ end_mark self.now }
+    {
+        SideMark {
+            sent: self.transport.output().len() as u64,
+            taken: self.taken as u64,
+            delivered: self.delivered.len() as u64,
+            finished: self.transport.finished() as u64,
+            inside: self.transport.inside(),
+            submitted: self.submitted,
+        }
+    }
+
+    /// What it did. Memory.
+    pub(crate) fn report(self, alloc: Global) -> Result<SideReport, AllocError>
+        ensures wire { IfOk result (λ r. r.wire ≡ self.entry.transport.output) }
+        ensures taken { IfOk result (λ r. r.taken ≡ self.entry.taken) }
+        ensures delivered { IfOk result (λ r. r.delivered ≡ self.entry.delivered.items) }
+        ensures exchanges { IfOk result (λ r. r.exchanges ≡ self.entry.transport.state.records) }
+    {
+        let exchanges = exchanges(alloc, &self.transport)?;
+        Ok(SideReport {
+            wire: Blob::new(self.transport.into_output()),
+            taken: self.taken as u64,
+            delivered: PayloadList::new(self.delivered),
+            exchanges,
+        })
+    }
+}
+
+/// The bytes behind the first `taken` ones.
+fn rest_of(wire: &[u8], taken: usize) -> &[u8]
+    ensures { result.now ≡ drop taken wire.now }
+{
+    if taken < wire.len() {
+        &wire[taken..]
+    } else {
+        &[]
+    }
+}
+
+/// Keeps more payloads behind those that are kept. Memory.
+fn keep(kept: &mut Vec<Payload>, more: Vec<Payload>) -> Result<(), AllocError>
+    ensures { OnOk result (kept.new.items ≡ kept.old.items ++ more.items) }
+{
+    for payload in more {
+        kept.push(payload)?;
+    }
+    Ok(())
+}
+
+/// All finished exchanges, the first one first. Memory.
+#[tactic(auto, using(crate::proofs::Stored::one_stored))]
+fn exchanges(alloc: Global, transport: &Transport<'_>) -> Result<ExchangeList, AllocError>
+    ensures { IfOk result (λ list. list ≡ transport.now.state.records) }
+{
+    let mut exchanges = Vec::new(alloc);
+    for k in 0..transport.finished() {
+        exchanges.push(*transport.exchange(k + 1))?;
+    }
+    Ok(ExchangeList::new(exchanges))
+}
