@@ -1,5 +1,5 @@
 -- The report of a carried link is what a link's report says: of any parts what each side read, and of lawful ones all.
-use Rattle.std.proofs.Common.{◌≡◌, ℕ, ◌+◌, ◌<◌, ◌≤◌, ◌^◌, List, [], ◌∷◌, ◌++◌, length, take, drop, map, slice_get, refl, sym, ◌∙◌, ap, subst, arith, Bool, true, Option, Some, None, inl, inr}
+use Rattle.std.proofs.Common.{◌≡◌, ℕ, ◌+◌, ◌<◌, ◌^◌, List, [], ◌∷◌, ◌++◌, length, take, drop, slice_get, refl, sym, ◌∙◌, ap, subst, arith, Bool, true, Some, None, inl, inr}
 use Rattle.std.proofs.lemmas.List.{drop_all, drop_at}
 use Rattle.ssh_wire.specs.Lines.{Id, id_line, id_of, id_text}
 use Rattle.ssh_wire.specs.Sides.{other_side}
@@ -30,7 +30,7 @@ use Rattle.ssh_rules.specs.declared.link.SideMark.{SideMark}
 use Rattle.ssh_rules.specs.declared.link.SideReport.{SideReport}
 use Rattle.ssh_rules.specs.declared.link.Step.{Step}
 use Rattle.ssh_rules.proofs.Lemmas.{is_known, link_is, new_stands, recorded_is, run_handled, run_says, run_signed, start_is_snapshot}
-use Rattle.ssh_run.specs.Carrying.{CarriedEnd, CarriedLink, IsCarried, IsNewLink, StepsLinks, both_marks, first_end, last_link, reported_end, reported_link, side_mark}
+use Rattle.ssh_run.specs.Carrying.{CarriedEnd, CarriedLink, IsCarried, IsNewLink, first_end, last_link, reported_end, reported_link, side_mark}
 use Rattle.ssh_run.proofs.LinkTurns.{Follows, IsTied, follows}
 use Rattle.ssh_run.proofs.SideTurns.{IsSide, wire_by}
 

@@ -1,21 +1,20 @@
 -- What each step of a carried link leads to: a snapshot again, by turns of one side or of both.
 use Rattle.std.proofs.Common.{◌≡◌, ℕ, zero, suc, ◌+◌, ◌-◌, ◌<◌, ◌≤◌, ◌^◌, List, [], ◌∷◌, ◌++◌, length, map, min, refl, sym, ◌∙◌, ap, subst, arith, Bool, true, false, not, Option, Some, inl, inr}
-use Rattle.ssh_wire.specs.Sides.{other_side}
 use Rattle.ssh_wire.specs.declared.side.Side.{Side}
 use Rattle.ssh_wire.specs.declared.side.Side.TheVariants.{Client, Server}
 use Rattle.ssh_kex.specs.Setting.{Says}
 use Rattle.ssh_kex.specs.declared.config.Config.{Config}
-use Rattle.ssh_rules.specs.Log.{asked_in, causes_in, handled, sent_bytes, submitted_in}
+use Rattle.ssh_rules.specs.Log.{sent_bytes, submitted_in}
 use Rattle.ssh_rules.specs.Machine.{Asked, Event, ExchangeBegun}
-use Rattle.ssh_rules.specs.Snapshots.{DoesStep, DoesSteps, IsSnapshot, IsWholeId, LeadsOn, OneSideTurns, ReadsAll, Snapshot, TurnsLeadOn, client_behind, client_log, last_snapshot, server_behind, server_log}
-use Rattle.ssh_rules.specs.Standing.{RekeyedFrom, Standing, is_outside}
-use Rattle.ssh_rules.specs.Turns.{LinkEnd, talkers}
+use Rattle.ssh_rules.specs.Snapshots.{DoesStep, DoesSteps, IsSnapshot, IsWholeId, LeadsOn, OneSideTurns, Snapshot, TurnsLeadOn, client_behind, client_log, last_snapshot, server_behind, server_log}
+use Rattle.ssh_rules.specs.Standing.{RekeyedFrom, is_outside}
+use Rattle.ssh_rules.specs.Turns.{talkers}
 use Rattle.ssh_rules.specs.declared.link.Mark.{Mark}
 use Rattle.ssh_rules.specs.declared.link.Step as link
 use Rattle.ssh_rules.specs.declared.link.Step.TheVariants.{Submit, Deliver, Rekey, Settle}
 use Rattle.ssh_rules.specs.declared.link.SideMark.{SideMark}
 use Rattle.ssh_rules.proofs.Lemmas.{IsKnown, client_leads, client_snapshot, client_turned, leads_join, leads_stay, server_leads, server_snapshot, server_turned, settle_turns, submitted_more}
-use Rattle.ssh_run.specs.Carrying.{AsksKeys, CarriedEnd, CarriedLink, CarriesTo, Repeats, SettlesAll, StepsLink, StepsLinks, SubmitsOne, TakesTurns, both_marks, last_link, side_mark}
+use Rattle.ssh_run.specs.Carrying.{AsksKeys, CarriedEnd, CarriedLink, CarriesTo, Repeats, SettlesAll, StepsLink, StepsLinks, SubmitsOne, both_marks, last_link, side_mark}
 use Rattle.ssh_run.proofs.SideTurns.{IsSide, SideGoes, begin_goes, carry_goes, is_mark, peer_sends, submit_goes}
 
 -- A snapshot is that of a carried link.

@@ -1,5 +1,5 @@
 -- What a call on one side of a carried link does: a turn of that side, behind which it stands as it did.
-use Rattle.std.proofs.Common.{◌≡◌, ℕ, ◌+◌, ◌-◌, ◌<◌, ◌≤◌, ◌^◌, List, [], ◌∷◌, ◌++◌, length, take, drop, min, refl, sym, ◌∙◌, ap, subst, arith, Bool, true, false, not, append_assoc, append-nil, length-append, inl, inr}
+use Rattle.std.proofs.Common.{◌≡◌, ℕ, ◌+◌, ◌<◌, ◌≤◌, ◌^◌, List, [], ◌∷◌, ◌++◌, length, take, drop, refl, sym, ◌∙◌, ap, subst, arith, not, append_assoc, append-nil, length-append}
 use Rattle.std.proofs.Math.Seq.{take-add}
 use Rattle.std.proofs.lemmas.List.{take-append-drop, take-append-le, length-take-le}
 use Rattle.ssh_wire.specs.Lines.{id_line, id_text}
@@ -7,10 +7,10 @@ use Rattle.ssh_wire.specs.Sides.{other_side}
 use Rattle.ssh_wire.specs.declared.side.Side.{Side}
 use Rattle.ssh_kex.specs.Setting.{Says}
 use Rattle.ssh_kex.specs.declared.config.Config.{Config}
-use Rattle.ssh_rules.specs.Log.{asked_in, causes_in, delivered_in, handled, read_bytes, sent_bytes, submitted_in}
+use Rattle.ssh_rules.specs.Log.{delivered_in, handled, read_bytes, sent_bytes, submitted_in}
 use Rattle.ssh_rules.specs.Machine.{Asked, Event, IdHeard, PayloadSubmitted, ExchangeBegun, AnswerSent, PayloadSent, MessageTaken, GuessDropped, PayloadDelivered, PacketDropped, ExchangeFinished, SideState, first_state}
 use Rattle.ssh_rules.specs.Snapshots.{GivesTurn, HasRun, IsAtRest, IsMarkOf, IsWholeId, StandsAs, TookBytes}
-use Rattle.ssh_rules.specs.Standing.{BeginsAsked, Standing, TakesInput, is_outside}
+use Rattle.ssh_rules.specs.Standing.{BeginsAsked, Standing, is_outside}
 use Rattle.ssh_rules.specs.Turns.{LinkEnd, TakesTurn, talkers}
 use Rattle.ssh_rules.specs.Wire.{HasFront}
 use Rattle.ssh_rules.proofs.Lemmas.{delivered_more, input_turn, read_join, rekey_turn, sent_join, steps_join, submit_turn, submitted_more, took_bytes}

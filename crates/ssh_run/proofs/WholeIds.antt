@@ -2,11 +2,11 @@
 use Rattle.std.proofs.Common.{◌≡◌, ℕ, zero, suc, ◌+◌, ◌-◌, ◌<◌, ◌≤◌, ◌==◌, ◌||◌, ◌&&◌, List, [], ◌∷◌, ◌++◌, length, take, get_or, nat_le, nat_lt, nat_eq, not, refl, sym, ◌∙◌, ap, subst, arith, Bool, true, false, Option, Some, None, codes, slice_index, if◌then◌else◌, append_assoc, length-append}
 use Rattle.std.proofs.Math.Seq.{take-length, take-suc}
 use Rattle.std.proofs.lemmas.Bool.Decides.{nat_tests}
-use Rattle.std.proofs.lemmas.List.{length-take-le, take_at}
+use Rattle.std.proofs.lemmas.List.{take_at}
 use Rattle.std.proofs.lemmas.Str.{IsCharBoundary-before_ascii, IsUtf8-from_is_utf8, IsUtf8-take, is_utf8-from_IsUtf8}
 use Rattle.std.specs.List.{list_any, starts_with}
 use Rattle.std.specs.Str.{IsUtf8, is_utf8}
-use Rattle.ssh_wire.specs.Lines.{Id, IdLine, IdFound, OtherLine, TooLong, Version, before_trimmed_rest, found_by_line, id_line, id_of, id_text, is_id_text, is_line_end, lf_end, line_end, line_text, line_to, without_cr, without_line_ends}
+use Rattle.ssh_wire.specs.Lines.{Id, IdLine, OtherLine, TooLong, Version, before_trimmed_rest, found_by_line, id_line, id_of, id_text, is_id_text, is_line_end, lf_end, line_end, line_text, line_to, without_cr, without_line_ends}
 use Rattle.ssh_wire.specs.declared.error.ConfigFault.{ConfigFault}
 use Rattle.ssh_wire.specs.declared.error.ConfigFault.TheVariants as faults
 use Rattle.ssh_wire.specs.declared.side.Side.{Side}
