@@ -1,0 +1,86 @@
+#!/usr/bin/env python3
+"""Usage: bench/gate.py
+
+Runs the gate on a clean clone of HEAD, in a temporary folder where nothing is kept of earlier runs, and prints what each
+crate cost: the minutes of processor time of `rattle build`, which proves a library and compiles a program, and of `rattle
+check`, which proves a program and tries edits; the most memory that one of its processes held, in gigabytes; and how many
+edits it has. The last lines are the sums, the minutes by the clock, and the gate's own last line, whose status is this
+program's. What the gate writes goes to standard error. Reads /proc once a second, so it needs Linux; run nothing beside it.
+"""
+
+import os
+import pathlib
+import subprocess
+import sys
+import tempfile
+import time
+
+TOP = pathlib.Path(__file__).resolve().parent.parent
+TICKS = os.sysconf("SC_CLK_TCK")
+PAGE = os.sysconf("SC_PAGE_SIZE")
+
+
+def proving():
+    """Each process of rattle that builds or checks a crate: its number and start, command, crate, seconds and bytes held."""
+    for name in filter(str.isdigit, os.listdir("/proc")):
+        try:
+            words = pathlib.Path(f"/proc/{name}/cmdline").read_bytes().decode(errors="replace").split("\0")
+            if os.path.basename(words[0]) != "rattle" or words[1] not in ("build", "check"):
+                continue
+            # the fields behind the process's name, which stands in brackets
+            fields = pathlib.Path(f"/proc/{name}/stat").read_text().rpartition(")")[2].split()
+            crate = words[words.index("--crate-name") + 1]
+        except (OSError, ValueError, IndexError):
+            continue
+        yield (name, fields[19]), words[1], crate, (int(fields[11]) + int(fields[12])) / TICKS, int(fields[21]) * PAGE
+
+
+def watch(process):
+    """What each process took until the gate ended."""
+    seen = {}
+    while process.poll() is None:
+        for key, command, crate, seconds, held in proving():
+            most = max(held, seen[key][3] if key in seen else 0)
+            seen[key] = command, crate, seconds, most
+        time.sleep(1)
+    return seen.values()
+
+
+def edits_of(crate):
+    return len(list((TOP / "crates" / crate / "must-fail").glob("*.edit")))
+
+
+def table(seen):
+    """The lines of the table, dearest crate first, and the sums."""
+    minutes, memory = {}, {}
+    for command, crate, seconds, held in seen:
+        row = minutes.setdefault(crate, {"build": 0, "check": 0})
+        row[command] += seconds / 60
+        memory[crate] = max(memory.get(crate, 0), held)
+    yield "| crate | builds | checks | gigabytes | edits |"
+    yield "|---|---|---|---|---|"
+    for crate, row in sorted(minutes.items(), key=lambda it: -sum(it[1].values())):
+        yield f"| `{crate}` | {row['build']:.1f} | {row['check']:.1f} | {memory[crate] / 1e9:.1f} | {edits_of(crate) or ''} |"
+    builds, checks = (sum(row[command] for row in minutes.values()) for command in ("build", "check"))
+    yield f"| sum | {builds:.0f} | {checks:.0f} | | {sum(map(edits_of, minutes))} |"
+
+
+def main():
+    with tempfile.TemporaryDirectory(prefix="gate-") as room:
+        subprocess.run(["git", "clone", "-q", str(TOP), f"{room}/clone"], check=True)
+        with open(f"{room}/log", "w+", errors="replace") as log:
+            start = time.monotonic()
+            process = subprocess.Popen(["bash", ".ci/run"], cwd=f"{room}/clone", stdout=log, stderr=subprocess.STDOUT)
+            seen = watch(process)
+            clock = (time.monotonic() - start) / 60
+            log.seek(0)
+            written = log.read()
+    sys.stderr.write(written)
+    print("\n".join(table(seen)))
+    print(f"{clock:.0f} minutes by the clock")
+    print(next((line for line in written.split("\n") if " passed, " in line), "no verdict"))
+    return process.returncode
+
+
+if __name__ == "__main__":
+    sys.exit(main())
