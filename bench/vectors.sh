@@ -2,8 +2,8 @@
 # Usage: bench/vectors.sh [FILE..]
 # Compares the rows of the files (each *.txt at or below vectors/ if none is given) with what the crates' public calls
 # answer, and prints each row that differs and how many passed and failed. Files of vectors/exchange/ are read by the
-# program crates/exchange_check, those of vectors/machines/ by crates/machine_check, those of vectors/peers/ by it and by
-# crates/vector_check, all others by the latter.
+# program crates/exchange_check, vectors/machines/steps.txt by crates/machine_check, vectors/machines/transport.txt by
+# crates/transport_check, those of vectors/peers/ by crates/replay_check and by crates/vector_check, all others by the latter.
 # Where a program is missing, or older than its sources, it is proved and built first.
 set -u
 top=$(cd "$(dirname "${BASH_SOURCE[0]}")/.." && pwd)
@@ -35,9 +35,9 @@ read_by() {
   [ "$written" = "${written##*$'\n'}" ] || { echo "$2"; echo "${written%$'\n'*}"; }
 }
 
-build vector_check
-build exchange_check
-build machine_check
+for program in vector_check exchange_check machine_check transport_check replay_check; do
+  build "$program"
+done
 if [ $# = 0 ]; then
   mapfile -t files < <(find "$top/vectors" -name '*.txt' | sort)
 else
@@ -46,8 +46,9 @@ fi
 for file in "${files[@]}"; do
   case $(realpath "$file") in
     */exchange/*) read_by exchange_check "$file" ;;
+    */machines/transport.txt) read_by transport_check "$file" ;;
     */machines/*) read_by machine_check "$file" ;;
-    */peers/*) read_by vector_check "$file"; read_by machine_check "$file" ;;
+    */peers/*) read_by vector_check "$file"; read_by replay_check "$file" ;;
     *) read_by vector_check "$file" ;;
   esac
 done

@@ -1,8 +1,7 @@
 //! Rows of both machines, each given the other's packets.
 
-use crate::calls::keys_of;
-use crate::machine::{Machine, Progress};
 use crate::without::Without;
+use machine_rows::{Machine, Progress, config_of, keys_of, trusted_by};
 use ssh_kex::{Config, GexParams, NewKeys, Parts};
 use ssh_mac::HashValue;
 use ssh_negotiate::{KexCause, Preferred, ServerKeys, kex};
@@ -263,41 +262,6 @@ fn refusing<T: Drop>(inner: T, refuse_at: u64) -> Refusing<T> {
         calls: 0,
         refusals: [0; 3],
     }
-}
-
-/// The hosts of a server's keys and certificates.
-pub(crate) fn trusted_by(alloc: Global, host: &ServerKeys) -> Result<Vec<TrustedHost>, Fault> {
-    let mut trusted = Vec::new(alloc);
-    for key in host.keys.as_slice() {
-        trusted.push(TrustedHost {
-            blob: Blob::copy_of(alloc, key.blob.as_slice())?,
-            key_blob: Blob::copy_of(alloc, key.blob.as_slice())?,
-        })?;
-    }
-    for certificate in host.certificates.as_slice() {
-        trusted.push(TrustedHost {
-            blob: Blob::copy_of(alloc, certificate.blob.as_slice())?,
-            key_blob: Blob::copy_of(alloc, certificate.key_blob.as_slice())?,
-        })?;
-    }
-    Ok(trusted)
-}
-
-/// How a side is set up.
-pub(crate) fn config_of(
-    alloc: Global,
-    id: &str,
-    preferred: Preferred,
-    gex: GexParams,
-    host: ServerKeys,
-) -> Result<Config, Fault> {
-    Ok(Config {
-        id: SshId::Standard(Text::new(String::from_str(alloc, id)?)),
-        preferred,
-        limits: Limits::new(1 << 30, 1 << 30, 3600),
-        gex,
-        host,
-    })
 }
 
 /// What is given in place of the message of a number, counted from 1 over both sides.

@@ -1,8 +1,6 @@
 //! Rows of one side's transport: its configuration, and calls one after the other.
 
-use crate::play::trusted_by;
-use crate::replay::side_of;
-use crate::transport::{feed, rekey, submit};
+use machine_rows::{feed, key_of, keys_of, rekey, side_of, submit, times, trusted_by};
 use ssh_kex::{Config, GexParams, Parts};
 use ssh_mac::mac;
 use ssh_negotiate::{HostKey, ServerKeys};
@@ -97,30 +95,6 @@ fn set_number(alloc: Global, config: &mut Config, name: &str, value: &str) -> Re
         _ => return Err(Fault::Malformed),
     }
     Ok(())
-}
-
-/// A value so many times.
-fn times<T: Copy>(alloc: Global, value: T, n: u32) -> Result<Vec<T>, Fault> {
-    let mut values = Vec::new(alloc);
-    for _ in 0..n {
-        values.push(value)?;
-    }
-    Ok(values)
-}
-
-/// One host key whose blob has so many bytes, all zeros.
-pub(crate) fn keys_of(alloc: Global, bytes: u32) -> Result<Vec<HostKey>, Fault> {
-    key_of(alloc, Blob::new(times(alloc, 0, bytes)?))
-}
-
-/// One host key of this blob.
-fn key_of(alloc: Global, blob: Blob) -> Result<Vec<HostKey>, Fault> {
-    let mut keys = Vec::new(alloc);
-    keys.push(HostKey {
-        algorithm: Algorithm::Ed25519,
-        blob,
-    })?;
-    Ok(keys)
 }
 
 /// Calls a transport by the words that are left.

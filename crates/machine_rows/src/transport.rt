@@ -8,7 +8,7 @@ use ssh_transport::Transport;
 use ssh_wire::Error;
 
 /// Feeds it a piece of the peer's bytes.
-pub(crate) fn feed<A: Agreement, H: HostKeys, G: GroupLookup, R: Rng>(
+pub fn feed<A: Agreement, H: HostKeys, G: GroupLookup, R: Rng>(
     transport: &mut Transport<'_>,
     parts: &mut Parts<A, H, G, R>,
     piece: &[u8],
@@ -17,7 +17,7 @@ pub(crate) fn feed<A: Agreement, H: HostKeys, G: GroupLookup, R: Rng>(
 }
 
 /// Submits a payload to it.
-pub(crate) fn submit<A: Agreement, H: HostKeys, G: GroupLookup, R: Rng>(
+pub fn submit<A: Agreement, H: HostKeys, G: GroupLookup, R: Rng>(
     transport: &mut Transport<'_>,
     parts: &mut Parts<A, H, G, R>,
     payload: &[u8],
@@ -26,7 +26,7 @@ pub(crate) fn submit<A: Agreement, H: HostKeys, G: GroupLookup, R: Rng>(
 }
 
 /// Asks it for an exchange.
-pub(crate) fn rekey<A: Agreement, H: HostKeys, G: GroupLookup, R: Rng>(
+pub fn rekey<A: Agreement, H: HostKeys, G: GroupLookup, R: Rng>(
     transport: &mut Transport<'_>,
     parts: &mut Parts<A, H, G, R>,
 ) -> Result<(), Error> {

@@ -18,14 +18,14 @@ use vector_rows::Fault;
 
 /// The machine of either side.
 #[derive(Drop)]
-pub(crate) enum Machine<'c> {
+pub enum Machine<'c> {
     Client(ClientKex<'c>),
     Server(ServerKex<'c>),
 }
 
 /// What a step leads to.
 #[derive(Drop)]
-pub(crate) enum Progress<'c> {
+pub enum Progress<'c> {
     /// Another message is awaited; where told, the numbers of the own packets begin again.
     Waits(Machine<'c>, bool),
     Done(NewKeys),
@@ -33,7 +33,7 @@ pub(crate) enum Progress<'c> {
 
 impl<'c> Machine<'c> {
     /// One that has sent its KEXINIT, with this text of the peer's version line.
-    pub(crate) fn begun<R: Rng>(
+    pub fn begun<R: Rng>(
         alloc: Global,
         side: Side,
         config: &'c Config,
@@ -57,7 +57,7 @@ impl<'c> Machine<'c> {
     }
 
     /// Gives it a message, or none.
-    pub(crate) fn step<A: Agreement, H: HostKeys, G: GroupLookup, R: Rng>(
+    pub fn step<A: Agreement, H: HostKeys, G: GroupLookup, R: Rng>(
         self,
         parts: &mut Parts<A, H, G, R>,
         input: Option<Incoming<'_>>,

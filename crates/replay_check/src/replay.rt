@@ -1,8 +1,7 @@
 //! Rows of recorded exchanges: the machine of one side, given what the other side sent.
 
-use crate::machine::{Machine, Progress};
-use crate::play::config_of;
 use crate::talk::{Agreed, Packet, Speaker, Talk, last_of};
+use machine_rows::{Machine, Progress, config_of, side_of};
 use ssh_kex::{Config, GexParams, NewKeys, Parts};
 use ssh_mac::HashValue;
 use ssh_negotiate::{HostKey, KexCause, Preferred, ServerKeys};
@@ -41,15 +40,6 @@ pub(crate) fn answer(
     }
     talk.agreed.push(agreed)?;
     Ok(true)
-}
-
-/// The next word as a side.
-pub(crate) fn side_of(row: &mut Row<'_>) -> Result<Side, Fault> {
-    match row.word()? {
-        "client" => Ok(Side::Client),
-        "server" => Ok(Side::Server),
-        _ => Err(Fault::Malformed),
-    }
 }
 
 /// Appends what an exchange leaves.

@@ -1,8 +1,8 @@
 //! Rows of recorded connections: a transport of one side, fed the other side's bytes.
 
-use crate::replay::{cookie_of, give_agreed, set_up, side_of};
+use crate::replay::{cookie_of, give_agreed, set_up};
 use crate::talk::{Packet, Talk};
-use crate::transport::{feed, rekey, submit};
+use machine_rows::{feed, rekey, side_of, submit};
 use ssh_kex::Parts;
 use ssh_transport::Transport;
 use ssh_vectors::TestGroups;

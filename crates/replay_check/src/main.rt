@@ -1,0 +1,42 @@
+//! Compares recorded connections with what one side makes of what the other side sent: its machine in each exchange, and a
+//! transport in the whole connection.
+//! The status is 0 where none failed and at least one passed.
+#![tactic(auto)]
+
+mod carried;
+mod replay;
+mod talk;
+
+use crate::talk::Talk;
+use std::process::ExitCode;
+use vector_rows::{Answers, Fault, Row, check};
+
+/// Answers the rows, over what those before told of a connection.
+#[derive(Drop)]
+struct Connections {
+    talk: Talk,
+}
+
+impl Answers for Connections {
+    /// What stands on the wire is learned; keys, and what is left over, are for the check of packets.
+    fn passes_over(&mut self, kind: &str, row: &mut Row<'_>, wanted: &str) -> Result<bool, Fault> {
+        Ok(kind == "keys" || kind == "left" || self.talk.learn(kind, row, wanted)?)
+    }
+
+    fn answer(&mut self, kind: &str, row: &mut Row<'_>, found: &mut String) -> Result<bool, Fault> {
+        Ok(
+            replay::answer(kind, &mut self.talk, row, found)?
+                || carried::answer(kind, &self.talk, row, found)?,
+        )
+    }
+}
+
+fn main(rt: HostRuntime) -> ExitCode {
+    let mut connections = Connections {
+        talk: Talk::new(rt.alloc()),
+    };
+    match check(&rt, &mut connections) {
+        Ok(true) => ExitCode::SUCCESS,
+        _ => ExitCode::FAILURE,
+    }
+}
