@@ -11,9 +11,9 @@ use vector_rows::{Answers, Fault, Row, check};
 
 /// Answers the rows, each by itself.
 #[derive(Drop)]
-struct Plays;
+struct PlayRows;
 
-impl Answers for Plays {
+impl Answers for PlayRows {
     /// None.
     fn passes_over(
         &mut self,
@@ -30,7 +30,7 @@ impl Answers for Plays {
 }
 
 fn main(rt: HostRuntime) -> ExitCode {
-    match check(&rt, &mut Plays) {
+    match check(&rt, &mut PlayRows) {
         Ok(true) => ExitCode::SUCCESS,
         _ => ExitCode::FAILURE,
     }

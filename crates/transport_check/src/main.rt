@@ -9,9 +9,9 @@ use vector_rows::{Answers, Fault, Row, check};
 
 /// Answers the rows, each by itself.
 #[derive(Drop)]
-struct Calls;
+struct CallRows;
 
-impl Answers for Calls {
+impl Answers for CallRows {
     /// None.
     fn passes_over(
         &mut self,
@@ -28,7 +28,7 @@ impl Answers for Calls {
 }
 
 fn main(rt: HostRuntime) -> ExitCode {
-    match check(&rt, &mut Calls) {
+    match check(&rt, &mut CallRows) {
         Ok(true) => ExitCode::SUCCESS,
         _ => ExitCode::FAILURE,
     }
