@@ -8,7 +8,7 @@ use crate::command::USAGE;
 use crate::status::{NO_COMMAND, REPORT_WRITTEN, RUN_REFUSED, SCRIPT_FAULTY};
 use ssh_rules::link::LinkReport;
 use ssh_script::{
-    ClearReport, ScriptFault, print_clear, print_report, print_summary, push_fault, push_refusal,
+    ClearReport, ScriptFault, print_clear, print_fault, print_refusal, print_report, print_summary,
 };
 use ssh_wire::Error;
 use std::alloc::Global;
@@ -96,15 +96,13 @@ impl Answer {
         ensures text { IfOk result (λ text. text.items ≡ answer_text self.now) }
         ensures err { IfErr result (λ e. e ≡ Memory) }
     {
-        let mut out = Vec::new(alloc);
         match self {
-            Answer::Usage => out.extend_from_slice(USAGE)?,
-            Answer::Faulty(fault) => push_fault(&mut out, *fault)?,
-            Answer::Refused(error) => push_refusal(&mut out, error)?,
-            Answer::Ran(report) => return print_clear(alloc, report),
-            Answer::RanLink(report) => return print_report(alloc, report),
-            Answer::RanGen(report) => return print_summary(alloc, report),
+            Answer::Usage => Ok(Vec::from_slice(alloc, USAGE)?),
+            Answer::Faulty(fault) => print_fault(alloc, *fault),
+            Answer::Refused(error) => print_refusal(alloc, error),
+            Answer::Ran(report) => print_clear(alloc, report),
+            Answer::RanLink(report) => print_report(alloc, report),
+            Answer::RanGen(report) => print_summary(alloc, report),
         }
-        Ok(out)
     }
 }

@@ -28,7 +28,7 @@ pub use crate::fields::number;
 pub use crate::generated::generated_script;
 pub use crate::link_report::print_report;
 pub use crate::link_script::parse_script;
-pub use crate::refusal::{push_fault, push_refusal};
+pub use crate::refusal::{print_fault, print_refusal};
 pub use crate::report::{ClearReport, ClearSide};
 pub use crate::script::{ScriptError, ScriptFault, ScriptKind};
 pub use crate::setup::{Script, SideSetup};

@@ -1,15 +1,16 @@
 //! The texts of a refusal and of a script's fault.
 
-ghost use Rattle.std.specs.Prelude.{◌≡◌, ◌++◌, IfErr, OnOk};
+ghost use Rattle.std.specs.Prelude.{◌≡◌, ◌++◌, IfOk, IfErr, OnOk};
 ghost use Rattle.ssh_wire.specs.declared.error.Error.TheVariants.{Memory, NoCommonAlgo};
 ghost use Rattle.ssh_script.specs.Report.{kind_name, encoding_name, config_name, error_text, refusal_line, fault_line, script_kind_name};
 
 use crate::print::{push_named, push_names, push_numbered, push_text};
 use crate::script::{ScriptFault, ScriptKind};
 use ssh_wire::{AlgorithmKind, ConfigFault, EncodingFault, Error, NameList, put_u8};
+use std::alloc::Global;
 
 /// The refusal's name, and what it carries.
-pub fn push_error(out: &mut Vec<u8>, error: &Error) -> Result<(), Error>
+fn push_error(out: &mut Vec<u8>, error: &Error) -> Result<(), Error>
     ensures ok { OnOk result (out.new.items ≡ out.old.items ++ error_text error.now) }
     ensures err { IfErr result (λ e. e ≡ Memory) }
 {
@@ -98,24 +99,28 @@ fn name_of_config(fault: ConfigFault) -> &'static [u8]
     }
 }
 
-/// The line that tells a refusal.
-pub fn push_refusal(out: &mut Vec<u8>, error: &Error) -> Result<(), Error>
-    ensures ok { OnOk result (out.new.items ≡ out.old.items ++ refusal_line error.now) }
+/// The line that tells a refusal. Memory where there is no room for it.
+pub fn print_refusal(alloc: Global, error: &Error) -> Result<Vec<u8>, Error>
+    ensures text { IfOk result (λ text. text.items ≡ refusal_line error.now) }
     ensures err { IfErr result (λ e. e ≡ Memory) }
 {
-    push_text(out, b"refused ")?;
-    push_error(out, error)?;
-    put_u8(out, b'\n')
+    let mut text = Vec::new(alloc);
+    push_text(&mut text, b"refused ")?;
+    push_error(&mut text, error)?;
+    put_u8(&mut text, b'\n')?;
+    Ok(text)
 }
 
-/// The line that tells a script's fault.
-pub fn push_fault(out: &mut Vec<u8>, fault: ScriptFault) -> Result<(), Error>
-    ensures ok { OnOk result (out.new.items ≡ out.old.items ++ fault_line fault) }
+/// The line that tells a script's fault. Memory where there is no room for it.
+pub fn print_fault(alloc: Global, fault: ScriptFault) -> Result<Vec<u8>, Error>
+    ensures text { IfOk result (λ text. text.items ≡ fault_line fault) }
     ensures err { IfErr result (λ e. e ≡ Memory) }
 {
-    push_numbered(out, b"script ", fault.line)?;
-    push_named(out, b" ", name_of_script_kind(fault.kind))?;
-    put_u8(out, b'\n')
+    let mut text = Vec::new(alloc);
+    push_numbered(&mut text, b"script ", fault.line)?;
+    push_named(&mut text, b" ", name_of_script_kind(fault.kind))?;
+    put_u8(&mut text, b'\n')?;
+    Ok(text)
 }
 
 fn name_of_script_kind(kind: ScriptKind) -> &'static [u8]
