@@ -2,16 +2,16 @@
 
 ghost use Rattle.std.specs.Prelude.{◌^◌, ◌<◌, All, IsTrue, IfOk, length};
 ghost use Rattle.ssh_kex.specs.Refusals.{IsCreated};
-ghost use Rattle.ssh_kex.specs.ServerRows.{AreShortBlobs};
+ghost use Rattle.ssh_server_kex.specs.ServerRows.{AreShortBlobs};
 ghost use Rattle.ssh_negotiate.specs.declared.preferred.HostCertificate.{HostCertificate};
 ghost use Rattle.ssh_negotiate.specs.declared.preferred.HostKey.{HostKey};
 
 use rand_core::Rng;
-use ssh_kex::{
-    Agreement, ClientKex, Config, GroupLookup, HostKeys, KexProgress, NewKeys, Parts, ServerKex,
-};
+use ssh_client_kex::ClientKex;
+use ssh_kex::{Agreement, Config, GroupLookup, HostKeys, KexProgress, NewKeys, Parts};
 use ssh_negotiate::{HostCertificate, HostKey, KexCause, ServerKeys, can_be_advertised};
 use ssh_packet::{Incoming, PacketWriter};
+use ssh_server_kex::ServerKex;
 use ssh_wire::{Error, Side};
 use std::alloc::Global;
 use vector_rows::Fault;

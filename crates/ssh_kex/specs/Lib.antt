@@ -9,12 +9,6 @@ pub mod Refusals
 pub mod Stepping
 pub mod Agreeing
 pub mod Opening
-pub mod Reading
 pub mod Views
-pub mod ClientViews
-pub mod ClientRows
 pub mod Sessions
 pub mod Laws
-pub mod ServerRows
-pub mod ServerViews
-pub mod ServerAnswers

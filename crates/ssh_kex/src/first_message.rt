@@ -1,19 +1,19 @@
-//! The peer's KEXINIT.
+//! The peer's KEXINIT (RFC 4253 section 7.1).
 
 ghost use Rattle.std.specs.Prelude.{IfOk, IfErr};
-ghost use Rattle.ssh_wire.specs.declared.side.Side.TheVariants.{Client as client_side};
+ghost use Rattle.ssh_wire.specs.declared.side.Side.TheVariants.{Client as client_side, Server as server_side};
 ghost use Rattle.ssh_kex.specs.Opening.{IsLateWhere, Reads, RefusesNames};
 ghost use Rattle.ssh_kex.specs.Setting.{offers_of};
 
 use crate::config::Config;
 use crate::message::has_type;
-use ssh_negotiate::{Client, KexCause, Names, Select};
+use ssh_negotiate::{Client, KexCause, Names, Select, Server};
 use ssh_packet::Incoming;
-use ssh_wire::Error;
+use ssh_wire::{Error, msg};
 use std::alloc::Global;
 
 /// Whether a KEXINIT comes too late: under strict key exchange the first is the first packet.
-pub(crate) fn is_late(cause: &KexCause, is_strict: bool, seqn: u32) -> bool
+fn is_late(cause: &KexCause, is_strict: bool, seqn: u32) -> bool
     ensures { IsLateWhere result cause.now is_strict seqn }
 {
     match cause {
@@ -23,7 +23,7 @@ pub(crate) fn is_late(cause: &KexCause, is_strict: bool, seqn: u32) -> bool
 }
 
 /// The names that a client takes from the peer's KEXINIT.
-pub(crate) fn client_names(
+pub fn client_names(
     alloc: Global,
     config: &Config,
     cause: &KexCause,
@@ -34,7 +34,7 @@ pub(crate) fn client_names(
     ensures err { IfErr result (λ e. RefusesNames client_side
         (offers_of client_side config.now) cause.now incoming.now.seqn incoming.now.payload.now e) }
 {
-    if !has_type(incoming.payload, 20) {
+    if !has_type(incoming.payload, msg::KEXINIT) {
         return Err(Error::KexInit);
     }
     let names = match Client::read_kex(
@@ -50,7 +50,42 @@ pub(crate) fn client_names(
     };
     if is_late(cause, names.strict_kex, incoming.seqn) {
         return Err(Error::StrictKeyExchangeViolation {
-            message_type: 20,
+            message_type: msg::KEXINIT,
+            sequence_number: incoming.seqn.wrapping_sub(1) as usize,
+        });
+    }
+    Ok(names)
+}
+
+/// The names that a server takes from the peer's KEXINIT.
+pub fn server_names(
+    alloc: Global,
+    config: &Config,
+    cause: &KexCause,
+    incoming: &Incoming<'_>,
+) -> Result<Names, Error>
+    ensures ok { IfOk result (λ n. Reads server_side (offers_of server_side config.now) cause.now incoming.now.seqn
+        incoming.now.payload.now n) }
+    ensures err { IfErr result (λ e. RefusesNames server_side
+        (offers_of server_side config.now) cause.now incoming.now.seqn incoming.now.payload.now e) }
+{
+    if !has_type(incoming.payload, msg::KEXINIT) {
+        return Err(Error::KexInit);
+    }
+    let names = match Server::read_kex(
+        alloc,
+        incoming.payload,
+        &config.preferred,
+        Some(config.host.keys.as_slice()),
+        Some(config.host.certificates.as_slice()),
+        cause,
+    ) {
+        Ok(names) => names,
+        Err(error) => return Err(error),
+    };
+    if is_late(cause, names.strict_kex, incoming.seqn) {
+        return Err(Error::StrictKeyExchangeViolation {
+            message_type: msg::KEXINIT,
             sequence_number: incoming.seqn.wrapping_sub(1) as usize,
         });
     }

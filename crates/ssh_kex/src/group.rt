@@ -108,7 +108,7 @@ fn digits_of(byte: u8) -> u64
 }
 
 /// A group of the same numbers. Memory.
-pub(crate) fn copy_of_group(alloc: Global, group: &DhGroup) -> Result<DhGroup, Error>
+pub fn copy_of_group(alloc: Global, group: &DhGroup) -> Result<DhGroup, Error>
     ensures ok { IfOk result (λ g. g ≡ group.now) }
     ensures err { IfErr result (λ e. e ≡ Memory) }
 {

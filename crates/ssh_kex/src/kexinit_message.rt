@@ -20,7 +20,7 @@ const LONGEST_KEXINIT: usize = 262156;
 
 /// Sends a KEXINIT, and answers a copy of its payload, for which there is room before it is sent. It is a server's where the
 /// keys are given. Memory leaves the writer as it was.
-pub(crate) fn send_kexinit<R: Rng>(
+pub fn send_kexinit<R: Rng>(
     alloc: Global,
     prefs: &Preferred,
     server_config: Option<&ServerKeys>,

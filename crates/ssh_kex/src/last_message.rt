@@ -18,7 +18,7 @@ use ssh_packet::{CipherPair, PacketWriter};
 use ssh_wire::{EncodingFault, Error, msg};
 
 /// The peer's NEWKEYS, which is the end. Kex where it is another message, SshEncoding(TrailingData) where more follows.
-pub(crate) fn last<K>(
+pub fn last<K>(
     exchange: Exchange,
     host: Option<ServerHost>,
     made: FinishedExchange,
@@ -45,7 +45,7 @@ pub(crate) fn last<K>(
 }
 
 /// The end of an exchange of no values: NEWKEYS is sent, and the hash is empty. Memory leaves the output as it was.
-pub(crate) fn end_at_once<K, R: Rng>(
+pub fn end_at_once<K, R: Rng>(
     algorithm: &KexAlgorithm,
     cause: &KexCause,
     exchange: Exchange,
@@ -78,7 +78,7 @@ pub(crate) fn end_at_once<K, R: Rng>(
 }
 
 /// What is kept of an exchange whose hash is known, and what is sealed and opened with behind it.
-pub(crate) fn finish(
+pub fn finish(
     algorithm: &KexAlgorithm,
     cause: &KexCause,
     names: Names,

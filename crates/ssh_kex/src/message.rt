@@ -10,7 +10,7 @@ use ssh_packet::PacketWriter;
 use ssh_wire::Error;
 
 /// Whether a message has the type.
-pub(crate) fn has_type(payload: &[u8], message_type: u8) -> bool
+pub fn has_type(payload: &[u8], message_type: u8) -> bool
     ensures { result ≡ (message_type_of payload.now == message_type) }
 {
     match payload.first() {
@@ -20,7 +20,7 @@ pub(crate) fn has_type(payload: &[u8], message_type: u8) -> bool
 }
 
 /// Appends one packet of a message. PacketSize where it is over 262157 bytes; Memory. A refusal leaves the output as it was.
-pub(crate) fn put_message<R: Rng>(
+pub fn put_message<R: Rng>(
     output: &mut PacketWriter,
     rng: &mut R,
     message: &[u8],

@@ -3,7 +3,7 @@ use Rattle.std.specs.Prelude.{◌<◌, ◌^◌, length}
 use Rattle.ssh_wire.specs.Lines.{id_text}
 use Rattle.ssh_wire.specs.declared.side.Side.{Side}
 use Rattle.ssh_negotiate.specs.Laws.{AreShort}
-use Rattle.ssh_kex.specs.ServerRows.{AreShortBlobs}
+use Rattle.ssh_server_kex.specs.ServerRows.{AreShortBlobs}
 use Rattle.ssh_kex.specs.Setting.{offers_of}
 use Rattle.ssh_kex.specs.declared.config.Config.{Config}
 

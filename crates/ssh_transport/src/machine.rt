@@ -14,9 +14,11 @@ ghost use Rattle.ssh_wire.specs.declared.error.Error.TheVariants.{Memory};
 ghost use Rattle.ssh_wire.specs.declared.side.Side.TheVariants.{Client as client_side, Server as server_side};
 
 use rand_core::Rng;
-use ssh_kex::{Agreement, ClientKex, Config, GroupLookup, HostKeys, KexProgress, Parts, ServerKex};
+use ssh_client_kex::ClientKex;
+use ssh_kex::{Agreement, Config, GroupLookup, HostKeys, KexProgress, Parts};
 use ssh_negotiate::KexCause;
 use ssh_packet::{Incoming, PacketWriter};
+use ssh_server_kex::ServerKex;
 use ssh_wire::{Error, Side};
 use std::alloc::Global;
 use std::marker::Model;

@@ -1,0 +1,566 @@
+//! A client's side of an exchange, step by step.
+
+ghost use Rattle.std.specs.Prelude.{◌≡◌, ◌+◌, ◌≤◌, ◌^◌, ◌<◌, [], true, false, length, is_some, Option, None, Some, Err, IfOk, IfErr, OnOk, OnErr, IfSome};
+ghost use Rattle.ssh_negotiate.specs.Laws.{AreShort};
+ghost use Rattle.ssh_negotiate.specs.Reading.{behind_cookie, cookie_from, kexinit_drawn};
+ghost use Rattle.ssh_packet.specs.Sealing.{IsAdmissible, IsPadded, item_of, stream_after};
+ghost use Rattle.ssh_wire.specs.Forms.{AreBytes};
+ghost use Rattle.ssh_kex.specs.Refusals.{IsCreated};
+ghost use Rattle.ssh_negotiate.specs.Tables.{shape_of};
+ghost use Rattle.ssh_packet.specs.Writing.{SameButRoom, Sends};
+ghost use Rattle.ssh_wire.specs.Lines.{id_text};
+ghost use Rattle.ssh_wire.specs.Outside.{Rose};
+ghost use Rattle.ssh_wire.specs.declared.error.Error.TheVariants.{Memory};
+ghost use Rattle.ssh_wire.specs.declared.side.Side.TheVariants.{Client as client_side};
+ghost use Rattle.ssh_client_kex.specs.ClientRows.{AnswersGroup, AnswersKexinit, OpensWithValue, SendsOfGroup, RefusesGroup, RefusesKexinit, RefusesValue, SendsValue};
+ghost use Rattle.ssh_client_kex.specs.ClientViews.{client_machine, ClientHolds, HasNoValues};
+ghost use Rattle.ssh_client_kex.specs.declared.client_kex.ClientState.TheVariants.{AwaitsGroup as awaits_group};
+ghost use Rattle.ssh_kex.specs.declared.progress.KexProgress.TheVariants.{NeedsReply};
+ghost use Rattle.ssh_kex.specs.Messages.{is_gex, request_message};
+ghost use Rattle.ssh_kex.specs.Parts.{IsSmall, KeepsAgreement, KeepsGroups, KeepsHosts, Setup};
+ghost use Rattle.ssh_kex.specs.Refusals.{IsInside, IsOutside};
+ghost use Rattle.ssh_kex.specs.Setting.{offers_of};
+ghost use Rattle.ssh_kex.specs.Stages.{Created as created, names_of, is_strict};
+ghost use Rattle.ssh_kex.specs.Stepping.{at_kexinit, asks_agreement, asks_hosts, asks_groups, next_of, says_of, denies_of, Progresses, RefusesStep, Puts, PutsFront};
+ghost use Rattle.ssh_kex.specs.Views.{HasShortSides};
+
+use crate::client_reply::take_reply;
+use crate::fields::{fields_of, group_of};
+use rand_core::Rng;
+use ssh_kex::first_message::client_names;
+use ssh_kex::kexinit_message::send_kexinit;
+use ssh_kex::last_message::{end_at_once, last};
+use ssh_kex::message::{has_type, put_message};
+use ssh_kex::{
+    Agreement, Config, DhGroup, Exchange, FinishedExchange, GexChosen, GexParams, GroupLookup,
+    HostKeys, KexAlgorithm, KexProgress, Parts, ServerHost, copy_of_group,
+};
+use ssh_negotiate::{KexCause, Names, kex};
+use ssh_packet::{CipherPair, Incoming, PacketWriter};
+use ssh_wire::{Blob, Error, SshId, msg};
+use std::alloc::Global;
+use std::marker::Model;
+
+#[derive(Drop)]
+pub(crate) enum ClientState {
+    Created,
+    AwaitsGroup {
+        names: Names,
+    },
+    AwaitsReply {
+        names: Names,
+        algorithm: KexAlgorithm,
+    },
+    AwaitsNewkeys {
+        host: ServerHost,
+        made: FinishedExchange,
+        cipher: CipherPair,
+    },
+}
+
+/// A client's side of an exchange.
+#[derive(Drop)]
+pub struct ClientKex<'c> {
+    alloc: Global,
+    config: &'c Config,
+    cause: KexCause,
+    exchange: Exchange,
+    state: ClientState,
+}
+
+impl<'c> Model for ClientKex<'c> {
+    ghost use Rattle.ssh_kex.specs.Stages.{Machine};
+    ghost use Rattle.ssh_client_kex.specs.ClientViews.{ClientHolds, client_machine};
+
+    ghost Value = { Machine };
+
+    ghost view = { λ k. client_machine k.config.now k.cause k.exchange k.state };
+
+    ghost invariant = { λ k. ClientHolds k.config.now k.exchange k.state };
+}
+
+impl<'c> ClientKex<'c> {
+    /// A client's side of an exchange between these two version lines, before its KEXINIT. Memory.
+    pub fn new(
+        alloc: Global,
+        config: &'c Config,
+        client_sshid: &SshId,
+        server_sshid: &[u8],
+        cause: KexCause,
+    ) -> Result<ClientKex<'c>, Error>
+        requires client_id { length (id_text client_sshid.now) < 2 ^ 31 }
+        requires server_id { length server_sshid.now < 2 ^ 31 }
+        requires lists { AreShort (offers_of client_side config.now) }
+        ensures ok { IfOk result (λ k. k ≡ record {
+          setting = record {
+            side = client_side;
+            config = config.now;
+            client_id = id_text client_sshid.now;
+            server_id = server_sshid.now;
+            cause = cause;
+          };
+          stage = created [];
+        }) }
+        ensures err { IfErr result (λ e. e ≡ Memory) }
+    {
+        let exchange = Exchange::new(alloc, client_sshid.as_kex_hash_bytes(), server_sshid)?;
+        Ok(ClientKex {
+            alloc,
+            config,
+            cause,
+            exchange,
+            state: ClientState::Created,
+        })
+    }
+
+    /// One message of the peer. What each stage takes, refuses and writes is said of the stages; a refusal leaves the output
+    /// as it was.
+    pub fn step<A: Agreement, H: HostKeys, G: GroupLookup, R: Rng>(
+        self,
+        parts: &mut Parts<A, H, G, R>,
+        input: Option<Incoming<'_>>,
+        output: &mut PacketWriter,
+    ) -> Result<KexProgress<ClientKex<'c>>, Error>
+        requires { IfSome input (λ i. length i.payload.now < 2 ^ 31) }
+        ensures agreement { KeepsAgreement A.lawful A.obliging A.offered A.refusals A.calls parts.old.agreement
+            parts.new.agreement }
+        ensures hosts { KeepsHosts H.lawful H.obliging H.accepts H.trusts H.refused_sign H.refused_verify
+            H.refused_check H.calls parts.old.hosts parts.new.hosts }
+        ensures groups { KeepsGroups G.lawful G.obliging G.group G.refusals G.calls parts.old.groups parts.new.groups }
+        ensures agreement_calls { A.calls parts.new.agreement ≤ A.calls parts.old.agreement + asks_agreement
+            self.entry.setting.side self.entry.stage (next_of result) }
+        ensures hosts_calls { H.calls parts.new.hosts ≤ H.calls parts.old.hosts + asks_hosts self.entry.stage }
+        ensures groups_calls { G.calls parts.new.groups ≤ G.calls parts.old.groups + asks_groups self.entry.stage }
+        ensures goes { IfOk result (λ p. Progresses (says_of A.lawful A.offered A.client_makes A.server_makes A.agrees
+            H.lawful H.obliging H.accepts H.trusts H.makes G.lawful G.group self.entry.setting.config
+            parts.old.agreement parts.old.hosts parts.old.groups) self.entry input.entry output.old p output.new) }
+        ensures causes { IfErr result (λ e. RefusesStep (says_of A.lawful A.offered A.client_makes A.server_makes
+            A.agrees H.lawful H.obliging H.accepts H.trusts H.makes G.lawful G.group self.entry.setting.config
+            parts.old.agreement parts.old.hosts parts.old.groups)
+            (denies_of A.obliging A.offered A.client_makes A.server_makes A.refusals H.obliging H.accepts H.refused_sign
+            H.refused_verify G.obliging G.refusals parts.old.agreement parts.new.agreement parts.old.hosts
+            parts.new.hosts parts.old.groups parts.new.groups) self.entry input.entry e) }
+        ensures front { OnErr result (PutsFront self.entry.stage output.old output.new) }
+        ensures unchanged { IfErr result (λ e. (e ≡ Memory → ⊥) → SameButRoom output.old output.new) }
+    {
+        let Some(incoming) = input else {
+            return Err(Error::KexInit);
+        };
+        let ClientKex {
+            alloc,
+            config,
+            cause,
+            exchange,
+            state,
+        } = self;
+        let payload = incoming.payload;
+        match state {
+            ClientState::Created => take_kexinit(
+                alloc,
+                config,
+                cause,
+                exchange,
+                &mut parts.agreement,
+                &mut parts.rng,
+                incoming,
+                output,
+            ),
+            ClientState::AwaitsGroup { names } => take_group(
+                alloc,
+                config,
+                cause,
+                exchange,
+                names,
+                &mut parts.agreement,
+                &mut parts.rng,
+                payload,
+                output,
+            ),
+            ClientState::AwaitsReply { names, algorithm } => take_reply(
+                alloc,
+                config,
+                cause,
+                exchange,
+                names,
+                algorithm,
+                &mut parts.agreement,
+                &mut parts.hosts,
+                &mut parts.rng,
+                payload,
+                output,
+            ),
+            ClientState::AwaitsNewkeys { host, made, cipher } => {
+                last(exchange, Some(host), made, cipher, payload)
+            }
+        }
+    }
+
+    /// Sends the own KEXINIT, with 16 drawn bytes as cookie, and keeps it. It is for a machine before the server's. Memory, and
+    /// then machine and writer are as they were.
+    pub fn kexinit<R: Rng>(&mut self, rng: &mut R, output: &mut PacketWriter) -> Result<(), Error>
+        requires { IsCreated self.old.stage }
+        ensures ok { OnOk result (self.new ≡ record self.old {
+          stage = created
+              (kexinit_drawn self.old.setting.config.preferred None (R.stream rng.old));
+        }) }
+        ensures sent { OnOk result (Sends output.old (kexinit_drawn self.old.setting.config.preferred None
+            (R.stream rng.old)) (behind_cookie (R.stream rng.old)) output.new) }
+        ensures stream { OnOk result (R.stream rng.new ≡ stream_after output.old.sealing
+            (kexinit_drawn self.old.setting.config.preferred None (R.stream rng.old)) (behind_cookie
+            (R.stream rng.old))) }
+        ensures admissible { OnOk result (IsAdmissible output.old.sealing (item_of output.old.sealing
+            (kexinit_drawn self.old.setting.config.preferred None (R.stream rng.old)) (behind_cookie
+            (R.stream rng.old)))) }
+        ensures padded { OnOk result (IsPadded output.old.sealing (item_of output.old.sealing
+            (kexinit_drawn self.old.setting.config.preferred None (R.stream rng.old)) (behind_cookie
+            (R.stream rng.old)))) }
+        ensures cookie { OnOk result (length (cookie_from (R.stream rng.old)) ≡ 16) }
+        ensures bytes { OnOk result (AreBytes (cookie_from (R.stream rng.old))) }
+        ensures unchanged { OnErr result ((self.new ≡ self.old) × SameButRoom output.old output.new) }
+        ensures err { IfErr result (λ e. e ≡ Memory) }
+    {
+        let kexinit = send_kexinit(self.alloc, &self.config.preferred, None, rng, output)?;
+        self.exchange.client_kex_init = kexinit;
+        Ok(())
+    }
+
+    /// Whether the peer's KEXINIT was read.
+    pub fn peer_kexinit_received(&self) -> bool
+        ensures { result ≡ is_some (names_of self.now.stage) }
+    {
+        match &self.state {
+            ClientState::Created => false,
+            ClientState::AwaitsGroup { .. }
+            | ClientState::AwaitsReply { .. }
+            | ClientState::AwaitsNewkeys { .. } => true,
+        }
+    }
+
+    /// Whether the exchange is strict, as far as the peer's KEXINIT was read.
+    pub fn strict_kex(&self) -> bool
+        ensures { result ≡ is_strict (names_of self.now.stage) }
+    {
+        match &self.state {
+            ClientState::Created => false,
+            ClientState::AwaitsGroup { names } | ClientState::AwaitsReply { names, .. } => {
+                names.strict_kex
+            }
+            ClientState::AwaitsNewkeys { made, .. } => made.names.strict_kex,
+        }
+    }
+}
+
+/// A machine that awaits the peer's next message.
+pub(crate) fn waits<'c>(
+    alloc: Global,
+    config: &'c Config,
+    cause: KexCause,
+    exchange: Exchange,
+    state: ClientState,
+    reset_seqn: bool,
+) -> KexProgress<ClientKex<'c>>
+    requires { ClientHolds config.now exchange state }
+    ensures { result ≡ NeedsReply (client_machine config.now cause exchange state) reset_seqn }
+{
+    KexProgress::NeedsReply {
+        kex: ClientKex {
+            alloc,
+            config,
+            cause,
+            exchange,
+            state,
+        },
+        reset_seqn,
+    }
+}
+
+/// Makes the client's value, keeps it, and sends it. Kex where the agreement refused; PacketSize; Memory. A refusal leaves
+/// the output as it was.
+fn send_value<A: Agreement, R: Rng>(
+    alloc: Global,
+    algorithm: &mut KexAlgorithm,
+    agreement: &mut A,
+    rng: &mut R,
+    client_ephemeral: &mut Blob,
+    output: &mut PacketWriter,
+) -> Result<(), Error>
+    requires { (shape_of algorithm.old.name).skip ≡ false }
+    ensures keeps { KeepsAgreement A.lawful A.obliging A.offered A.refusals A.calls agreement.old agreement.new }
+    ensures calls { A.calls agreement.new ≤ A.calls agreement.old + 1 }
+    ensures ok { OnOk result (SendsValue (λ l v. (s : Setup) → A.lawful agreement.old s
+        → A.client_makes algorithm.old.name algorithm.old.group l v) algorithm.old algorithm.new client_ephemeral.new
+        output.old output.new) }
+    ensures err { IfErr result (RefusesValue (λ l v. (s : Setup) → A.lawful agreement.old s
+        → A.client_makes algorithm.old.name algorithm.old.group l v) (λ v. (s : Setup) → A.lawful agreement.old s
+        → IsSmall v) (Rose (A.refusals agreement.old) (A.refusals agreement.new)
+        × ((s : Setup) → A.obliging agreement.old s → A.offered agreement.old algorithm.old.name ≡ true → ⊥))) }
+    ensures unchanged { OnErr result (SameButRoom output.old output.new) }
+{
+    let mut message = Vec::new(alloc);
+    if let Err(error) = algorithm.client_dh(agreement, rng, client_ephemeral, &mut message) {
+        return Err(error);
+    }
+    put_message(output, rng, message.as_slice())
+}
+
+/// Whether a group is within the sizes.
+fn is_inside(sizes: GexParams, group: &DhGroup) -> bool
+    requires { length group.now.prime < 2 ^ 31 }
+    ensures inside { result ≡ true → IsInside sizes group.now }
+    ensures outside { result ≡ false → IsOutside sizes group.now }
+{
+    let size = group.bit_size();
+    u64::from(sizes.min_group_size) <= size && size <= u64::from(sizes.max_group_size)
+}
+
+/// Asks for a group of the own sizes. Memory leaves the output as it was.
+fn ask_group<'c, R: Rng>(
+    alloc: Global,
+    config: &'c Config,
+    cause: KexCause,
+    exchange: Exchange,
+    names: Names,
+    rng: &mut R,
+    output: &mut PacketWriter,
+) -> Result<KexProgress<ClientKex<'c>>, Error>
+    requires sides { HasShortSides exchange }
+    requires exchanges { (shape_of names.kex).skip ≡ false }
+    requires gex { is_gex names.kex ≡ true }
+    ensures ok { IfOk result (λ p. (p ≡ NeedsReply (client_machine config.now cause exchange
+        (awaits_group names)) false) × Puts output.old (request_message config.now.gex) output.new) }
+    ensures err { IfErr result (λ e. e ≡ Memory) }
+    ensures unchanged { OnErr result (SameButRoom output.old output.new) }
+{
+    let mut message = Vec::new(alloc);
+    let algorithm = KexAlgorithm::new(alloc, names.kex);
+    if let Err(error) = algorithm.client_dh_gex_init(&config.gex, &mut message) {
+        return Err(error);
+    }
+    match put_message(output, rng, message.as_slice()) {
+        Ok(()) => Ok(waits(
+            alloc,
+            config,
+            cause,
+            exchange,
+            ClientState::AwaitsGroup { names },
+            false,
+        )),
+        Err(error) => Err(error),
+    }
+}
+
+/// Sends the client's value, of no group. Kex where the agreement refused; PacketSize; Memory. A refusal leaves the output
+/// as it was.
+fn open_with_value<'c, A: Agreement, R: Rng>(
+    alloc: Global,
+    config: &'c Config,
+    cause: KexCause,
+    exchange: Exchange,
+    names: Names,
+    agreement: &mut A,
+    rng: &mut R,
+    output: &mut PacketWriter,
+) -> Result<KexProgress<ClientKex<'c>>, Error>
+    requires sides { HasShortSides exchange }
+    requires none { HasNoValues exchange }
+    requires exchanges { (shape_of names.kex).skip ≡ false }
+    requires gex { is_gex names.kex ≡ false }
+    ensures keeps { KeepsAgreement A.lawful A.obliging A.offered A.refusals A.calls agreement.old agreement.new }
+    ensures calls { A.calls agreement.new ≤ A.calls agreement.old + 1 }
+    ensures ok { IfOk result (λ p. OpensWithValue (λ l v. (s : Setup) → A.lawful agreement.old s
+        → A.client_makes names.kex None l v) config.now cause exchange names p output.old output.new) }
+    ensures err { IfErr result (RefusesValue (λ l v. (s : Setup) → A.lawful agreement.old s
+        → A.client_makes names.kex None l v) (λ v. (s : Setup) → A.lawful agreement.old s
+        → IsSmall v) (Rose (A.refusals agreement.old) (A.refusals agreement.new)
+        × ((s : Setup) → A.obliging agreement.old s → A.offered agreement.old names.kex ≡ true → ⊥))) }
+    ensures unchanged { OnErr result (SameButRoom output.old output.new) }
+{
+    let mut algorithm = KexAlgorithm::new(alloc, names.kex);
+    let mut client_ephemeral = Blob::new(Vec::new(alloc));
+    let sent = send_value(
+        alloc,
+        &mut algorithm,
+        agreement,
+        rng,
+        &mut client_ephemeral,
+        output,
+    );
+    match sent {
+        Ok(()) => Ok(waits(
+            alloc,
+            config,
+            cause,
+            Exchange {
+                client_ephemeral,
+                ..exchange
+            },
+            ClientState::AwaitsReply { names, algorithm },
+            false,
+        )),
+        Err(error) => Err(error),
+    }
+}
+
+/// The peer's KEXINIT: the client asks for a group, or sends its value; where no values are exchanged, all is at its end.
+fn take_kexinit<'c, A: Agreement, R: Rng>(
+    alloc: Global,
+    config: &'c Config,
+    cause: KexCause,
+    exchange: Exchange,
+    agreement: &mut A,
+    rng: &mut R,
+    incoming: Incoming<'_>,
+    output: &mut PacketWriter,
+) -> Result<KexProgress<ClientKex<'c>>, Error>
+    requires short { length incoming.payload.now < 2 ^ 31 }
+    requires sides { HasShortSides exchange }
+    requires none { HasNoValues exchange }
+    ensures keeps { KeepsAgreement A.lawful A.obliging A.offered A.refusals A.calls agreement.old agreement.new }
+    ensures calls { A.calls agreement.new ≤ A.calls agreement.old + at_kexinit client_side (next_of result) }
+    ensures ok { IfOk result (λ p. AnswersKexinit (λ n. A.offered agreement.old n ≡ true) (λ n l v. (s : Setup)
+        → A.lawful agreement.old s → A.client_makes n None l v) config.now cause exchange incoming.entry p output.old
+        output.new) }
+    ensures err { IfErr result (RefusesKexinit (λ n. A.offered agreement.old n ≡ true) (λ n l v. (s : Setup)
+        → A.lawful agreement.old s → A.client_makes n None l v) (λ v. (s : Setup) → A.lawful agreement.old s
+        → IsSmall v) (λ n. Rose (A.refusals agreement.old) (A.refusals agreement.new)
+        × ((s : Setup) → A.obliging agreement.old s → A.offered agreement.old n ≡ true
+        → ⊥)) config.now cause incoming.entry) }
+    ensures unchanged { OnErr result (SameButRoom output.old output.new) }
+{
+    let names = match client_names(alloc, config, &cause, &incoming) {
+        Ok(names) => names,
+        Err(error) => return Err(error),
+    };
+    let exchange = Exchange {
+        server_kex_init: Blob::copy_of(alloc, incoming.payload)?,
+        ..exchange
+    };
+    let algorithm = KexAlgorithm::new(alloc, names.kex);
+    if algorithm.skip_exchange() {
+        return end_at_once(&algorithm, &cause, exchange, names, false, rng, output);
+    }
+    if !agreement.offers(names.kex) {
+        return Err(Error::UnknownAlgo);
+    }
+    if algorithm.is_dh_gex() {
+        return ask_group(alloc, config, cause, exchange, names, rng, output);
+    }
+    open_with_value(
+        alloc, config, cause, exchange, names, agreement, rng, output,
+    )
+}
+
+/// A key exchange that has a group. Memory.
+fn algorithm_of(alloc: Global, name: kex::Name, group: &DhGroup) -> Result<KexAlgorithm, Error>
+    requires { is_gex name ≡ true }
+    ensures ok { IfOk result (λ k. k ≡ record { name = name; group = Some group.now; local = None; secret = None }) }
+    ensures err { IfErr result (λ e. e ≡ Memory) }
+{
+    let mut algorithm = KexAlgorithm::new(alloc, name);
+    match algorithm.dh_gex_set_group(copy_of_group(alloc, group)?) {
+        Ok(()) => Ok(algorithm),
+        Err(error) => Err(error),
+    }
+}
+
+/// The client's value of a group within its sizes. Kex where the agreement refused; PacketSize; Memory. A refusal leaves the
+/// output as it was.
+fn answer_group<'c, A: Agreement, R: Rng>(
+    alloc: Global,
+    config: &'c Config,
+    cause: KexCause,
+    exchange: Exchange,
+    names: Names,
+    group: DhGroup,
+    agreement: &mut A,
+    rng: &mut R,
+    output: &mut PacketWriter,
+) -> Result<KexProgress<ClientKex<'c>>, Error>
+    requires sides { HasShortSides exchange }
+    requires prime { length group.prime < 2 ^ 31 }
+    requires generator { length group.generator < 2 ^ 31 }
+    requires exchanges { (shape_of names.kex).skip ≡ false }
+    requires gex { is_gex names.kex ≡ true }
+    ensures keeps { KeepsAgreement A.lawful A.obliging A.offered A.refusals A.calls agreement.old agreement.new }
+    ensures calls { A.calls agreement.new ≤ A.calls agreement.old + 1 }
+    ensures ok { IfOk result (λ p. SendsOfGroup (λ l v. (s : Setup) → A.lawful agreement.old s
+        → A.client_makes names.kex (Some group) l v) config.now cause exchange names group p output.old output.new) }
+    ensures err { IfErr result (RefusesValue (λ l v. (s : Setup) → A.lawful agreement.old s
+        → A.client_makes names.kex (Some group) l v) (λ v. (s : Setup) → A.lawful agreement.old s
+        → IsSmall v) (Rose (A.refusals agreement.old) (A.refusals agreement.new)
+        × ((s : Setup) → A.obliging agreement.old s → A.offered agreement.old names.kex ≡ true → ⊥))) }
+    ensures unchanged { OnErr result (SameButRoom output.old output.new) }
+{
+    let mut algorithm = match algorithm_of(alloc, names.kex, &group) {
+        Ok(algorithm) => algorithm,
+        Err(error) => return Err(error),
+    };
+    let mut client_ephemeral = Blob::new(Vec::new(alloc));
+    let sent = send_value(
+        alloc,
+        &mut algorithm,
+        agreement,
+        rng,
+        &mut client_ephemeral,
+        output,
+    );
+    let params = config.gex;
+    match sent {
+        Ok(()) => Ok(waits(
+            alloc,
+            config,
+            cause,
+            Exchange {
+                client_ephemeral,
+                gex: Some(GexChosen { params, group }),
+                ..exchange
+            },
+            ClientState::AwaitsReply { names, algorithm },
+            false,
+        )),
+        Err(error) => Err(error),
+    }
+}
+
+/// The server's group: the client sends its value of it. KexInit where it is another message or not within the own sizes;
+/// SshEncoding; Kex where the agreement refused; PacketSize; Memory. A refusal leaves the output as it was.
+fn take_group<'c, A: Agreement, R: Rng>(
+    alloc: Global,
+    config: &'c Config,
+    cause: KexCause,
+    exchange: Exchange,
+    names: Names,
+    agreement: &mut A,
+    rng: &mut R,
+    payload: &[u8],
+    output: &mut PacketWriter,
+) -> Result<KexProgress<ClientKex<'c>>, Error>
+    requires short { length payload.now < 2 ^ 31 }
+    requires sides { HasShortSides exchange }
+    requires exchanges { (shape_of names.kex).skip ≡ false }
+    requires gex { is_gex names.kex ≡ true }
+    ensures keeps { KeepsAgreement A.lawful A.obliging A.offered A.refusals A.calls agreement.old agreement.new }
+    ensures calls { A.calls agreement.new ≤ A.calls agreement.old + 1 }
+    ensures ok { IfOk result (λ p. AnswersGroup (λ g l v. (s : Setup) → A.lawful agreement.old s
+        → A.client_makes names.kex (Some g) l v) config.now cause exchange names payload.now p output.old output.new) }
+    ensures err { IfErr result (RefusesGroup (λ g l v. (s : Setup) → A.lawful agreement.old s
+        → A.client_makes names.kex (Some g) l v) (λ v. (s : Setup) → A.lawful agreement.old s
+        → IsSmall v) (λ g. Rose (A.refusals agreement.old) (A.refusals agreement.new)
+        × ((s : Setup) → A.obliging agreement.old s → A.offered agreement.old names.kex ≡ true
+        → ⊥)) config.now payload.now) }
+    ensures unchanged { OnErr result (SameButRoom output.old output.new) }
+{
+    if !has_type(payload, msg::KEX_DH_GEX_GROUP) {
+        return Err(Error::KexInit);
+    }
+    let group = match group_of(alloc, fields_of(payload)) {
+        Ok(group) => group,
+        Err(error) => return Err(error),
+    };
+    if !is_inside(config.gex, &group) {
+        return Err(Error::KexInit);
+    }
+    answer_group(
+        alloc, config, cause, exchange, names, group, agreement, rng, output,
+    )
+}

@@ -1,0 +1,254 @@
+//! The server's reply, which a client agrees on, verifies and answers with NEWKEYS.
+
+ghost use Rattle.std.specs.Prelude.{◌≡◌, ◌⊎◌, ◌+◌, ◌≤◌, ◌^◌, ◌<◌, [], true, false, length, List, ℕ, Option, None, Some, Err, IfOk, IfErr, OnOk, OnErr};
+ghost use Rattle.ssh_negotiate.specs.Tables.{shape_of};
+ghost use Rattle.ssh_packet.specs.Stream.{message_type as message_type_of};
+ghost use Rattle.ssh_packet.specs.Writing.{SameButRoom};
+ghost use Rattle.ssh_wire.specs.Outside.{Rose};
+ghost use Rattle.ssh_wire.specs.declared.error.Error.TheVariants.{Memory, WrongServerSig};
+ghost use Rattle.ssh_client_kex.specs.ClientRows.{AcceptsReply, AgreesOnReply, AnswersOrDrops, made_with, RefusesReply, RefusesToAgree};
+ghost use Rattle.ssh_client_kex.specs.ClientViews.{local_of, HasValue};
+ghost use Rattle.ssh_kex.specs.Agreeing.{IsWhole};
+ghost use Rattle.ssh_kex.specs.Signature.{judged, or_same};
+ghost use Rattle.ssh_kex.specs.Messages.{host_with, is_gex, reply_message};
+ghost use Rattle.ssh_kex.specs.Parts.{KeepsAgreement, KeepsHosts, Setup};
+ghost use Rattle.ssh_kex.specs.Stepping.{once_unless};
+ghost use Rattle.ssh_kex.specs.Views.{HasShortSides};
+
+use crate::client_kex::{ClientKex, ClientState, waits};
+use crate::fields::{fields_of, front_of, value_of};
+use rand_core::Rng;
+use ssh_kex::last_message::finish;
+use ssh_kex::message::{has_type, put_message};
+use ssh_kex::{
+    Agreement, Config, Exchange, HostKeys, KexAlgorithm, KexProgress, Refusal, ServerHost,
+    canonicalize_ecdsa_signature,
+};
+use ssh_mac::HashValue;
+use ssh_negotiate::{KexCause, Names};
+use ssh_packet::PacketWriter;
+use ssh_wire::{Blob, Error, Reader, msg};
+use std::alloc::Global;
+
+/// The fields of a reply.
+#[derive(Clone, Copy)]
+struct Reply<'a> {
+    host: &'a [u8],
+    value: &'a [u8],
+    signature: &'a [u8],
+}
+
+/// The type of a reply.
+fn reply_type(is_gex: bool) -> u8
+    ensures { result ≡ message_type_of (reply_message is_gex [] [] []) }
+{
+    if is_gex {
+        msg::KEX_DH_GEX_REPLY
+    } else {
+        msg::KEX_ECDH_REPLY
+    }
+}
+
+/// Reads a reply, and agrees on the server's value before the signature is read. KexInit where it is another message;
+/// SshEncoding; Kex where the agreement refused; Memory.
+fn agree_on_reply<'a, A: Agreement>(
+    algorithm: &mut KexAlgorithm,
+    agreement: &mut A,
+    payload: &'a [u8],
+) -> Result<Reply<'a>, Error>
+    requires exchanges { (shape_of algorithm.old.name).skip ≡ false }
+    requires local { algorithm.old.local ≡ Some (local_of algorithm.old.local) }
+    ensures keeps { KeepsAgreement A.lawful A.obliging A.offered A.refusals A.calls agreement.old agreement.new }
+    ensures calls { A.calls agreement.new ≤ A.calls agreement.old + 1 }
+    ensures ok { IfOk result (λ r. AgreesOnReply (λ l v x. (s : Setup) (public : List ℕ) → A.lawful agreement.old s
+        → A.client_makes algorithm.old.name algorithm.old.group l public
+        → A.agrees algorithm.old.name algorithm.old.group public v x) algorithm.old algorithm.new payload.now r.host.now
+        r.value.now r.signature.now) }
+    ensures err { IfErr result (RefusesToAgree (λ l v. Rose (A.refusals agreement.old) (A.refusals agreement.new)
+        × ((s : Setup) (public : List ℕ) → A.obliging agreement.old s
+        → A.offered agreement.old algorithm.old.name ≡ true
+        → A.client_makes algorithm.old.name algorithm.old.group l public
+        → A.server_makes algorithm.old.name algorithm.old.group v → ⊥)) (λ l v x. (s : Setup) (public : List ℕ)
+        → A.lawful agreement.old s → A.client_makes algorithm.old.name algorithm.old.group l public
+        → A.agrees algorithm.old.name algorithm.old.group public v x) algorithm.old payload.now) }
+{
+    if !has_type(payload, reply_type(algorithm.is_dh_gex())) {
+        return Err(Error::KexInit);
+    }
+    let mut reader = Reader::new(fields_of(payload));
+    let front = match front_of(&mut reader) {
+        Ok(front) => front,
+        Err(error) => return Err(error),
+    };
+    if let Err(error) = algorithm.compute_shared_secret(agreement, front.value) {
+        return Err(error);
+    }
+    match value_of(&mut reader) {
+        Ok(signature) => Ok(Reply {
+            host: front.host,
+            value: front.value,
+            signature,
+        }),
+        Err(error) => Err(error),
+    }
+}
+
+/// A signature as it is judged: its canonical form where there is one.
+fn judged_of<'a>(form: &'a Option<Blob>, signature: &'a [u8]) -> &'a [u8]
+    ensures { result.now ≡ or_same signature.now form.now }
+{
+    match form {
+        Some(form) => form.as_slice(),
+        None => signature,
+    }
+}
+
+/// Has the canonical form of a signature verified. WrongServerSig where it was refused; Memory.
+fn verify_signature<H: HostKeys>(
+    alloc: Global,
+    hosts: &mut H,
+    host: &ServerHost,
+    hash: &HashValue,
+    signature: &[u8],
+) -> Result<(), Error>
+    requires { length signature.now < 2 ^ 31 }
+    ensures keeps { KeepsHosts H.lawful H.obliging H.accepts H.trusts H.refused_sign H.refused_verify H.refused_check
+        H.calls hosts.old hosts.new }
+    ensures calls { H.calls hosts.new ≤ H.calls hosts.old + 1 }
+    ensures ok { OnOk result (H.accepts hosts.old host.now hash.now (judged signature.now) ≡ true) }
+    ensures err { IfErr result (λ e. (e ≡ Memory) ⊎ ((e ≡ WrongServerSig)
+        × (Rose (H.refused_verify hosts.old) (H.refused_verify hosts.new)
+        × ((s : Setup) → H.obliging hosts.old s → H.accepts hosts.old host.now hash.now (judged signature.now) ≡ true
+        → ⊥)))) }
+{
+    let form = match canonicalize_ecdsa_signature(alloc, signature) {
+        Ok(form) => form,
+        Err(error) => return Err(error),
+    };
+    match hosts.verify(alloc, host, hash, judged_of(&form, signature)) {
+        Ok(()) => Ok(()),
+        Err(Refusal::Refused) => Err(Error::WrongServerSig),
+        Err(Refusal::Memory) => Err(Error::Memory),
+    }
+}
+
+/// A reply on whose value is agreed: its signature is verified, and NEWKEYS sent. WrongServerSig where the signature was
+/// refused; Memory. A refusal leaves the output as it was.
+fn accept_reply<'c, H: HostKeys, R: Rng>(
+    alloc: Global,
+    config: &'c Config,
+    cause: KexCause,
+    exchange: Exchange,
+    names: Names,
+    algorithm: KexAlgorithm,
+    hosts: &mut H,
+    rng: &mut R,
+    reply: Reply<'_>,
+    output: &mut PacketWriter,
+) -> Result<KexProgress<ClientKex<'c>>, Error>
+    requires name { algorithm.name ≡ names.kex }
+    requires whole { IsWhole algorithm.name reply.host.now (record exchange { server_ephemeral = reply.value.now }) }
+    requires signature { length reply.signature.now < 2 ^ 31 }
+    ensures keeps { KeepsHosts H.lawful H.obliging H.accepts H.trusts H.refused_sign H.refused_verify H.refused_check
+        H.calls hosts.old hosts.new }
+    ensures calls { H.calls hosts.new ≤ H.calls hosts.old + 1 }
+    ensures ok { IfOk result (λ p. AcceptsReply (λ h d g. H.accepts hosts.old h d g ≡ true) config.now cause exchange
+        names algorithm.secret reply.entry.host.now reply.entry.value.now reply.entry.signature.now p output.old
+        output.new) }
+    ensures err { IfErr result (λ e. (e ≡ Memory) ⊎ ((e ≡ WrongServerSig)
+        × (Rose (H.refused_verify hosts.old) (H.refused_verify hosts.new)
+        × ((s : Setup) → H.obliging hosts.old s → H.accepts hosts.old (host_with names reply.entry.host.now)
+        (made_with cause names exchange algorithm.secret reply.entry.host.now reply.entry.value.now).hash
+        (judged reply.entry.signature.now) ≡ true → ⊥)))) }
+    ensures unchanged { OnErr result (SameButRoom output.old output.new) }
+{
+    let exchange = Exchange {
+        server_ephemeral: Blob::copy_of(alloc, reply.value)?,
+        ..exchange
+    };
+    let host = ServerHost {
+        algorithm: names.key,
+        is_certificate: names.host_key_is_certificate,
+        blob: Blob::copy_of(alloc, reply.host)?,
+    };
+    let hash = algorithm.compute_exchange_hash(reply.host, &exchange);
+    if let Err(error) = verify_signature(alloc, hosts, &host, &hash, reply.signature) {
+        return Err(error);
+    }
+    let (made, cipher) = finish(&algorithm, &cause, names, hash, false);
+    let reset_seqn = names.strict_kex || cause.is_strict_rekey();
+    match put_message(output, rng, &[msg::NEWKEYS]) {
+        Ok(()) => Ok(waits(
+            alloc,
+            config,
+            cause,
+            exchange,
+            ClientState::AwaitsNewkeys { host, made, cipher },
+            reset_seqn,
+        )),
+        Err(error) => Err(error),
+    }
+}
+
+/// The server's reply; a wrong guess is dropped. KexInit where it is another message; SshEncoding; Kex where the agreement
+/// refused; WrongServerSig; Memory. A refusal leaves the output as it was.
+pub(crate) fn take_reply<'c, A: Agreement, H: HostKeys, R: Rng>(
+    alloc: Global,
+    config: &'c Config,
+    cause: KexCause,
+    exchange: Exchange,
+    names: Names,
+    algorithm: KexAlgorithm,
+    agreement: &mut A,
+    hosts: &mut H,
+    rng: &mut R,
+    payload: &[u8],
+    output: &mut PacketWriter,
+) -> Result<KexProgress<ClientKex<'c>>, Error>
+    requires short { length payload.now < 2 ^ 31 }
+    requires sides { HasShortSides exchange }
+    requires value { HasValue exchange names algorithm }
+    ensures agreement { KeepsAgreement A.lawful A.obliging A.offered A.refusals A.calls agreement.old agreement.new }
+    ensures agreement_calls { A.calls agreement.new ≤ A.calls agreement.old + once_unless names.ignore_guessed }
+    ensures hosts { KeepsHosts H.lawful H.obliging H.accepts H.trusts H.refused_sign H.refused_verify H.refused_check
+        H.calls hosts.old hosts.new }
+    ensures hosts_calls { H.calls hosts.new ≤ H.calls hosts.old + once_unless names.ignore_guessed }
+    ensures ok { IfOk result (λ p. AnswersOrDrops names.ignore_guessed (λ l v x. (s : Setup) (public : List ℕ)
+        → A.lawful agreement.old s → A.client_makes algorithm.name algorithm.group l public
+        → A.agrees algorithm.name algorithm.group public v x)
+        (λ h d g. H.accepts hosts.old h d g ≡ true) config.now cause exchange names algorithm payload.now p output.old
+        output.new) }
+    ensures err { IfErr result (RefusesReply names.ignore_guessed (λ l v. Rose (A.refusals agreement.old)
+        (A.refusals agreement.new) × ((s : Setup) (public : List ℕ) → A.obliging agreement.old s
+        → A.offered agreement.old algorithm.name ≡ true → A.client_makes algorithm.name algorithm.group l public
+        → A.server_makes algorithm.name algorithm.group v → ⊥)) (λ l v x. (s : Setup) (public : List ℕ)
+        → A.lawful agreement.old s → A.client_makes algorithm.name algorithm.group l public
+        → A.agrees algorithm.name algorithm.group public v x) (λ h d g. Rose (H.refused_verify hosts.old)
+        (H.refused_verify hosts.new) × ((s : Setup) → H.obliging hosts.old s → H.accepts hosts.old h d g ≡ true
+        → ⊥)) cause exchange names algorithm payload.now) }
+    ensures unchanged { OnErr result (SameButRoom output.old output.new) }
+{
+    if names.ignore_guessed {
+        let names = Names {
+            ignore_guessed: false,
+            guessed_ignored: false,
+            ..names
+        };
+        return Ok(waits(
+            alloc,
+            config,
+            cause,
+            exchange,
+            ClientState::AwaitsReply { names, algorithm },
+            false,
+        ));
+    }
+    let mut algorithm = algorithm;
+    let reply = match agree_on_reply(&mut algorithm, agreement, payload) {
+        Ok(reply) => reply,
+        Err(error) => return Err(error),
+    };
+    accept_reply(
+        alloc, config, cause, exchange, names, algorithm, hosts, rng, reply, output,
+    )
+}

@@ -1,0 +1,4 @@
+mod ServerRows
+mod ServerSteps
+mod ServerOpens
+mod ServerRefusals

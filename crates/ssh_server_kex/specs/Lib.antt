@@ -1,0 +1,3 @@
+pub mod ServerRows
+pub mod ServerViews
+pub mod ServerAnswers

@@ -1,0 +1,459 @@
+//! A server's side of an exchange, step by step.
+
+ghost use Rattle.std.specs.Prelude.{◌≡◌, ◌≤◌, ◌+◌, ◌<◌, ◌^◌, ◌||◌, true, false, List, [], ℕ, length, is_some, Option, Some, None, Ok, Err, IfOk, IfErr, OnOk, OnErr, IfSome};
+ghost use Rattle.ssh_negotiate.specs.Causes.{was_strict};
+ghost use Rattle.ssh_negotiate.specs.Tables.{shape_of};
+ghost use Rattle.ssh_kex.specs.Messages.{IsCanonical, is_gex};
+ghost use Rattle.ssh_negotiate.specs.Laws.{AreShort};
+ghost use Rattle.ssh_negotiate.specs.Reading.{behind_cookie, cookie_from, kexinit_drawn};
+ghost use Rattle.ssh_packet.specs.Sealing.{IsAdmissible, IsPadded, item_of, stream_after};
+ghost use Rattle.ssh_packet.specs.Writing.{SameButRoom, Sends};
+ghost use Rattle.ssh_wire.specs.Forms.{AreBytes};
+ghost use Rattle.ssh_kex.specs.Refusals.{IsCreated};
+ghost use Rattle.ssh_wire.specs.Lines.{id_text};
+ghost use Rattle.ssh_wire.specs.declared.error.Error.TheVariants.{Memory};
+ghost use Rattle.ssh_wire.specs.declared.side.Side.TheVariants.{Server as server_side};
+ghost use Rattle.ssh_kex.specs.Parts.{IsSmall, KeepsAgreement, KeepsGroups, KeepsHosts, Setup};
+ghost use Rattle.ssh_server_kex.specs.ServerRows.{AreShortBlobs, CanAnswer, IsLongAnswer, PutsAtMostReply, RefusesRequest};
+ghost use Rattle.ssh_server_kex.specs.ServerAnswers.{AnswersOpening, AnswersOrDrops, AnswersSizes, RefusesClient, RefusesKexinit};
+ghost use Rattle.ssh_wire.specs.Outside.{Rose};
+ghost use Rattle.ssh_server_kex.specs.ServerViews.{Begins, CanAsk, CanBegin, IsFresh, ServerKeeps, server_machine};
+ghost use Rattle.ssh_kex.specs.Setting.{behind_guess, group_of, offers_of};
+ghost use Rattle.ssh_kex.specs.Stages.{Created as created_stage, has_ignored, is_strict, names_of};
+ghost use Rattle.ssh_kex.specs.declared.progress.KexProgress.TheVariants.{NeedsReply};
+ghost use Rattle.ssh_kex.specs.Stepping.{asks_agreement, asks_hosts, asks_groups, next_of, says_of, denies_of, once_unless, Progresses, RefusesStep, PutsFront};
+
+use crate::opening::open;
+use crate::request::answer_request;
+use crate::value::answer_value;
+use rand_core::Rng;
+use ssh_kex::kexinit_message::send_kexinit;
+use ssh_kex::last_message::{end_at_once, last};
+use ssh_kex::{
+    Agreement, Config, Exchange, FinishedExchange, GroupLookup, HostKeys, KexAlgorithm,
+    KexProgress, Parts,
+};
+use ssh_negotiate::{KexCause, Names};
+use ssh_packet::{CipherPair, Incoming, PacketWriter};
+use ssh_wire::{Blob, Error, SshId};
+use std::alloc::Global;
+use std::marker::Model;
+
+#[derive(Debug, Drop)]
+enum ServerState {
+    Created,
+    AwaitsRequest {
+        names: Names,
+    },
+    AwaitsValue {
+        names: Names,
+    },
+    AwaitsNewkeys {
+        made: FinishedExchange,
+        cipher: CipherPair,
+    },
+}
+
+/// A server's side of an exchange.
+#[derive(Debug, Drop)]
+pub struct ServerKex<'c> {
+    config: &'c Config,
+    cause: KexCause,
+    exchange: Exchange,
+    state: ServerState,
+    alloc: Global,
+}
+
+impl<'c> Model for ServerKex<'c> {
+    ghost use Rattle.ssh_kex.specs.Stages.{Machine};
+    ghost use Rattle.ssh_server_kex.specs.ServerViews.{Begins, CanAsk, CanBegin, IsFresh, ServerKeeps, server_machine};
+
+    ghost Value = { Machine };
+
+    ghost view = { λ k. server_machine k.config.now k.cause k.exchange k.state };
+
+    ghost invariant = { λ k. ServerKeeps k.config.now k.exchange k.state };
+}
+
+impl<'c> ServerKex<'c> {
+    /// A server's side of the exchange that the cause begins, before its KEXINIT. Memory.
+    pub fn new(
+        alloc: Global,
+        config: &'c Config,
+        client_sshid: &[u8],
+        server_sshid: &SshId,
+        cause: KexCause,
+    ) -> Result<ServerKex<'c>, Error>
+        requires client_id { length client_sshid.now < 2 ^ 31 }
+        requires server_id { length (id_text server_sshid.now) < 2 ^ 31 }
+        requires lists { AreShort (offers_of server_side config.now) }
+        requires blobs { AreShortBlobs config.now.host }
+        ensures ok { IfOk result (λ k. k ≡ record {
+          setting = record {
+            side = server_side;
+            config = config.now;
+            client_id = client_sshid.now;
+            server_id = id_text server_sshid.now;
+            cause = cause;
+          };
+          stage = created_stage [];
+        }) }
+        ensures err { IfErr result (λ e. e ≡ Memory) }
+    {
+        Ok(ServerKex {
+            config,
+            cause,
+            exchange: Exchange::new(alloc, client_sshid, server_sshid.as_kex_hash_bytes())?,
+            state: ServerState::Created,
+            alloc,
+        })
+    }
+
+    /// Sends the own KEXINIT, with 16 drawn bytes as cookie, and keeps it. It is for a machine before the client's. Memory, and
+    /// then machine and writer are as they were.
+    pub fn kexinit<R: Rng>(&mut self, rng: &mut R, output: &mut PacketWriter) -> Result<(), Error>
+        requires { IsCreated self.old.stage }
+        ensures ok { OnOk result (self.new ≡ record self.old {
+          stage = created_stage
+              (kexinit_drawn self.old.setting.config.preferred (Some self.old.setting.config.host)
+              (R.stream rng.old));
+        }) }
+        ensures sent { OnOk result (Sends output.old (kexinit_drawn self.old.setting.config.preferred
+            (Some self.old.setting.config.host) (R.stream rng.old)) (behind_cookie (R.stream rng.old)) output.new) }
+        ensures stream { OnOk result (R.stream rng.new ≡ stream_after output.old.sealing
+            (kexinit_drawn self.old.setting.config.preferred (Some self.old.setting.config.host) (R.stream rng.old))
+            (behind_cookie (R.stream rng.old))) }
+        ensures admissible { OnOk result (IsAdmissible output.old.sealing (item_of output.old.sealing
+            (kexinit_drawn self.old.setting.config.preferred (Some self.old.setting.config.host) (R.stream rng.old))
+            (behind_cookie (R.stream rng.old)))) }
+        ensures padded { OnOk result (IsPadded output.old.sealing (item_of output.old.sealing
+            (kexinit_drawn self.old.setting.config.preferred (Some self.old.setting.config.host) (R.stream rng.old))
+            (behind_cookie (R.stream rng.old)))) }
+        ensures cookie { OnOk result (length (cookie_from (R.stream rng.old)) ≡ 16) }
+        ensures bytes { OnOk result (AreBytes (cookie_from (R.stream rng.old))) }
+        ensures unchanged { OnErr result ((self.new ≡ self.old) × SameButRoom output.old output.new) }
+        ensures err { IfErr result (λ e. e ≡ Memory) }
+    {
+        let kexinit = send_kexinit(
+            self.alloc,
+            &self.config.preferred,
+            Some(&self.config.host),
+            rng,
+            output,
+        )?;
+        self.exchange.server_kex_init = kexinit;
+        Ok(())
+    }
+
+    /// Whether the client's KEXINIT was read.
+    pub fn peer_kexinit_received(&self) -> bool
+        ensures { result ≡ is_some (names_of self.now.stage) }
+    {
+        self.names().is_some()
+    }
+
+    /// Whether the names are strict; not before the client's KEXINIT was read.
+    pub fn strict_kex(&self) -> bool
+        ensures { result ≡ is_strict (names_of self.now.stage) }
+    {
+        match self.names() {
+            Some(names) => names.strict_kex,
+            None => false,
+        }
+    }
+
+    /// Whether a wrong guess of the client was dropped.
+    pub fn guess_ignored(&self) -> bool
+        ensures { result ≡ has_ignored (names_of self.now.stage) }
+    {
+        match self.names() {
+            Some(names) => names.guessed_ignored,
+            None => false,
+        }
+    }
+
+    /// One message of the client. A wrong guess is dropped. A refusal leaves no machine, and it has written nothing, but where
+    /// memory is wanting behind a reply that was written.
+    pub fn step<A: Agreement, H: HostKeys, G: GroupLookup, R: Rng>(
+        self,
+        parts: &mut Parts<A, H, G, R>,
+        input: Option<Incoming<'_>>,
+        output: &mut PacketWriter,
+    ) -> Result<KexProgress<ServerKex<'c>>, Error>
+        requires { IfSome input (λ i. length i.payload.now < 2 ^ 31) }
+        ensures agreement { KeepsAgreement A.lawful A.obliging A.offered A.refusals A.calls parts.old.agreement
+            parts.new.agreement }
+        ensures hosts { KeepsHosts H.lawful H.obliging H.accepts H.trusts H.refused_sign H.refused_verify
+            H.refused_check H.calls parts.old.hosts parts.new.hosts }
+        ensures groups { KeepsGroups G.lawful G.obliging G.group G.refusals G.calls parts.old.groups parts.new.groups }
+        ensures agreement_calls { A.calls parts.new.agreement ≤ A.calls parts.old.agreement + asks_agreement
+            self.entry.setting.side self.entry.stage (next_of result) }
+        ensures hosts_calls { H.calls parts.new.hosts ≤ H.calls parts.old.hosts + asks_hosts self.entry.stage }
+        ensures groups_calls { G.calls parts.new.groups ≤ G.calls parts.old.groups + asks_groups self.entry.stage }
+        ensures goes { IfOk result (λ p. Progresses (says_of A.lawful A.offered A.client_makes A.server_makes A.agrees
+            H.lawful H.obliging H.accepts H.trusts H.makes G.lawful G.group self.entry.setting.config
+            parts.old.agreement parts.old.hosts parts.old.groups) self.entry input.entry output.old p output.new) }
+        ensures causes { IfErr result (λ e. RefusesStep (says_of A.lawful A.offered A.client_makes A.server_makes
+            A.agrees H.lawful H.obliging H.accepts H.trusts H.makes G.lawful G.group self.entry.setting.config
+            parts.old.agreement parts.old.hosts parts.old.groups)
+            (denies_of A.obliging A.offered A.client_makes A.server_makes A.refusals H.obliging H.accepts H.refused_sign
+            H.refused_verify G.obliging G.refusals parts.old.agreement parts.new.agreement parts.old.hosts
+            parts.new.hosts parts.old.groups parts.new.groups) self.entry input.entry e) }
+        ensures front { OnErr result (PutsFront self.entry.stage output.old output.new) }
+        ensures unchanged { IfErr result (λ e. (e ≡ Memory → ⊥) → SameButRoom output.old output.new) }
+    {
+        let Some(incoming) = input else {
+            return Err(Error::KexInit);
+        };
+        let ServerKex {
+            config,
+            cause,
+            exchange,
+            state,
+            alloc,
+        } = self;
+        let payload = incoming.payload;
+        match state {
+            ServerState::Created => take_kexinit(
+                alloc,
+                config,
+                cause,
+                exchange,
+                &parts.agreement,
+                &mut parts.rng,
+                incoming,
+                output,
+            ),
+            ServerState::AwaitsRequest { names } => take_request(
+                alloc,
+                config,
+                cause,
+                exchange,
+                names,
+                &mut parts.groups,
+                &mut parts.rng,
+                payload,
+                output,
+            ),
+            ServerState::AwaitsValue { names } => {
+                take_value(
+                    alloc, config, cause, exchange, names, parts, payload, output,
+                )
+            }
+            ServerState::AwaitsNewkeys { made, cipher } => {
+                last(exchange, None, made, cipher, payload)
+            }
+        }
+    }
+
+    /// The names, once the client's KEXINIT was read.
+    fn names(&self) -> Option<Names>
+        ensures { result ≡ names_of self.now.stage }
+    {
+        match &self.state {
+            ServerState::Created => None,
+            ServerState::AwaitsRequest { names } | ServerState::AwaitsValue { names } => Some(
+                *names,
+            ),
+            ServerState::AwaitsNewkeys { made, .. } => Some(made.names),
+        }
+    }
+}
+
+/// A machine that waits for the next message.
+fn waits<'c>(
+    alloc: Global,
+    config: &'c Config,
+    cause: KexCause,
+    exchange: Exchange,
+    state: ServerState,
+    reset_seqn: bool,
+) -> KexProgress<ServerKex<'c>>
+    requires { ServerKeeps config.now exchange state }
+    ensures { result ≡ NeedsReply (server_machine config.now cause exchange state) reset_seqn }
+{
+    KexProgress::NeedsReply {
+        kex: ServerKex {
+            config,
+            cause,
+            exchange,
+            state,
+            alloc,
+        },
+        reset_seqn,
+    }
+}
+
+/// The client's KEXINIT, and what follows its names. As `open`; Memory. A refusal leaves the output as it was.
+fn take_kexinit<'c, A: Agreement, R: Rng>(
+    alloc: Global,
+    config: &'c Config,
+    cause: KexCause,
+    exchange: Exchange,
+    agreement: &A,
+    rng: &mut R,
+    incoming: Incoming<'_>,
+    output: &mut PacketWriter,
+) -> Result<KexProgress<ServerKex<'c>>, Error>
+    requires short { length incoming.payload.now < 2 ^ 31 }
+    requires fresh { IsFresh config.now exchange }
+    ensures ok { IfOk result (λ p. AnswersOpening (λ name. A.offered agreement.now name ≡ true) config.now cause
+        exchange incoming.entry p output.old output.new) }
+    ensures err { IfErr result (RefusesKexinit (λ name. A.offered agreement.now name ≡ true) config.now cause
+        incoming.entry) }
+    ensures unchanged { OnErr result (SameButRoom output.old output.new) }
+{
+    let mut exchange = exchange;
+    let names = match open(alloc, config, &cause, agreement, &mut exchange, &incoming) {
+        Ok(names) => names,
+        Err(error) => return Err(error),
+    };
+    begin(alloc, config, cause, exchange, names, rng, output)
+}
+
+/// The sizes that a client asks for. As `answer_request`.
+fn take_request<'c, G: GroupLookup, R: Rng>(
+    alloc: Global,
+    config: &'c Config,
+    cause: KexCause,
+    exchange: Exchange,
+    names: Names,
+    groups: &mut G,
+    rng: &mut R,
+    payload: &[u8],
+    output: &mut PacketWriter,
+) -> Result<KexProgress<ServerKex<'c>>, Error>
+    requires { CanAsk config.now names exchange }
+    ensures keeps { KeepsGroups G.lawful G.obliging G.group G.refusals G.calls groups.old groups.new }
+    ensures calls { G.calls groups.new ≤ G.calls groups.old + 1 }
+    ensures ok { IfOk result (λ p. AnswersSizes (λ sizes q. (s : Setup) → G.lawful groups.old s
+        → (q ≡ G.group groups.old sizes) × IsCanonical q) config.now cause exchange names payload.now p output.old
+        output.new) }
+    ensures causes { IfErr result (RefusesRequest (λ sizes q. (s : Setup) → G.lawful groups.old s
+        → (q ≡ G.group groups.old sizes) × IsCanonical q) (λ sizes. Rose (G.refusals groups.old) (G.refusals groups.new)
+        × ((s : Setup) → G.obliging groups.old s → ⊥)) payload.now) }
+    ensures unchanged { OnErr result (SameButRoom output.old output.new) }
+{
+    match answer_request(alloc, groups, rng, payload, output) {
+        Ok(gex) => {
+            let gex = Some(gex);
+            let exchange = Exchange { gex, ..exchange };
+            let state = ServerState::AwaitsValue { names };
+            Ok(waits(alloc, config, cause, exchange, state, false))
+        }
+        Err(error) => Err(error),
+    }
+}
+
+/// A client's value; a wrong guess is dropped. As `answer_value`.
+fn take_value<'c, A: Agreement, H: HostKeys, G, R: Rng>(
+    alloc: Global,
+    config: &'c Config,
+    cause: KexCause,
+    exchange: Exchange,
+    names: Names,
+    parts: &mut Parts<A, H, G, R>,
+    payload: &[u8],
+    output: &mut PacketWriter,
+) -> Result<KexProgress<ServerKex<'c>>, Error>
+    requires can { CanAnswer config.now names exchange }
+    requires short { length payload.now < 2 ^ 31 }
+    ensures agreement { KeepsAgreement A.lawful A.obliging A.offered A.refusals A.calls parts.old.agreement
+        parts.new.agreement }
+    ensures hosts { KeepsHosts H.lawful H.obliging H.accepts H.trusts H.refused_sign H.refused_verify H.refused_check
+        H.calls parts.old.hosts parts.new.hosts }
+    ensures groups { parts.new.groups ≡ parts.old.groups }
+    ensures agreement_calls { A.calls parts.new.agreement ≤ A.calls parts.old.agreement + once_unless names.ignore_guessed }
+    ensures hosts_calls { H.calls parts.new.hosts ≤ H.calls parts.old.hosts + once_unless names.ignore_guessed }
+    ensures ok { IfOk result (λ p. AnswersOrDrops names.ignore_guessed
+        (λ v. (s : Setup) → A.lawful parts.old.agreement s → A.server_makes names.kex (group_of exchange.gex) v)
+        (λ c v x. (s : Setup) → A.lawful parts.old.agreement s
+        → A.agrees names.kex (group_of exchange.gex) c v x)
+        (λ host hash signature. (s : Setup) → s.server ≡ config.now → H.obliging parts.old.hosts s
+        → H.makes config.now host hash signature)
+        config.now cause exchange names payload.now p output.old output.new) }
+    ensures causes { IfErr result (RefusesClient names.ignore_guessed (is_gex names.kex)
+        (λ c. Rose (A.refusals parts.old.agreement) (A.refusals parts.new.agreement) × ((s : Setup) (l : List ℕ)
+        → A.obliging parts.old.agreement s → A.offered parts.old.agreement names.kex ≡ true
+        → A.client_makes names.kex (group_of exchange.gex) l c → ⊥))
+        (Rose (H.refused_sign parts.old.hosts) (H.refused_sign parts.new.hosts) × ((s : Setup)
+        → H.obliging parts.old.hosts s → ⊥))
+        (IsLongAnswer
+        (λ v. (s : Setup) → A.lawful parts.old.agreement s → A.server_makes names.kex (group_of exchange.gex) v)
+        (λ v. (s : Setup) → A.lawful parts.old.agreement s → IsSmall v)
+        (λ v. (s : Setup) → H.lawful parts.old.hosts s → IsSmall v) config.now names payload.now)
+        payload.now) }
+    ensures front { OnErr result (PutsAtMostReply (is_gex names.kex) output.old output.new) }
+    ensures unchanged { IfErr result (λ e. (e ≡ Memory → ⊥) → SameButRoom output.old output.new) }
+{
+    if names.ignore_guessed {
+        let names = behind_guess(names);
+        let state = ServerState::AwaitsValue { names };
+        return Ok(waits(alloc, config, cause, exchange, state, false));
+    }
+    let mut exchange = exchange;
+    match answer_value(
+        alloc,
+        config,
+        &cause,
+        &names,
+        parts,
+        &mut exchange,
+        payload,
+        output,
+    ) {
+        Ok((made, cipher)) => {
+            let is_strict = begins_again(&made, &cause);
+            let state = ServerState::AwaitsNewkeys { made, cipher };
+            Ok(waits(alloc, config, cause, exchange, state, is_strict))
+        }
+        Err(error) => Err(error),
+    }
+}
+
+/// What follows the names: the wait for the sizes of a group, or for the client's value; where no values are exchanged,
+/// NEWKEYS is sent, and all is at its end. Memory leaves the output as it was.
+fn begin<'c, R: Rng>(
+    alloc: Global,
+    config: &'c Config,
+    cause: KexCause,
+    exchange: Exchange,
+    names: Names,
+    rng: &mut R,
+    output: &mut PacketWriter,
+) -> Result<KexProgress<ServerKex<'c>>, Error>
+    requires { (shape_of names.kex).skip ≡ false → CanBegin (is_gex names.kex) config.now names exchange }
+    ensures ok { IfOk result (λ p. Begins (shape_of names.kex).skip
+        (is_gex names.kex) config.now cause exchange names p output.old output.new) }
+    ensures err { IfErr result (λ e. e ≡ Memory) }
+    ensures unchanged { OnErr result (SameButRoom output.old output.new) }
+{
+    let algorithm = KexAlgorithm::new(alloc, names.kex);
+    if algorithm.skip_exchange() {
+        return end_at_once(&algorithm, &cause, exchange, names, true, rng, output);
+    }
+    if algorithm.is_dh_gex() {
+        let state = ServerState::AwaitsRequest { names };
+        return Ok(waits(alloc, config, cause, exchange, state, false));
+    }
+    let state = ServerState::AwaitsValue { names };
+    Ok(waits(alloc, config, cause, exchange, state, false))
+}
+
+/// Whether the numbers of the own packets begin again behind NEWKEYS.
+fn begins_again(made: &FinishedExchange, cause: &KexCause) -> bool
+    ensures { result ≡ (made.now.names.strict_kex || was_strict cause.now) }
+{
+    made.names.strict_kex || cause.is_strict_rekey()
+}
+
+/// The names behind a wrong guess.
+fn behind_guess(names: Names) -> Names
+    ensures { result ≡ behind_guess server_side names }
+{
+    Names {
+        ignore_guessed: false,
+        guessed_ignored: true,
+        ..names
+    }
+}
