@@ -1,11 +1,12 @@
 #!/usr/bin/env python3
 """Usage: bench/gate.py
 
-Runs the gate on a clean clone of HEAD, in a temporary folder where nothing is kept of earlier runs, and prints what each
-crate cost: the minutes of processor time of `rattle build`, which proves a library and compiles a program, and of `rattle
-check`, which proves a program and tries edits; the most memory that one of its processes held, in gigabytes; and how many
-edits it has. The last lines are the sums, the minutes by the clock, and the gate's own last line, whose status is this
-program's. What the gate writes goes to standard error. Reads /proc once a second, so it needs Linux; run nothing beside it.
+Runs the gate on a clean clone of HEAD, in a temporary folder, and prints what each crate cost: the minutes of processor time
+of `rattle build`, which proves a library and compiles a program, and of `rattle check`, which proves a program and tries
+edits; the most memory that one of its processes held, in gigabytes; and how many edits it has. The last lines are the sums,
+the minutes by the clock, how much was done in this run, and the gate's verdict, whose status is this program's. The kit keeps
+what a run on this machine passed in a folder `rattle-kept` beside its own: only where that is moved aside is all done
+anew. What the gate writes goes to standard error. Reads /proc once a second, so it needs Linux; run nothing beside it.
 """
 
 import os
@@ -78,7 +79,9 @@ def main():
     sys.stderr.write(written)
     print("\n".join(table(seen)))
     print(f"{clock:.0f} minutes by the clock")
-    print(next((line for line in written.split("\n") if " passed, " in line), "no verdict"))
+    lines = written.split("\n")
+    print(next((line for line in lines if line.startswith("rt: ok")), "rt: not ok"))
+    print(next((line for line in lines if " passed, " in line), "no verdict"))
     return process.returncode
 
 

@@ -5,5 +5,5 @@ pub use Rattle.ssh_kex.proofs.Meeting.{ciphers_meet}
 pub use Rattle.ssh_kex.proofs.KeyBytes.{digest_bytes_are, key_bytes, keys_are_well}
 pub use Rattle.ssh_kex.proofs.Presenting.{is_presented}
 pub use Rattle.ssh_kex.proofs.Refused.{reads_kexinit, refuses_names}
-pub use Rattle.ssh_kex.proofs.Signatures.{canonical_once}
+pub use Rattle.ssh_kex.proofs.Signatures.{canonical_again, canonical_once, not_canonical}
 pub use Rattle.ssh_kex.proofs.Uncounted.{AnswersSmall, DeniesNone, memory_alone}

@@ -5,7 +5,7 @@ use Rattle.ssh_aes.specs.Modes.{Running, Ctr, Cbc, running_after, counter_block}
 use Rattle.ssh_aes.proofs.Lemmas.{length-masked_text}
 use Rattle.ssh_mac.specs.Tags.{MacOf, is_encrypt_then_mac}
 use Rattle.ssh_packet.specs.Sealing.{Item, Sealing, Clear, Block, Gcm, framed_text, encrypted_part, next_nonce, next_number, moved_on, packet_length, padding_length}
-use Rattle.ssh_packet.specs.Stream.{Opening, Place, place_after, is_newkeys, Reads, next_place as opened}
+use Rattle.ssh_packet.specs.Stream.{Opening, Place, is_newkeys, Reads, next_place as opened}
 use Rattle.ssh_packet.proofs.Lemmas.{length_framed}
 use Rattle.ssh_packet.proofs.Lemmas.{padding_fills}
 use Rattle.ssh_packet.specs.Sealing.{IsPadded}

@@ -19,7 +19,7 @@ use Rattle.ssh_kex.specs.declared.exchange.FinishedExchange.{FinishedExchange}
 use Rattle.ssh_rules.specs.Headline.{chosen_by}
 use Rattle.ssh_rules.specs.Laws.{FindsCanonical, OneLink, OneSecret}
 use Rattle.ssh_rules.specs.Log.{wrote, handled, kept_in, recorded}
-use Rattle.ssh_rules.specs.Machine.{Where, Silent, Outside, Inside, SideState, Event, IdHeard, PayloadSubmitted, ExchangeBegun, AnswerSent, PayloadSent, MessageTaken, GuessDropped, PayloadDelivered, PacketDropped, ExchangeFinished, Step, Steps, cause_of, first_state, names_now, setting}
+use Rattle.ssh_rules.specs.Machine.{Where, Silent, Outside, Inside, SideState, Event, IdHeard, PayloadSubmitted, ExchangeBegun, AnswerSent, PayloadSent, MessageTaken, GuessDropped, PayloadDelivered, PacketDropped, ExchangeFinished, Step, cause_of, first_state, names_now, setting}
 use Rattle.ssh_rules.specs.MessageTypes.{type_of, is_kex_type}
 use Rattle.ssh_rules.specs.Refused.{LooksIn}
 use Rattle.ssh_rules.specs.Snapshots.{KindIs, NoGuesses, RunsInLink, kind_chosen}

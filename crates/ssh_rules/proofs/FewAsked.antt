@@ -11,13 +11,13 @@ use Rattle.ssh_kex.specs.declared.config.Config.{Config}
 use Rattle.ssh_kex.specs.declared.exchange.Exchange.{Exchange}
 use Rattle.ssh_kex.specs.declared.exchange.FinishedExchange.{FinishedExchange}
 use Rattle.ssh_kex.specs.declared.exchange.ServerHost.{ServerHost}
-use Rattle.ssh_rules.specs.Asking.{AsksAtMost, AsksFew, AsksForCause, AsksForMessage, AsksForType, AsksUntil, AsksWithin, PartCalls, kex_count, packet_of}
+use Rattle.ssh_rules.specs.Asking.{AsksAtMost, AsksFew, AsksForCause, AsksForType, AsksUntil, AsksWithin, PartCalls, kex_count, packet_of}
 use Rattle.ssh_rules.specs.Calls.{agreement_left, hosts_left, lookups_left}
 use Rattle.ssh_rules.specs.Counting.{CallsFrom, begun, open_count, agreement_to_come, hosts_to_come, lookups_to_come, calls_of, lookups_of}
 use Rattle.ssh_rules.specs.Log.{handled}
 use Rattle.ssh_rules.specs.Machine.{Where, Silent, Outside, Inside, SideState, setting, Cause, Start, Asked, Answering, WriteLimit, ReadLimit, MayBegin, Event, IdHeard, PayloadSubmitted, ExchangeBegun, AnswerSent, PayloadSent, MessageTaken, GuessDropped, PayloadDelivered, PacketDropped, ExchangeFinished, Step, Steps}
 use Rattle.ssh_rules.specs.MessageTypes.{is_kex_type, type_of}
-use Rattle.ssh_rules.specs.Standing.{Acts, OfFault, OfMemory, OfPacket, OfVersion, RefusalCause, Standing}
+use Rattle.ssh_rules.specs.Standing.{OfFault, OfMemory, OfPacket, OfVersion, RefusalCause, Standing}
 use Rattle.ssh_rules.proofs.CallsRun.{begun_first, dropped_calls, split_times}
 use Rattle.ssh_rules.proofs.LedgerSteps.{takes_kex}
 use Rattle.ssh_rules.proofs.Left.{begun_step, begun_steps, may_open}

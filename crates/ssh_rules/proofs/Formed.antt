@@ -13,7 +13,7 @@ use Rattle.ssh_kex.specs.declared.config.Config.{Config}
 use Rattle.ssh_kex.specs.declared.exchange.Exchange.{Exchange}
 use Rattle.ssh_kex.specs.declared.exchange.FinishedExchange.{FinishedExchange}
 use Rattle.ssh_kex.specs.declared.exchange.ServerHost.{ServerHost}
-use Rattle.ssh_rules.specs.Attacked.{block_names, kind_in, host_in, still_strict}
+use Rattle.ssh_rules.specs.Attacked.{block_names, host_in, still_strict}
 use Rattle.ssh_rules.specs.Fills.{Fills, messages}
 use Rattle.ssh_rules.proofs.StageFits.{Trace, Fits, FitsStage, FitsWhere}
 use Rattle.ssh_rules.specs.Headline.{blob_in}

@@ -15,22 +15,23 @@ pub use Rattle.ssh_rules.proofs.Attacked.{run_keyed, run_signed, run_wire}
 pub use Rattle.ssh_rules.proofs.Tags.{prefix_of_sides}
 pub use Rattle.ssh_rules.proofs.Freshness.{run_fresh}
 pub use Rattle.ssh_rules.proofs.CallsRun.{Counts, Pays, calls_in, calls_join, calls_steps, calls_run, agreement_counts, hosts_counts, lookups_counts, agreement_pays, hosts_pays, lookups_pays}
-pub use Rattle.ssh_rules.proofs.CallsRun.{dropped_calls}
+pub use Rattle.ssh_rules.proofs.CallsRun.{begun_first, dropped_calls}
 pub use Rattle.ssh_rules.proofs.Calls.{asks_left, asks_lookups}
 pub use Rattle.ssh_rules.proofs.Asking.{asks_still, asks_join, asks_steps, StageBounds, stage_bounds, dropped_asks, message_none, type_none, cause_none, until_steps}
+pub use Rattle.ssh_rules.proofs.GroupsChosen.{dropped_group, groups_more, request_alone, taken_group}
 pub use Rattle.ssh_rules.proofs.FewAsked.{few_asked, input_few, refused_few}
 pub use Rattle.ssh_rules.proofs.Left.{begun_steps, left_steps, settle_turn, settle_measure}
 pub use Rattle.ssh_rules.proofs.SettleRoom.{left_room, settle_room}
 pub use Rattle.ssh_rules.proofs.SettleEnds.{all_rest, both_lower, few_with_first, settle_few, settle_starts, side_lowers, waits_for}
 pub use Rattle.ssh_rules.proofs.Joint.{honest_carrier, first_same}
 pub use Rattle.ssh_rules.proofs.Turns.{AreFit, client_held, server_held, held_in_step, turns_in_step}
-pub use Rattle.ssh_rules.proofs.Valid.{are_fit, have_limits, is_within, small_limits, write_limit}
+pub use Rattle.ssh_rules.proofs.Valid.{are_fit, have_limits, is_within, small_limits, tests, write_limit}
 pub use Rattle.ssh_rules.proofs.OneKind.{of_kind}
 pub use Rattle.ssh_rules.proofs.KindRead.{reads_kind}
 pub use Rattle.ssh_rules.proofs.Starts.{start_is_snapshot, rests_again, reading_stays}
 pub use Rattle.ssh_rules.proofs.Moments.{held_by}
 pub use Rattle.ssh_rules.proofs.LinkFew.{link_bounded, most_begun}
-pub use Rattle.ssh_rules.proofs.LinkIs.{link_is, submitted_last, asked_last}
+pub use Rattle.ssh_rules.proofs.LinkIs.{asked_last, asked_more, link_is, submitted_last}
 pub use Rattle.ssh_rules.proofs.Next.{next_is, next_accepted}
 pub use Rattle.ssh_rules.proofs.Forms.{readable}
 pub use Rattle.ssh_rules.proofs.Early.{early_run, awaited_passes}

@@ -36,7 +36,7 @@ use Rattle.ssh_rules.specs.Valid.{HasSizes, longest_blob, some_blob_long}
 use Rattle.ssh_rules.specs.Wire.{HasFront}
 use Rattle.ssh_rules.proofs.Awaited.{IsReadable}
 use Rattle.ssh_rules.proofs.Made.{made_alike, same_exchange}
-use Rattle.ssh_rules.proofs.MadeNext.{GroupMade, ReplyMade, ValueMade, both_hold, by_opened, by_server, group_made, reply_made, value_made}
+use Rattle.ssh_rules.proofs.MadeNext.{ReplyMade, ValueMade, both_hold, by_opened, by_server, group_made, reply_made, value_made}
 use Rattle.ssh_rules.proofs.OnlyParts.{PartsRefuse, form_length, reply_fields, value_fields}
 use Rattle.ssh_rules.proofs.ReadAgain.{front_again, group_again, sizes_again, value_again}
 use Rattle.ssh_rules.proofs.StageFits.{FitsStage}

@@ -14,7 +14,7 @@ use Rattle.ssh_kex.specs.Stages.{Stage, Created}
 use Rattle.ssh_kex.specs.declared.config.Config.{Config}
 use Rattle.ssh_kex.specs.declared.exchange.FinishedExchange.{FinishedExchange}
 use Rattle.ssh_rules.specs.Log.{wrote, handled, kept_in, recorded, sent_bytes, read_bytes}
-use Rattle.ssh_rules.specs.Machine.{Where, Silent, Outside, Inside, SideState, Event, IdHeard, PayloadSubmitted, ExchangeBegun, AnswerSent, PayloadSent, MessageTaken, GuessDropped, PayloadDelivered, PacketDropped, ExchangeFinished, Steps, InOrder, first_state}
+use Rattle.ssh_rules.specs.Machine.{Silent, Outside, Inside, SideState, Event, IdHeard, PayloadSubmitted, ExchangeBegun, AnswerSent, PayloadSent, MessageTaken, GuessDropped, PayloadDelivered, PacketDropped, ExchangeFinished, Steps, InOrder, first_state}
 use Rattle.ssh_rules.specs.Snapshots.{NoGuesses, KindIs, kind_chosen}
 use Rattle.ssh_rules.specs.Valid.{HasSizes}
 use Rattle.ssh_rules.specs.Wire.{HasFront, epochs_ended, exchange_block}

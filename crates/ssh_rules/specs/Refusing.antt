@@ -1,5 +1,5 @@
 -- Why one side refuses a packet that stands next.
-use Rattle.std.specs.Prelude.{◌≡◌, ℕ, ◌-◌, ◌≤◌, ◌&&◌, nat_le, Bool, true, false, List, [], Some, ◌⊎◌}
+use Rattle.std.specs.Prelude.{◌≡◌, ℕ, ◌-◌, ◌&&◌, nat_le, Bool, true, false, List, [], Some, ◌⊎◌}
 use Rattle.ssh_packet.specs.Errors.{error_of, open_error}
 use Rattle.ssh_packet.specs.Sealing.{Item, next_number}
 use Rattle.ssh_wire.specs.Lines.{id_text}

@@ -5,8 +5,8 @@ use Rattle.std.proofs.lemmas.List.{take_all}
 use Rattle.std.proofs.lemmas.List.Elements.{All-head, All-tail}
 use Rattle.std.specs.List.{All}
 use Rattle.std.specs.Str.{bytes_eq}
-use Rattle.ssh_negotiate.specs.Advertised.{fits, has_key, offers_with}
-use Rattle.ssh_negotiate.specs.Preferences.{Hosts, Preferences}
+use Rattle.ssh_negotiate.specs.Advertised.{fits, has_key}
+use Rattle.ssh_negotiate.specs.Preferences.{Hosts}
 use Rattle.ssh_negotiate.specs.declared.kex.KexCause.{KexCause}
 use Rattle.ssh_negotiate.specs.declared.negotiation.Names.{Names}
 use Rattle.ssh_negotiate.specs.declared.preferred.HostCertificate.{HostCertificate}
@@ -28,7 +28,7 @@ use Rattle.ssh_kex.specs.Messages.{Presented, by_certificate, by_holder, by_key,
 use Rattle.ssh_kex.specs.Parts.{Presents, Setup}
 use Rattle.ssh_kex.specs.Refusals.{sizes_front, sizes_in, value_in}
 use Rattle.ssh_server_kex.specs.ServerRows.{AgreesOn, AnswersValue, AreShortBlobs, CanAnswer, IsLongAnswer, RefusesAnswer, RefusesSizes, RefusesText, RefusesValue}
-use Rattle.ssh_kex.specs.Setting.{kept_of, offers_of}
+use Rattle.ssh_kex.specs.Setting.{kept_of}
 use Rattle.ssh_kex.specs.Signature.{judged}
 use Rattle.ssh_kex.specs.Stepping.{PutsAll}
 use Rattle.ssh_kex.specs.Views.{HasKeys}

@@ -1,5 +1,5 @@
 -- What a refused packet has written stands behind the output.
-use Rattle.std.proofs.Common.{◌≡◌, ℕ, List, [], ◌∷◌, ◌++◌, length, take, Result, Ok, Err, OnErr, refl, sym, ap, ◌∙◌, subst, append_assoc, append-nil, ◌⊎◌, inl, inr}
+use Rattle.std.proofs.Common.{◌≡◌, ℕ, List, [], ◌∷◌, ◌++◌, length, take, Result, Ok, Err, OnErr, refl, sym, ap, ◌∙◌, append_assoc, append-nil, inl, inr}
 use Rattle.std.proofs.Math.Seq.{take-append_seam}
 use Rattle.ssh_packet.specs.Sealing.{item_of, sealed_packet}
 use Rattle.ssh_packet.specs.Writing.{SameButRoom, Writer}

@@ -28,11 +28,7 @@ use Rattle.ssh_rules.specs.Calls.{agreement_left, hosts_left, lookups_left}
 use Rattle.ssh_rules.specs.Counting.{CallsFrom, agreement_to_come, begun, calls_of, group_in, groups_chosen, groups_in, hosts_to_come, lookups_of, lookups_to_come, open_count, request_due}
 use Rattle.ssh_rules.specs.Machine.{Event, Inside, Outside, SideState, Spot, Steps, Where, names_now}
 use Rattle.ssh_rules.specs.Standing.{OfMemory, OfPacket, RefusalCause}
-use Rattle.ssh_rules.proofs.Asking.{asks_join, asks_still, asks_steps, cause_none, dropped_asks, stage_bounds}
-use Rattle.ssh_rules.proofs.Calls.{asks_left, asks_lookups}
-use Rattle.ssh_rules.proofs.CallsRun.{begun_first, dropped_calls}
-use Rattle.ssh_rules.proofs.GroupsChosen.{dropped_group, groups_more, request_alone, taken_group}
-use Rattle.ssh_rules.proofs.Left.{begun_steps}
+use Rattle.ssh_rules.proofs.Lemmas.{asks_join, asks_left, asks_lookups, asks_steps, asks_still, begun_first, begun_steps, cause_none, dropped_asks, dropped_calls, dropped_group, groups_more, request_alone, stage_bounds, taken_group}
 use Rattle.ssh_transport.specs.Asking.{AsksBetween, AsksTo, MoveAsks, StepAsks, asks_trust, nowhere, state_of}
 use Rattle.ssh_transport.specs.Handling.{Installs, IsFor, IsOpen, Moves}
 use Rattle.ssh_transport.specs.Kexinits.{setting_between}

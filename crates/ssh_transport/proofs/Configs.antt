@@ -19,7 +19,7 @@ use Rattle.ssh_negotiate.specs.declared.preferred.HostCertificate.{HostCertifica
 use Rattle.ssh_kex.specs.Setting.{offers_of}
 use Rattle.ssh_kex.specs.declared.config.Config.{Config}
 use Rattle.ssh_rules.specs.Valid.{config_fault, is_good_id, is_good_limit, is_no_kex, is_id_line_text, id_line_text, is_long_list, longest_blob, some_blob_long, some_list_long}
-use Rattle.ssh_rules.proofs.Valid.{is_within, tests}
+use Rattle.ssh_rules.proofs.Lemmas.{is_within, tests}
 use Rattle.ssh_transport.specs.Usable.{IsUsable}
 
 or_parts : (a b : Bool) → (a || b) ≡ false → (a ≡ false) × (b ≡ false)

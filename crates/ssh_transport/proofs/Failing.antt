@@ -16,10 +16,7 @@ use Rattle.ssh_rules.specs.Log.{delivered_in, read_bytes, sent_bytes}
 use Rattle.ssh_rules.specs.Machine.{Event, SideState, Steps}
 use Rattle.ssh_rules.specs.Refusing.{AnswersCause, RefusesPiece}
 use Rattle.ssh_rules.specs.Standing.{HearsBy, IsIdleBefore, IsNoId, OfFault, OfMemory, OfPacket, OfVersion, ReadsLineFrom, RefusalCause, Standing, lets_pass}
-use Rattle.ssh_rules.proofs.FewAsked.{refused_few}
-use Rattle.ssh_rules.proofs.Left.{begun_steps}
-use Rattle.ssh_rules.proofs.Moved.{delivered_more}
-use Rattle.ssh_rules.proofs.Ran.{read_join, sent_join, steps_join}
+use Rattle.ssh_rules.proofs.Lemmas.{begun_steps, delivered_more, read_join, refused_few, sent_join, steps_join}
 use Rattle.ssh_transport.specs.Asking.{AsksBetween, AsksTo}
 use Rattle.ssh_transport.specs.Handling.{IsHeard}
 use Rattle.ssh_transport.specs.Hearing.{HearsLine}

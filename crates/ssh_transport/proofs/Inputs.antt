@@ -4,21 +4,20 @@ use Rattle.std.proofs.lemmas.Bool.Decides.{nat_tests}
 use Rattle.std.specs.Borrow.{Bor}
 use Rattle.std.specs.Str.{bytes_eq}
 use Rattle.ssh_wire.specs.Lines as lines
-use Rattle.ssh_wire.specs.Lines.{IdFound, id_of, id_text, longest_line}
+use Rattle.ssh_wire.specs.Lines.{IdFound, id_of, id_text}
 use Rattle.ssh_wire.specs.Reading.{IdReading, Waiting, Heard, Failed, IsShort, still_allowed}
 use Rattle.ssh_wire.specs.declared.error.Error.{Error}
 use Rattle.ssh_wire.specs.declared.side.Side.{Side}
-use Rattle.ssh_mac.proofs.TagLaws.{tags_are_short}
+use Rattle.ssh_mac.proofs.Lemmas.{tags_are_short}
 use Rattle.ssh_packet.specs.Front as fronts
-use Rattle.ssh_packet.specs.Front.{Fault, Front, Refused, Unfinished, front_by_length, front_if_tagged, front_if_whole, front_of, front_parts, front_parts_by, is_bad_length, length_in, tag_for, tag_fault, text_in}
+use Rattle.ssh_packet.specs.Front.{Fault, Front, Refused, Unfinished, front_by_length, front_if_tagged, front_if_whole, front_of, front_parts_by, is_bad_length, length_in, tag_for, tag_fault, text_in}
 use Rattle.ssh_packet.specs.Sealing.{Block, Clear, Gcm, Item, Sealing, head_length, longest_packet, probe_length, tag_size}
 use Rattle.ssh_kex.specs.Setting.{Says}
 use Rattle.ssh_kex.specs.declared.config.Config.{Config}
 use Rattle.ssh_rules.specs.Log.{delivered_in, read_bytes, sent_bytes}
 use Rattle.ssh_rules.specs.Machine.{Event, Spot, Steps}
 use Rattle.ssh_rules.specs.Standing.{HearsFrom, HearsNone, ReadsLineFrom, TakesInput, WaitsInPart, lets_pass, unfinished_by}
-use Rattle.ssh_rules.proofs.Moved.{delivered_more}
-use Rattle.ssh_rules.proofs.Ran.{read_join, sent_join, steps_join}
+use Rattle.ssh_rules.proofs.Lemmas.{delivered_more, read_join, sent_join, steps_join}
 use Rattle.ssh_transport.specs.Handling.{IsHeard}
 use Rattle.ssh_transport.specs.Kept.{IsLive}
 use Rattle.ssh_transport.specs.Saying.{nothing_said}

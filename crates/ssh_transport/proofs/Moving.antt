@@ -17,7 +17,7 @@ use Rattle.ssh_kex.specs.declared.exchange.FinishedExchange.{FinishedExchange}
 use Rattle.ssh_kex.specs.declared.session_state.SessionKexState.{SessionKexState}
 use Rattle.ssh_kex.specs.declared.session_state.SessionKexState.TheVariants.{InProgress, Taken}
 use Rattle.ssh_rules.specs.Log.{sent_bytes}
-use Rattle.ssh_rules.specs.Machine.{Answering, BeginsExchange, Event, ExchangeBegun, Inside, OrderBy, Outside, SideState, Silent, Spot, names_now, spot_after}
+use Rattle.ssh_rules.specs.Machine.{Answering, BeginsExchange, ExchangeBegun, Inside, OrderBy, Outside, names_now, spot_after}
 use Rattle.ssh_rules.specs.MessageTypes.{is_kex_type, type_of}
 use Rattle.ssh_rules.specs.Valid.{config_fault}
 use Rattle.ssh_transport.specs.Handling.{Handles, IsBegun, IsFlagged, IsFor, IsHeard, IsOpen, IsOpenBy, IsOwn, Moves, Passes, read_behind, spot_behind}

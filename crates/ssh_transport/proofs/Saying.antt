@@ -20,7 +20,7 @@ use Rattle.ssh_rules.specs.Machine.{BeginsExchange, Cause, Event, ExchangeBegun,
 use Rattle.ssh_rules.specs.MessageTypes.{is_payload_type}
 use Rattle.ssh_rules.specs.Standing.{HearsNone, is_outside}
 use Rattle.ssh_rules.specs.Valid.{is_bad_size, is_good_payload}
-use Rattle.ssh_rules.proofs.Ran.{sent_join, steps_join}
+use Rattle.ssh_rules.proofs.Lemmas.{sent_join, steps_join}
 use Rattle.ssh_transport.specs.Kexinits.{SendsKexinit, setting_between}
 use Rattle.ssh_transport.specs.Saying.{AreGood, Begins, GoesOn, GoesPart, IsSettled, IsUnsaid, OnlyWrites, Opens, Writes, nothing_said}
 use Rattle.ssh_transport.specs.States.{heard_of, stands_of, state_at}

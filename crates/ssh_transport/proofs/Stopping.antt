@@ -23,9 +23,7 @@ use Rattle.ssh_rules.specs.Machine.{Event, IsQuiet, SideState, Steps}
 use Rattle.ssh_rules.specs.Refusing.{AnswersCause}
 use Rattle.ssh_rules.specs.Standing.{IsIdleBefore, OfFault, OfMemory, OfPacket, OfVersion, RefusalCause, StandsNext}
 use Rattle.ssh_rules.specs.Counting.{begun}
-use Rattle.ssh_rules.proofs.Left.{begun_steps}
-use Rattle.ssh_rules.proofs.Moved.{delivered_more}
-use Rattle.ssh_rules.proofs.Ran.{read_join, sent_join, steps_join}
+use Rattle.ssh_rules.proofs.Lemmas.{begun_steps, delivered_more, read_join, sent_join, steps_join}
 use Rattle.ssh_transport.specs.Asking.{state_of}
 use Rattle.ssh_transport.specs.Kept.{IsLive}
 use Rattle.ssh_transport.specs.States.{reading_of, state_at}

@@ -1,5 +1,5 @@
 -- A payload that is submitted, and an exchange that is asked for.
-use Rattle.std.proofs.Common.{◌≡◌, ℕ, ◌<◌, ◌^◌, Bool, true, false, List, [], ◌∷◌, ◌++◌, length, Result, Ok, Err, OnOk, OnErr, IfErr, refl, sym, ap, ◌∙◌, subst, arith, append-nil}
+use Rattle.std.proofs.Common.{◌≡◌, ℕ, ◌<◌, ◌^◌, Bool, true, false, List, [], ◌∷◌, ◌++◌, Result, Ok, Err, OnOk, OnErr, IfErr, refl, sym, ap, ◌∙◌, subst, append-nil}
 use Rattle.std.specs.Borrow.{Bor}
 use Rattle.rand_core.specs.Stream.{Stream}
 use Rattle.ssh_wire.specs.Reading.{Failed, IdReading, IsShort}
@@ -11,8 +11,7 @@ use Rattle.ssh_transport.specs.Kept.{IsLive}
 use Rattle.ssh_packet.specs.Sealing.{Item, IsAdmissible, IsPadded, item_of, sealed_packet}
 use Rattle.ssh_packet.specs.Writing.{Writer, Sends, with_item}
 use Rattle.ssh_kex.specs.Setting.{Says}
-use Rattle.ssh_rules.specs.Log.{delivered_in, submitted_in}
-use Rattle.ssh_rules.specs.Machine.{Asked, Event, ExchangeBegun, Outside, PayloadSent, PayloadSubmitted, SendsPayload, SideState, Silent, Spot, SubmitsPayload, Where}
+use Rattle.ssh_rules.specs.Machine.{Asked, ExchangeBegun, Outside, PayloadSent, PayloadSubmitted, SendsPayload, Silent, Spot}
 use Rattle.ssh_rules.specs.Standing.{BeginsAsked, Rekeyed, RekeyedFrom, Standing, Submitted, is_outside}
 use Rattle.ssh_rules.specs.Valid.{is_good_payload}
 use Rattle.ssh_transport.specs.Saying.{AreGood, Begins, GoesOn, IsSettled, nothing_said}

@@ -15,10 +15,7 @@ use Rattle.ssh_kex.specs.declared.config.Config.{Config}
 use Rattle.ssh_rules.specs.Log.{asked_in, causes_in, delivered_in, read_bytes, sent_bytes, submitted_in}
 use Rattle.ssh_rules.specs.Machine.{AnswerSent, Event, ExchangeBegun, ExchangeFinished, GuessDropped, IdHeard, MessageTaken, PacketDropped, PayloadDelivered, PayloadSent, PayloadSubmitted, Spot, Steps, spot_after, spot_renumbered}
 use Rattle.ssh_rules.specs.Standing.{HearsNone, IsInput}
-use Rattle.ssh_rules.proofs.LinkBounded.{causes_more}
-use Rattle.ssh_rules.proofs.LinkIs.{asked_more}
-use Rattle.ssh_rules.proofs.Moved.{delivered_more, submitted_more}
-use Rattle.ssh_rules.proofs.Ran.{read_join, sent_join, steps_join}
+use Rattle.ssh_rules.proofs.Lemmas.{asked_more, causes_more, delivered_more, read_join, sent_join, steps_join, submitted_more}
 use Rattle.ssh_transport.specs.Handling.{DoesWith, Handles, IsHeard, IsReadAt, delivered_by, read_behind, spot_behind}
 use Rattle.ssh_transport.specs.Kept.{IsLive}
 use Rattle.ssh_transport.specs.Saying.{GoesOn, IsFixed, OnlyWrites, Writes, nothing_said}

@@ -10,7 +10,7 @@ use Rattle.ssh_wire.specs.declared.algorithm.Algorithm.{Algorithm}
 use Rattle.ssh_wire.specs.declared.algorithm.Algorithm.TheVariants.{Ed25519, Ecdsa, Rsa}
 use Rattle.ssh_wire.specs.declared.algorithm.EcdsaCurve.TheVariants.{NistP256, NistP384, NistP521}
 use Rattle.ssh_wire.specs.declared.algorithm.HashAlg.TheVariants.{Sha256, Sha512}
-use Rattle.ssh_kex.proofs.Signatures.{canonical_again, not_canonical}
+use Rattle.ssh_kex.proofs.Lemmas.{canonical_again, not_canonical}
 use Rattle.ssh_kex.specs.Signature.{is_ecdsa, or_same, judged}
 use Rattle.ssh_vectors.specs.Hosts.{test_digest, test_signature, body_of}
 

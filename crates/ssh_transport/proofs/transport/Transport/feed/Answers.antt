@@ -3,7 +3,7 @@ use Rattle.ssh_kex.specs.Stepping.{denies_of, says_of}
 use Rattle.ssh_rules.specs.Asking.{AsksWithin, RefusesAsking, counted_by}
 use Rattle.ssh_rules.specs.Refusing.{RefusesPiece, untrusted_of}
 use Rattle.ssh_rules.specs.Standing.{Standing, TakesInput}
-use Rattle.ssh_rules.proofs.FewAsked.{input_few}
+use Rattle.ssh_rules.proofs.Lemmas.{input_few}
 use Rattle.ssh_transport.specs.States.{standing_of}
 use Rattle.ssh_transport.proofs.Saying.{on_ok}
 use Rattle.ssh_transport.proofs.transport.Transport.feed.Goals as goal
