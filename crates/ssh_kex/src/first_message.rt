@@ -22,7 +22,8 @@ fn is_late(cause: &KexCause, is_strict: bool, seqn: u32) -> bool
     }
 }
 
-/// The names that a client takes from the peer's KEXINIT.
+/// The names that a client takes from the peer's KEXINIT. KexInit where it is another message, else as `Client::read_kex`, and
+/// then StrictKeyExchangeViolation where under strict key exchange the first one isn't the first packet; Memory.
 pub fn client_names(
     alloc: Global,
     config: &Config,
@@ -57,7 +58,8 @@ pub fn client_names(
     Ok(names)
 }
 
-/// The names that a server takes from the peer's KEXINIT.
+/// The names that a server takes from the peer's KEXINIT, by its preferences and its keys. As `client_names`, with
+/// `Server::read_kex`.
 pub fn server_names(
     alloc: Global,
     config: &Config,

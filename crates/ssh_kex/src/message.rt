@@ -9,7 +9,7 @@ use rand_core::Rng;
 use ssh_packet::PacketWriter;
 use ssh_wire::Error;
 
-/// Whether a message has the type.
+/// Whether a message has the type, which is its first byte; one of no bytes has type 0.
 pub fn has_type(payload: &[u8], message_type: u8) -> bool
     ensures { result ≡ (message_type_of payload.now == message_type) }
 {
