@@ -11,7 +11,7 @@ use Rattle.ssh_packet.proofs.Fronts.{not_below, length_stays}
 use Rattle.ssh_packet.specs.Errors.{open_error}
 use Rattle.ssh_packet.specs.Finding.{RefusesBy, IsBadLength, IsSizeOnly, LeavesKey, StandsWhole, OpensPart}
 use Rattle.ssh_packet.specs.Front as front
-use Rattle.ssh_packet.specs.Front.{Front, Whole, Unfinished, Refused, front_of, length_in, is_bad_length, front_by_length, front_if_tagged, front_parts, front_parts_by, text_in, tag_for, tag_fault, opened_past, packet_of, key_behind, refused_past}
+use Rattle.ssh_packet.specs.Front.{Front, Whole, Unfinished, Refused, front_of, length_in, is_bad_length, front_by_length, front_if_whole, front_if_tagged, front_parts, front_parts_by, text_in, tag_for, tag_fault, opened_past, packet_of, key_behind, refused_past}
 use Rattle.ssh_packet.specs.Sealing.{Sealing, Clear, Block, Gcm, probe_length, tag_size, longest_packet}
 use Rattle.ssh_packet.specs.declared.error.OpenError.{OpenError}
 use Rattle.ssh_packet.specs.declared.error.OpenError.TheVariants.{PacketSize, IndexOutOfBounds, PacketAuth, DecryptionError}
