@@ -1,13 +1,16 @@
 //! Rows of both machines, each given the other's packets.
+//!
+//! Configurations, machines and parts are each made by a function of its own, which lends them on: a check lists all that a
+//! value holds at each place of the function that owns it.
 
 use crate::without::Without;
 use machine_rows::{Machine, Progress, config_of, keys_of, trusted_by};
 use ssh_kex::{Config, GexParams, NewKeys, Parts};
 use ssh_mac::HashValue;
-use ssh_negotiate::{KexCause, Preferred, ServerKeys, kex};
+use ssh_negotiate::{KexCause, ServerKeys, kex};
 use ssh_packet::{Incoming, OpenKey, PacketReader, PacketWriter, clear};
 use ssh_vectors::{Refusing, TestAgreement, TestGroups, TestHosts, TrustedHost};
-use ssh_wire::{Blob, Limits, Side, SshId, Text};
+use ssh_wire::Side;
 use std::alloc::Global;
 use vector_rows::preferences::{certificates, keys, preferred, settings};
 use vector_rows::{Fault, Row, Words, say, say_bytes, say_number, say_shown};
@@ -32,48 +35,70 @@ pub(crate) fn answer(kind: &str, row: &mut Row<'_>, found: &mut String) -> Resul
     if kind != "play" {
         return Ok(false);
     }
-    let setup = Setup::of(row)?;
-    let given = given_of(row)?;
-    setup.play(given.as_slice(), found)?;
+    let alloc = row.alloc();
+    let none = ServerKeys {
+        keys: Vec::new(alloc),
+        certificates: Vec::new(alloc),
+    };
+    let mut client = config_of(alloc, CLIENT_ID, preferred(row)?, sizes(), none)?;
+    let mut server = server_of(row)?;
+    play(&mut client, &mut server, row, found)?;
     Ok(true)
+}
+
+/// How a server is set up, by the next words.
+fn server_of(row: &mut Row<'_>) -> Result<Config, Fault> {
+    let prefers = preferred(row)?;
+    let host = ServerKeys {
+        keys: some(keys(row)?)?,
+        certificates: some(certificates(row)?)?,
+    };
+    config_of(row.alloc(), SERVER_ID, prefers, sizes(), host)
+}
+
+/// The sizes of groups where none are set.
+fn sizes() -> GexParams {
+    GexParams {
+        min_group_size: 2048,
+        preferred_group_size: 3072,
+        max_group_size: 8192,
+    }
+}
+
+/// Lets a client and a server speak by the words that are left, once these have set what else they set.
+fn play(
+    client: &mut Config,
+    server: &mut Config,
+    row: &mut Row<'_>,
+    found: &mut String,
+) -> Result<(), Fault> {
+    let cause = cause_of(row)?;
+    let settings = Settings::of(row)?;
+    client.gex = settings.gex;
+    server.gex = settings.gex;
+    if settings.blob > 0 {
+        server.host.keys = keys_of(row.alloc(), settings.blob)?;
+    }
+    let given = given_of(row)?;
+    let setup = Setup {
+        client,
+        server,
+        cause,
+        settings,
+    };
+    setup.play(given.as_slice(), found)
 }
 
 /// How both sides are set up.
 #[derive(Drop)]
-struct Setup {
-    client: Config,
-    server: Config,
+struct Setup<'s> {
+    client: &'s Config,
+    server: &'s Config,
     cause: KexCause,
     settings: Settings,
 }
 
-impl Setup {
-    /// The words before the messages.
-    fn of(row: &mut Row<'_>) -> Result<Setup, Fault> {
-        let alloc = row.alloc();
-        let client_prefers = preferred(row)?;
-        let server_prefers = preferred(row)?;
-        let mut host = ServerKeys {
-            keys: some(keys(row)?)?,
-            certificates: some(certificates(row)?)?,
-        };
-        let cause = cause_of(row)?;
-        let settings = Settings::of(row)?;
-        if settings.blob > 0 {
-            host.keys = keys_of(alloc, settings.blob)?;
-        }
-        let none = ServerKeys {
-            keys: Vec::new(alloc),
-            certificates: Vec::new(alloc),
-        };
-        Ok(Setup {
-            client: config_of(alloc, CLIENT_ID, client_prefers, settings.gex, none)?,
-            server: config_of(alloc, SERVER_ID, server_prefers, settings.gex, host)?,
-            cause,
-            settings,
-        })
-    }
-
+impl Setup<'_> {
     /// The hosts that the client trusts.
     fn trusted(&self, alloc: Global) -> Result<Vec<TrustedHost>, Fault> {
         if self.settings.trusts {
@@ -83,39 +108,58 @@ impl Setup {
         }
     }
 
-    /// A side that has sent its KEXINIT.
-    fn seat(&self, alloc: Global, side: Side) -> Result<Seat<'_>, Fault> {
-        let (config, peer_id, refused, trusted) = match side {
-            Side::Client => (
-                &self.client,
-                SERVER_ID,
-                &self.settings.client,
-                self.trusted(alloc)?,
-            ),
-            Side::Server => (
-                &self.server,
-                CLIENT_ID,
-                &self.settings.server,
-                Vec::new(alloc),
-            ),
-        };
-        let handed = self.settings.handed(refused, trusted);
-        Seat::of(alloc, side, config, peer_id, self.cause, handed)
-    }
-
     /// Lets both machines speak.
     fn play(&self, given: &[Given], found: &mut String) -> Result<(), Fault> {
+        let mut client = Machine::new();
+        self.play_client(&mut client, given, found)
+    }
+
+    /// Lets them speak, the client by this machine.
+    fn play_client<'c>(
+        &'c self,
+        machine: &mut Machine<'c>,
+        given: &[Given],
+        found: &mut String,
+    ) -> Result<(), Fault> {
         let alloc = *found.allocator();
-        let mut client = self.seat(alloc, Side::Client)?;
-        let mut server = self.seat(alloc, Side::Server)?;
-        spoken(&mut client, &mut server, given, found)
+        let trusted = self.trusted(alloc)?;
+        let mut parts = self.settings.handed(&self.settings.client, trusted);
+        let mut client = Seat::new(alloc, "client", machine, &mut parts);
+        client.begin(alloc, Side::Client, self.client, SERVER_ID, self.cause)?;
+        self.play_against(&mut client, given, found)
+    }
+
+    /// Lets a server speak with a client that has sent its KEXINIT.
+    fn play_against(
+        &self,
+        client: &mut Seat<'_, '_>,
+        given: &[Given],
+        found: &mut String,
+    ) -> Result<(), Fault> {
+        let mut server = Machine::new();
+        self.play_server(client, &mut server, given, found)
+    }
+
+    /// Lets it speak by this machine.
+    fn play_server<'c>(
+        &'c self,
+        client: &mut Seat<'_, '_>,
+        machine: &mut Machine<'c>,
+        given: &[Given],
+        found: &mut String,
+    ) -> Result<(), Fault> {
+        let alloc = *found.allocator();
+        let mut parts = self.settings.handed(&self.settings.server, Vec::new(alloc));
+        let mut server = Seat::new(alloc, "server", machine, &mut parts);
+        server.begin(alloc, Side::Server, self.server, CLIENT_ID, self.cause)?;
+        spoken(client, &mut server, given, found)
     }
 }
 
 /// What both say, and whether they agree where none is refused.
 fn spoken(
-    client: &mut Seat<'_>,
-    server: &mut Seat<'_>,
+    client: &mut Seat<'_, '_>,
+    server: &mut Seat<'_, '_>,
     given: &[Given],
     found: &mut String,
 ) -> Result<(), Fault> {
@@ -159,7 +203,7 @@ fn bytes_of(alloc: Global, digits: &str) -> Result<Vec<u8>, Fault> {
 }
 
 /// Which call of each part of a side is refused, 0 for none; and which key exchange its agreement lacks.
-#[derive(Clone, Copy, Drop)]
+#[derive(Clone, Copy)]
 struct Refused {
     agreement: u64,
     hosts: u64,
@@ -168,7 +212,7 @@ struct Refused {
 }
 
 /// What a row sets besides.
-#[derive(Drop)]
+#[derive(Clone, Copy)]
 struct Settings {
     gex: GexParams,
     bits: u32,
@@ -191,11 +235,7 @@ impl Settings {
             without: kex::NONE,
         };
         let mut given = Settings {
-            gex: GexParams {
-                min_group_size: 2048,
-                preferred_group_size: 3072,
-                max_group_size: 8192,
-            },
+            gex: sizes(),
             bits: 0,
             blob: 0,
             trusts: true,
@@ -334,74 +374,68 @@ fn how_of(alloc: Global, how: &str) -> Result<How, Fault> {
     }
 }
 
-/// A side: its machine until it is done, and the keys then.
+/// A side: its machine, what was handed in, and what it has written.
 #[derive(Drop)]
-struct Seat<'c> {
+struct Seat<'s, 'c> {
     name: &'static str,
-    machine: Option<Machine<'c>>,
-    parts: Handed,
+    machine: &'s mut Machine<'c>,
+    parts: &'s mut Handed,
     output: PacketWriter,
-    keys: Option<NewKeys>,
 }
 
-impl<'c> Seat<'c> {
-    /// One that has sent its KEXINIT.
-    fn of(
+impl<'s, 'c> Seat<'s, 'c> {
+    /// One that has sent nothing.
+    fn new(
+        alloc: Global,
+        name: &'static str,
+        machine: &'s mut Machine<'c>,
+        parts: &'s mut Handed,
+    ) -> Seat<'s, 'c> {
+        Seat {
+            name,
+            machine,
+            parts,
+            output: PacketWriter::clear(alloc),
+        }
+    }
+
+    /// Sends its KEXINIT.
+    fn begin(
+        &mut self,
         alloc: Global,
         side: Side,
         config: &'c Config,
         peer_id: &str,
         cause: KexCause,
-        mut parts: Handed,
-    ) -> Result<Seat<'c>, Fault> {
-        let mut output = PacketWriter::clear(alloc);
-        let machine = Machine::begun(
+    ) -> Result<(), Fault> {
+        self.machine.begin(
             alloc,
             side,
             config,
             peer_id.as_bytes(),
             cause,
-            &mut parts.rng,
-            &mut output,
-        )?;
-        Ok(Seat {
-            name: match side {
-                Side::Client => "client",
-                Side::Server => "server",
-            },
-            machine: Some(machine),
-            parts,
-            output,
-            keys: None,
-        })
+            &mut self.parts.rng,
+            &mut self.output,
+        )
     }
 
     /// Gives its machine a message, or none. False where it is refused.
     fn give(&mut self, input: Option<Incoming<'_>>, found: &mut String) -> Result<bool, Fault> {
-        let Some(machine) = self.machine.take() else {
+        if !self.machine.runs() {
             return Err(Fault::Malformed);
-        };
+        }
         let before = self.output.output().len();
         say(found, self.name)?;
-        match machine.step(&mut self.parts, input, &mut self.output) {
-            Ok(Progress::Waits(machine, resets)) => {
-                self.machine = Some(machine);
-                say_number(found, self.written(before).len() as u64)?;
-                if resets {
-                    say(found, "reset")?;
-                }
-            }
-            Ok(Progress::Done(keys)) => {
-                self.keys = Some(keys);
-                say(found, "done")?;
-                say_bytes(found, self.written(before))?;
+        match self.machine.step(self.parts, input, &mut self.output) {
+            Ok(progress) => {
+                say_progress(found, progress, self.written(before))?;
+                Ok(true)
             }
             Err(error) => {
                 say_shown(found, &error)?;
-                return Ok(false);
+                Ok(false)
             }
         }
-        Ok(true)
     }
 
     /// What it has written behind its first bytes.
@@ -413,10 +447,23 @@ impl<'c> Seat<'c> {
     }
 }
 
+/// Appends what a step leads to: how many bytes it wrote, or these where the machine is done.
+fn say_progress(found: &mut String, progress: Progress, written: &[u8]) -> Result<(), Fault> {
+    if progress == Progress::Done {
+        say(found, "done")?;
+        return say_bytes(found, written);
+    }
+    say_number(found, written.len() as u64)?;
+    if progress == Progress::Resets {
+        say(found, "reset")?;
+    }
+    Ok(())
+}
+
 /// Gives both machines each other's packets in turn, until none is left. False where one is refused.
 fn played(
-    client: &mut Seat<'_>,
-    server: &mut Seat<'_>,
+    client: &mut Seat<'_, '_>,
+    server: &mut Seat<'_, '_>,
     given: &[Given],
     found: &mut String,
 ) -> Result<bool, Fault> {
@@ -451,12 +498,12 @@ fn played(
 fn turn(
     reader: &mut PacketReader,
     other: &mut PacketWriter,
-    seat: &mut Seat<'_>,
+    seat: &mut Seat<'_, '_>,
     taken: &mut usize,
     given: &[Given],
     found: &mut String,
 ) -> Result<bool, Fault> {
-    if seat.machine.is_none() {
+    if !seat.machine.runs() {
         return Ok(true);
     }
     let n = other.output().len();
@@ -482,8 +529,8 @@ fn turn(
 }
 
 /// Appends whether both sides have the same, how long the hash is, and the session id, or `own` where it is the hash.
-fn say_end(found: &mut String, client: &Seat<'_>, server: &Seat<'_>) -> Result<(), Fault> {
-    let (Some(client), Some(server)) = (&client.keys, &server.keys) else {
+fn say_end(found: &mut String, client: &Seat<'_, '_>, server: &Seat<'_, '_>) -> Result<(), Fault> {
+    let (Some(client), Some(server)) = (client.machine.keys(), server.machine.keys()) else {
         return say(found, "open");
     };
     say(

@@ -1,6 +1,6 @@
 //! The machine of either side.
 
-ghost use Rattle.std.specs.Prelude.{◌^◌, ◌<◌, All, IsTrue, IfOk, length};
+ghost use Rattle.std.specs.Prelude.{◌^◌, ◌<◌, All, IsTrue, IfOk, IfSome, length};
 ghost use Rattle.ssh_kex.specs.Refusals.{IsCreated};
 ghost use Rattle.ssh_server_kex.specs.ServerRows.{AreShortBlobs};
 ghost use Rattle.ssh_negotiate.specs.declared.preferred.HostCertificate.{HostCertificate};
@@ -16,24 +16,49 @@ use ssh_wire::{Error, Side};
 use std::alloc::Global;
 use vector_rows::Fault;
 
-/// The machine of either side.
+/// The machine of either side while it runs, and the keys once it is done; neither behind a refusal.
+///
+/// It stays where it is made, and its calls lend it: a check lists all that it holds anew wherever a function moves it.
 #[derive(Drop)]
-pub enum Machine<'c> {
-    Client(ClientKex<'c>),
-    Server(ServerKex<'c>),
+pub struct Machine<'c> {
+    client: Option<ClientKex<'c>>,
+    server: Option<ServerKex<'c>>,
+    keys: Option<NewKeys>,
 }
 
 /// What a step leads to.
-#[derive(Drop)]
-pub enum Progress<'c> {
-    /// Another message is awaited; where told, the numbers of the own packets begin again.
-    Waits(Machine<'c>, bool),
-    Done(NewKeys),
+#[derive(Clone, Copy, PartialEq, Eq)]
+pub enum Progress {
+    /// Another message is awaited.
+    Waits,
+    /// The same, and the numbers of the own packets begin again.
+    Resets,
+    Done,
+}
+
+impl Progress {
+    fn waits(reset_seqn: bool) -> Progress {
+        if reset_seqn {
+            Progress::Resets
+        } else {
+            Progress::Waits
+        }
+    }
 }
 
 impl<'c> Machine<'c> {
-    /// One that has sent its KEXINIT, with this text of the peer's version line.
-    pub fn begun<R: Rng>(
+    /// One that doesn't run yet.
+    pub fn new() -> Machine<'c> {
+        Machine {
+            client: None,
+            server: None,
+            keys: None,
+        }
+    }
+
+    /// Begins as a side that sends its KEXINIT, with this text of the peer's version line.
+    pub fn begin<R: Rng>(
+        &mut self,
         alloc: Global,
         side: Side,
         config: &'c Config,
@@ -41,44 +66,92 @@ impl<'c> Machine<'c> {
         cause: KexCause,
         rng: &mut R,
         output: &mut PacketWriter,
-    ) -> Result<Machine<'c>, Fault> {
+    ) -> Result<(), Fault> {
         match side {
             Side::Client => {
                 let mut kex = client_of(alloc, config, peer_id, cause)?;
                 kex.kexinit(rng, output)?;
-                Ok(Machine::Client(kex))
+                self.client = Some(kex);
             }
             Side::Server => {
                 let mut kex = server_of(alloc, config, peer_id, cause)?;
                 kex.kexinit(rng, output)?;
-                Ok(Machine::Server(kex))
+                self.server = Some(kex);
+            }
+        }
+        Ok(())
+    }
+
+    /// Whether it awaits a message.
+    pub fn runs(&self) -> bool {
+        self.client.is_some() || self.server.is_some()
+    }
+
+    /// The keys once it is done.
+    pub fn keys(&self) -> Option<&NewKeys> {
+        self.keys.as_ref()
+    }
+
+    /// Gives it a message, or none. Inconsistent where it doesn't run.
+    pub fn step<A: Agreement, H: HostKeys, G: GroupLookup, R: Rng>(
+        &mut self,
+        parts: &mut Parts<A, H, G, R>,
+        input: Option<Incoming<'_>>,
+        output: &mut PacketWriter,
+    ) -> Result<Progress, Error> {
+        if input.is_some_and(|incoming| incoming.payload.len() >= 1 << 31) {
+            return Err(Error::PacketSize(0));
+        }
+        if self.server.is_some() {
+            self.step_of_server(parts, input, output)
+        } else {
+            self.step_of_client(parts, input, output)
+        }
+    }
+
+    fn step_of_client<A: Agreement, H: HostKeys, G: GroupLookup, R: Rng>(
+        &mut self,
+        parts: &mut Parts<A, H, G, R>,
+        input: Option<Incoming<'_>>,
+        output: &mut PacketWriter,
+    ) -> Result<Progress, Error>
+        requires { IfSome input (λ i. length i.payload.now < 2 ^ 31) }
+    {
+        let Some(kex) = self.client.take() else {
+            return Err(Error::Inconsistent);
+        };
+        match kex.step(parts, input, output)? {
+            KexProgress::NeedsReply { kex, reset_seqn } => {
+                self.client = Some(kex);
+                Ok(Progress::waits(reset_seqn))
+            }
+            KexProgress::Done { newkeys, .. } => {
+                self.keys = Some(newkeys);
+                Ok(Progress::Done)
             }
         }
     }
 
-    /// Gives it a message, or none.
-    pub fn step<A: Agreement, H: HostKeys, G: GroupLookup, R: Rng>(
-        self,
+    fn step_of_server<A: Agreement, H: HostKeys, G: GroupLookup, R: Rng>(
+        &mut self,
         parts: &mut Parts<A, H, G, R>,
         input: Option<Incoming<'_>>,
         output: &mut PacketWriter,
-    ) -> Result<Progress<'c>, Error> {
-        if input.is_some_and(|incoming| incoming.payload.len() >= 1 << 31) {
-            return Err(Error::PacketSize(0));
-        }
-        match self {
-            Machine::Client(kex) => match kex.step(parts, input, output)? {
-                KexProgress::NeedsReply { kex, reset_seqn } => {
-                    Ok(Progress::Waits(Machine::Client(kex), reset_seqn))
-                }
-                KexProgress::Done { newkeys, .. } => Ok(Progress::Done(newkeys)),
-            },
-            Machine::Server(kex) => match kex.step(parts, input, output)? {
-                KexProgress::NeedsReply { kex, reset_seqn } => {
-                    Ok(Progress::Waits(Machine::Server(kex), reset_seqn))
-                }
-                KexProgress::Done { newkeys, .. } => Ok(Progress::Done(newkeys)),
-            },
+    ) -> Result<Progress, Error>
+        requires { IfSome input (λ i. length i.payload.now < 2 ^ 31) }
+    {
+        let Some(kex) = self.server.take() else {
+            return Err(Error::Inconsistent);
+        };
+        match kex.step(parts, input, output)? {
+            KexProgress::NeedsReply { kex, reset_seqn } => {
+                self.server = Some(kex);
+                Ok(Progress::waits(reset_seqn))
+            }
+            KexProgress::Done { newkeys, .. } => {
+                self.keys = Some(newkeys);
+                Ok(Progress::Done)
+            }
         }
     }
 }

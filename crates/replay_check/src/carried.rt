@@ -1,17 +1,15 @@
 //! Rows of recorded connections: a transport of one side, fed the other side's bytes.
 
-use crate::replay::{cookie_of, give_agreed, set_up};
+use crate::given::{Given, parts_of};
+use crate::replay::{cookie_of, set_up};
 use crate::talk::{Packet, Talk};
 use machine_rows::{feed, rekey, side_of, submit};
-use ssh_kex::Parts;
+use rand_core::Rng;
+use ssh_kex::{Agreement, Config, GroupLookup, HostKeys, Parts};
 use ssh_transport::Transport;
-use ssh_vectors::TestGroups;
 use ssh_wire::{Error, Side};
 use std::alloc::Global;
-use uses::{GivenAgreement, GivenHosts};
-use vector_rows::{Fault, Row, Words, say, say_bytes, say_number, say_shown, words_of};
-
-type Given<'w> = Parts<GivenAgreement, GivenHosts, TestGroups, Words<'w>>;
+use vector_rows::{Fault, Row, say, say_bytes, say_number, say_shown, words_of};
 
 /// `carried SIDE`: the connection whose packets stand before, by a transport of the side whose KEXINIT was written from its
 /// own preferences. It is fed the peer's bytes one by one, and submits the side's payloads in their places: the hash of each
@@ -28,53 +26,68 @@ pub(crate) fn answer(
     }
     let side = side_of(row)?;
     let alloc = row.alloc();
-    let (own, peer) = talk.sides(side);
+    let (own, _) = talk.sides(side);
     let words = drawn_by(alloc, own.packets.as_slice())?;
-    let mut parts = parts_of(alloc, talk, side, words.as_slice())?;
-    let config = match talk.agreed.first() {
-        Some(agreed) => set_up(
-            alloc,
-            side,
-            own,
-            own.packets.as_slice(),
-            agreed.host.as_slice(),
-        )?,
-        None => return Err(Fault::Malformed),
-    };
-    let mut transport = match side {
-        Side::Client => Transport::client(alloc, &config)?,
-        Side::Server => Transport::server(alloc, &config)?,
-    };
-    let mut wire = peer.wire.as_slice();
-    match carried(
-        &mut transport,
-        &mut parts,
-        own.packets.as_slice(),
-        &mut wire,
-    ) {
-        Ok(()) => say_carried(talk, side, &mut transport, found)?,
-        Err(error) => say_shown(found, &error)?,
-    }
+    let mut parts = parts_of(alloc, side, talk.agreed.as_slice(), words.as_slice())?;
+    set_off(talk, side, &mut parts, found)?;
     Ok(true)
 }
 
-/// The parts of a side that answer what was agreed, and draw these words.
-fn parts_of<'w>(
-    alloc: Global,
+/// Appends what a transport of a side with these parts makes of the connection.
+fn set_off(
     talk: &Talk,
     side: Side,
-    words: &'w [u32],
-) -> Result<Given<'w>, Fault> {
-    let mut parts = Parts {
-        agreement: GivenAgreement::new(alloc),
-        hosts: GivenHosts::new(alloc),
-        groups: TestGroups { bits: 0 },
-        rng: Words::of(words),
+    parts: &mut Given<'_>,
+    found: &mut String,
+) -> Result<(), Fault> {
+    let (own, _) = talk.sides(side);
+    let packets = own.packets.as_slice();
+    let Some(agreed) = talk.agreed.first() else {
+        return Err(Fault::Malformed);
     };
-    for agreed in talk.agreed.as_slice() {
-        give_agreed(&mut parts, side, agreed)?;
+    let config = set_up(
+        *found.allocator(),
+        side,
+        own,
+        packets,
+        agreed.host.as_slice(),
+    )?;
+    set_off_under(talk, side, &config, parts, found)
+}
+
+/// The same under this configuration.
+fn set_off_under(
+    talk: &Talk,
+    side: Side,
+    config: &Config,
+    parts: &mut Given<'_>,
+    found: &mut String,
+) -> Result<(), Fault> {
+    let alloc = *found.allocator();
+    let new = match side {
+        Side::Client => Transport::client(alloc, config),
+        Side::Server => Transport::server(alloc, config),
+    };
+    match new {
+        Ok(mut transport) => carry(talk, side, &mut transport, parts, found),
+        Err(error) => Err(Fault::from(error)),
     }
-    Ok(parts)
+}
+
+/// Appends what a new transport makes of the connection.
+fn carry(
+    talk: &Talk,
+    side: Side,
+    transport: &mut Transport<'_>,
+    parts: &mut Given<'_>,
+    found: &mut String,
+) -> Result<(), Fault> {
+    let (own, peer) = talk.sides(side);
+    let mut wire = peer.wire.as_slice();
+    match carried(transport, parts, own.packets.as_slice(), &mut wire) {
+        Ok(()) => say_carried(talk, side, transport, found),
+        Err(error) => say_shown(found, &error),
+    }
 }
 
 /// The words that a side draws: the cookie of each KEXINIT, and the padding of each packet.
@@ -92,9 +105,9 @@ fn drawn_by(alloc: Global, packets: &[Packet]) -> Result<Vec<u32>, Fault> {
 
 /// Lets a transport send its side's payloads, and begin its exchanges, each where it stands, and feeds it the peer's bytes:
 /// those up to the end of an exchange where one runs, and all that are left at last.
-fn carried(
+fn carried<A: Agreement, H: HostKeys, G: GroupLookup, R: Rng>(
     transport: &mut Transport<'_>,
-    parts: &mut Given<'_>,
+    parts: &mut Parts<A, H, G, R>,
     packets: &[Packet],
     wire: &mut &[u8],
 ) -> Result<(), Error> {
@@ -111,9 +124,9 @@ fn carried(
 }
 
 /// Feeds a transport byte by byte until it is outside an exchange, or no byte is left.
-fn feed_exchange(
+fn feed_exchange<A: Agreement, H: HostKeys, G: GroupLookup, R: Rng>(
     transport: &mut Transport<'_>,
-    parts: &mut Given<'_>,
+    parts: &mut Parts<A, H, G, R>,
     wire: &mut &[u8],
 ) -> Result<(), Error> {
     for _ in 0..wire.len() {

@@ -4,6 +4,7 @@
 #![tactic(auto)]
 
 mod carried;
+mod given;
 mod replay;
 mod talk;
 

@@ -1,17 +1,20 @@
 //! Rows of recorded exchanges: the machine of one side, given what the other side sent.
+//!
+//! Parts, configuration and machine are each made by a function of its own, which lends it on: a check lists all that a
+//! value holds at each place of the function that owns it.
 
+use crate::given::{Given, parts_of};
 use crate::talk::{Agreed, Packet, Speaker, Talk, last_of};
 use machine_rows::{Machine, Progress, config_of, side_of};
-use ssh_kex::{Config, GexParams, NewKeys, Parts};
+use rand_core::Rng;
+use ssh_kex::{Agreement, Config, GexParams, GroupLookup, HostKeys, NewKeys, Parts};
 use ssh_mac::HashValue;
 use ssh_negotiate::{HostKey, KexCause, Preferred, ServerKeys};
 use ssh_packet::{Incoming, OpenKey, PacketReader, PacketWriter, clear};
-use ssh_vectors::TestGroups;
 use ssh_wire::{Blob, NameList, Reader, Side};
 use std::alloc::Global;
-use uses::{GivenAgreement, GivenHosts};
 use vector_rows::preferences::{Named, named_all};
-use vector_rows::{Fault, Row, Words, say, say_bytes, say_shown, words_of};
+use vector_rows::{Fault, Row, say, say_bytes, say_shown, words_of};
 
 /// `agreed SIDE SECRET`: the exchange that stands before, by the machine of a side whose KEXINIT was written from its own
 /// preferences: key exchange, cipher, MACs of both directions, exchange hash, session id, and the six keys in the order of
@@ -28,18 +31,24 @@ pub(crate) fn answer(
     }
     let side = side_of(row)?;
     let mut agreed = agreed_by(talk, row.bytes()?)?;
-    if let Some(keys) = replayed(talk, side, &agreed, found)? {
-        say_keys(found, &keys)?;
+    if let Some(made) = replayed(talk, side, &agreed, found)? {
+        agreed.hash = made.hash;
         if !talk.cause.is_rekey() {
             talk.cause = KexCause::Rekey {
-                strict: keys.names.strict_kex,
-                session_id: keys.hash,
+                strict: made.strict,
+                session_id: made.hash,
             };
         }
-        agreed.hash = keys.hash;
     }
     talk.agreed.push(agreed)?;
     Ok(true)
+}
+
+/// What a later exchange needs of one: whether it was strict, and its hash.
+#[derive(Clone, Copy)]
+struct Made {
+    strict: bool,
+    hash: HashValue,
 }
 
 /// Appends what an exchange leaves.
@@ -58,75 +67,106 @@ fn say_keys(found: &mut String, left: &NewKeys) -> Result<(), Fault> {
     say_bytes(found, left.keys.mac_s2c.as_bytes())
 }
 
-/// What a machine is left with that is given the other side's messages, or none where one is refused.
+/// What a side's machine makes that is given the other side's messages. Appends its keys; where a message is refused there
+/// is none, and the refusal is appended.
 fn replayed(
     talk: &Talk,
     side: Side,
     agreed: &Agreed,
     found: &mut String,
-) -> Result<Option<NewKeys>, Fault> {
+) -> Result<Option<Made>, Fault> {
     let alloc = *found.allocator();
-    let (own, peer) = talk.sides(side);
-    let (own_packets, peer_packets) = (own.last_exchange()?, peer.last_exchange()?);
-    let config = set_up(alloc, side, own, own_packets, agreed.host.as_slice())?;
-    let cookie = words_of(alloc, cookie_of(own_packets)?)?;
-    let mut parts = Parts {
-        agreement: GivenAgreement::new(alloc),
-        hosts: GivenHosts::new(alloc),
-        groups: TestGroups { bits: 0 },
-        rng: Words::of(cookie.as_slice()),
-    };
-    give_agreed(&mut parts, side, agreed)?;
+    let (own, _) = talk.sides(side);
+    let cookie = words_of(alloc, cookie_of(own.last_exchange()?)?)?;
+    let mut parts = parts_of(alloc, side, std::slice::from_ref(agreed), cookie.as_slice())?;
+    replayed_by(talk, side, agreed.host.as_slice(), &mut parts, found)
+}
+
+/// What it makes by these parts, where the server presents this host.
+fn replayed_by(
+    talk: &Talk,
+    side: Side,
+    host: &[u8],
+    parts: &mut Given<'_>,
+    found: &mut String,
+) -> Result<Option<Made>, Fault> {
+    let (own, _) = talk.sides(side);
+    let config = set_up(*found.allocator(), side, own, own.last_exchange()?, host)?;
+    replayed_under(talk, side, &config, parts, found)
+}
+
+/// What it makes under a configuration.
+fn replayed_under(
+    talk: &Talk,
+    side: Side,
+    config: &Config,
+    parts: &mut Given<'_>,
+    found: &mut String,
+) -> Result<Option<Made>, Fault> {
+    let mut machine = Machine::new();
+    begun(talk, side, config, &mut machine, parts, found)
+}
+
+/// What a machine makes that is still to begin.
+fn begun<'c>(
+    talk: &Talk,
+    side: Side,
+    config: &'c Config,
+    machine: &mut Machine<'c>,
+    parts: &mut Given<'_>,
+    found: &mut String,
+) -> Result<Option<Made>, Fault> {
+    let alloc = *found.allocator();
+    let (_, peer) = talk.sides(side);
     let mut output = PacketWriter::clear(alloc);
-    let machine = Machine::begun(
+    machine.begin(
         alloc,
         side,
-        &config,
+        config,
         peer.id.as_slice(),
         talk.cause,
         &mut parts.rng,
         &mut output,
     )?;
-    let keys = driven(machine, peer_packets, &mut parts, &mut output, found)?;
-    if keys.is_some() && !is_written(alloc, output.output(), own_packets)? {
-        say(found, "wrote")?;
-    }
-    if keys.is_some() && side == Side::Client && parts.hosts.judged() != 1 {
-        say(found, "unjudged")?;
-    }
-    Ok(keys)
+    finished(talk, side, machine, parts, &mut output, found)
 }
 
-/// Lets the parts of a side answer what was agreed.
-pub(crate) fn give_agreed<R>(
-    parts: &mut Parts<GivenAgreement, GivenHosts, TestGroups, R>,
+/// What a machine makes that has sent its KEXINIT.
+fn finished(
+    talk: &Talk,
     side: Side,
-    agreed: &Agreed,
-) -> Result<(), Fault> {
-    let alloc = *agreed.secret.allocator();
-    let public = match side {
-        Side::Client => agreed.client.as_slice(),
-        Side::Server => agreed.server.as_slice(),
-    };
-    parts.agreement.push(
-        Vec::from_slice(alloc, public)?,
-        Vec::from_slice(alloc, agreed.secret.as_slice())?,
-    )?;
-    parts
-        .hosts
-        .push(Vec::from_slice(alloc, agreed.signature.as_slice())?)?;
-    Ok(())
-}
-
-/// Gives a machine the messages of an exchange until it is done. None where one is refused, or they are too few.
-fn driven(
-    machine: Machine<'_>,
-    packets: &[Packet],
-    parts: &mut Parts<GivenAgreement, GivenHosts, TestGroups, Words<'_>>,
+    machine: &mut Machine<'_>,
+    parts: &mut Given<'_>,
     output: &mut PacketWriter,
     found: &mut String,
-) -> Result<Option<NewKeys>, Fault> {
-    let mut machine = machine;
+) -> Result<Option<Made>, Fault> {
+    let (own, peer) = talk.sides(side);
+    drive(machine, peer.last_exchange()?, parts, output, found)?;
+    let Some(keys) = machine.keys() else {
+        return Ok(None);
+    };
+    if !is_written(*found.allocator(), output.output(), own.last_exchange()?)? {
+        say(found, "wrote")?;
+    }
+    if side == Side::Client && parts.hosts.judged() != 1 {
+        say(found, "unjudged")?;
+    }
+    say_keys(found, keys)?;
+    Ok(Some(Made {
+        strict: keys.names.strict_kex,
+        hash: keys.hash,
+    }))
+}
+
+/// Gives a machine the messages of an exchange until it is done. Appends why it isn't: what is refused, or that they are too
+/// few.
+fn drive<A: Agreement, H: HostKeys, G: GroupLookup, R: Rng>(
+    machine: &mut Machine<'_>,
+    packets: &[Packet],
+    parts: &mut Parts<A, H, G, R>,
+    output: &mut PacketWriter,
+    found: &mut String,
+) -> Result<(), Fault> {
     for packet in packets {
         if packet.is_kex() {
             let input = Incoming {
@@ -134,17 +174,13 @@ fn driven(
                 seqn: packet.seqn,
             };
             match machine.step(parts, Some(input), output) {
-                Ok(Progress::Waits(next, _)) => machine = next,
-                Ok(Progress::Done(keys)) => return Ok(Some(keys)),
-                Err(error) => {
-                    say_shown(found, &error)?;
-                    return Ok(None);
-                }
+                Ok(Progress::Done) => return Ok(()),
+                Ok(_) => {}
+                Err(error) => return say_shown(found, &error),
             }
         }
     }
-    say(found, "unfinished")?;
-    Ok(None)
+    say(found, "unfinished")
 }
 
 /// Whether the clear packets are the messages of the exchange among these.

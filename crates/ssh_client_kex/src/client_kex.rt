@@ -355,7 +355,7 @@ fn open_with_value<'c, A: Agreement, R: Rng>(
     alloc: Global,
     config: &'c Config,
     cause: KexCause,
-    exchange: Exchange,
+    mut exchange: Exchange,
     names: Names,
     agreement: &mut A,
     rng: &mut R,
@@ -386,17 +386,17 @@ fn open_with_value<'c, A: Agreement, R: Rng>(
         output,
     );
     match sent {
-        Ok(()) => Ok(waits(
-            alloc,
-            config,
-            cause,
-            Exchange {
-                client_ephemeral,
-                ..exchange
-            },
-            ClientState::AwaitsReply { names, algorithm },
-            false,
-        )),
+        Ok(()) => {
+            exchange.client_ephemeral = client_ephemeral;
+            Ok(waits(
+                alloc,
+                config,
+                cause,
+                exchange,
+                ClientState::AwaitsReply { names, algorithm },
+                false,
+            ))
+        }
         Err(error) => Err(error),
     }
 }
@@ -406,7 +406,7 @@ fn take_kexinit<'c, A: Agreement, R: Rng>(
     alloc: Global,
     config: &'c Config,
     cause: KexCause,
-    exchange: Exchange,
+    mut exchange: Exchange,
     agreement: &mut A,
     rng: &mut R,
     incoming: Incoming<'_>,
@@ -431,10 +431,7 @@ fn take_kexinit<'c, A: Agreement, R: Rng>(
         Ok(names) => names,
         Err(error) => return Err(error),
     };
-    let exchange = Exchange {
-        server_kex_init: Blob::copy_of(alloc, incoming.payload)?,
-        ..exchange
-    };
+    exchange.server_kex_init = Blob::copy_of(alloc, incoming.payload)?;
     let algorithm = KexAlgorithm::new(alloc, names.kex);
     if algorithm.skip_exchange() {
         return end_at_once(&algorithm, &cause, exchange, names, false, rng, output);
@@ -469,7 +466,7 @@ fn answer_group<'c, A: Agreement, R: Rng>(
     alloc: Global,
     config: &'c Config,
     cause: KexCause,
-    exchange: Exchange,
+    mut exchange: Exchange,
     names: Names,
     group: DhGroup,
     agreement: &mut A,
@@ -506,18 +503,18 @@ fn answer_group<'c, A: Agreement, R: Rng>(
     );
     let params = config.gex;
     match sent {
-        Ok(()) => Ok(waits(
-            alloc,
-            config,
-            cause,
-            Exchange {
-                client_ephemeral,
-                gex: Some(GexChosen { params, group }),
-                ..exchange
-            },
-            ClientState::AwaitsReply { names, algorithm },
-            false,
-        )),
+        Ok(()) => {
+            exchange.client_ephemeral = client_ephemeral;
+            exchange.gex = Some(GexChosen { params, group });
+            Ok(waits(
+                alloc,
+                config,
+                cause,
+                exchange,
+                ClientState::AwaitsReply { names, algorithm },
+                false,
+            ))
+        }
         Err(error) => Err(error),
     }
 }

@@ -138,7 +138,7 @@ fn accept_reply<'c, H: HostKeys, R: Rng>(
     alloc: Global,
     config: &'c Config,
     cause: KexCause,
-    exchange: Exchange,
+    mut exchange: Exchange,
     names: Names,
     algorithm: KexAlgorithm,
     hosts: &mut H,
@@ -162,10 +162,7 @@ fn accept_reply<'c, H: HostKeys, R: Rng>(
         (judged reply.entry.signature.now) ≡ true → ⊥)))) }
     ensures unchanged { OnErr result (SameButRoom output.old output.new) }
 {
-    let exchange = Exchange {
-        server_ephemeral: Blob::copy_of(alloc, reply.value)?,
-        ..exchange
-    };
+    exchange.server_ephemeral = Blob::copy_of(alloc, reply.value)?;
     let host = ServerHost {
         algorithm: names.key,
         is_certificate: names.host_key_is_certificate,

@@ -8,9 +8,7 @@ use Rattle.ssh_wire.specs.Reading.{IdReading, Waiting, Heard, Failed, Decides, F
 use Rattle.ssh_wire.specs.declared.read_id.IdProgress.{IdProgress}
 use Rattle.ssh_wire.specs.declared.read_id.IdProgress.TheVariants as progress
 use Rattle.ssh_wire.specs.declared.side.Side.{Side}
-use Rattle.ssh_wire.proofs.Cuts.{beyond}
-use Rattle.ssh_wire.proofs.LineByLine.{id_of_line}
-use Rattle.ssh_wire.proofs.LineLaws.{line_unfinished}
+use Rattle.ssh_wire.proofs.Lemmas.{beyond, id_of_line, line_unfinished}
 use Rattle.ssh_packet.specs.Front as fronts
 use Rattle.ssh_packet.specs.Front.{front_of}
 use Rattle.ssh_packet.specs.Keys.{opening_of}

@@ -14,8 +14,7 @@ use Rattle.ssh_negotiate.specs.Tables.{is_extension, kex_text, shape_of}
 use Rattle.ssh_negotiate.specs.declared.kex.Name as kexes
 use Rattle.ssh_negotiate.specs.declared.kex.Name.TheVariants.{Mlkem768X25519Sha256, Curve25519, Curve25519PreRfc8731, DhGexSha1, DhGexSha256, DhG1Sha1, DhG14Sha1, DhG14Sha256, DhG15Sha512, DhG16Sha512, DhG17Sha512, DhG18Sha512, EcdhSha2Nistp256, EcdhSha2Nistp384, EcdhSha2Nistp521, NoKex, ExtInfoC, ExtInfoS, StrictC, StrictS}
 use Rattle.ssh_negotiate.specs.declared.negotiation.Names.{Names}
-use Rattle.ssh_negotiate.proofs.Lemmas.{bind_ok, field_ok, in_any, in_filter, rest_ok}
-use Rattle.ssh_negotiate.proofs.Picked.{In}
+use Rattle.ssh_negotiate.proofs.Lemmas.{bind_ok, field_ok, In, in_any, in_filter, rest_ok}
 use Rattle.ssh_kex.specs.Setting.{offers_of}
 use Rattle.ssh_kex.specs.declared.config.Config.{Config}
 use Rattle.ssh_rules.specs.Valid.{config_fault, is_no_kex}

@@ -1,17 +1,16 @@
 //! Rows of one side's transport: its configuration, and calls one after the other.
 
 use machine_rows::{feed, key_of, keys_of, rekey, side_of, submit, times, trusted_by};
-use ssh_kex::{Config, GexParams, Parts};
+use rand_core::Rng;
+use ssh_kex::{Agreement, Config, GexParams, GroupLookup, HostKeys, Parts};
 use ssh_mac::mac;
-use ssh_negotiate::{HostKey, ServerKeys};
+use ssh_negotiate::ServerKeys;
 use ssh_transport::Transport;
-use ssh_vectors::{TestAgreement, TestGroups, TestHosts, TrustedHost};
-use ssh_wire::{Algorithm, Blob, Error, Limits, Side, SshId, Text};
+use ssh_vectors::{TestAgreement, TestGroups, TestHosts};
+use ssh_wire::{Blob, Error, Limits, Side, SshId, Text};
 use std::alloc::Global;
 use vector_rows::preferences::{preferred, settings};
 use vector_rows::{Fault, Row, Words, say, say_number, say_shown};
-
-type Handed = Parts<TestAgreement, TestHosts, TestGroups, Words<'static>>;
 
 /// `calls SIDE PREFERENCES SETTINGS CALL..`: what a transport of the side answers to `feed:BYTES`, `submit:BYTES` and
 /// `rekey`, one after the other; whether it has failed or is inside an exchange; and how many bytes of input are unfinished,
@@ -23,18 +22,24 @@ pub(crate) fn answer(kind: &str, row: &mut Row<'_>, found: &mut String) -> Resul
     }
     let side = side_of(row)?;
     let config = config_by(row)?;
-    let transport = match side {
-        Side::Client => Transport::client(row.alloc(), &config),
-        Side::Server => Transport::server(row.alloc(), &config),
-    };
-    match transport {
-        Ok(mut transport) => {
-            let trusted = trusted_by(row.alloc(), &config.host)?;
-            called(&mut transport, trusted, row, found)?;
-        }
-        Err(error) => say_shown(found, &error)?,
+    match side {
+        Side::Client => say_calls(Transport::client(row.alloc(), &config), &config, row, found)?,
+        Side::Server => say_calls(Transport::server(row.alloc(), &config), &config, row, found)?,
     }
     Ok(true)
+}
+
+/// Appends what a transport under a configuration answers, or why there is none.
+fn say_calls(
+    transport: Result<Transport<'_>, Error>,
+    config: &Config,
+    row: &mut Row<'_>,
+    found: &mut String,
+) -> Result<(), Fault> {
+    match transport {
+        Ok(mut transport) => called(&mut transport, config, row, found),
+        Err(error) => say_shown(found, &error),
+    }
 }
 
 /// The next words as PREFERENCES SETTINGS: `default`, or in its place the version line as `id` or as `rawid`, the limits
@@ -100,24 +105,39 @@ fn set_number(alloc: Global, config: &mut Config, name: &str, value: &str) -> Re
 /// Calls a transport by the words that are left.
 fn called(
     transport: &mut Transport<'_>,
-    trusted: Vec<TrustedHost>,
+    config: &Config,
+    row: &mut Row<'_>,
+    found: &mut String,
+) -> Result<(), Fault> {
+    let mut parts = Parts {
+        agreement: TestAgreement::new(),
+        hosts: TestHosts::new(trusted_by(row.alloc(), &config.host)?),
+        groups: TestGroups { bits: 0 },
+        rng: Words::of(&[]),
+    };
+    say_answers(transport, &mut parts, row, found)?;
+    say_state(transport, found)
+}
+
+/// Appends what the calls answer, whatever the parts are.
+fn say_answers<A: Agreement, H: HostKeys, G: GroupLookup, R: Rng>(
+    transport: &mut Transport<'_>,
+    parts: &mut Parts<A, H, G, R>,
     row: &mut Row<'_>,
     found: &mut String,
 ) -> Result<(), Fault> {
     let alloc = row.alloc();
-    let mut parts = Parts {
-        agreement: TestAgreement::new(),
-        hosts: TestHosts::new(trusted),
-        groups: TestGroups { bits: 0 },
-        rng: Words::of(&[]),
-    };
     for _ in 0..row.left() {
-        let call = row.word()?;
-        match answer_to(alloc, transport, &mut parts, call)? {
+        match answer_to(alloc, transport, parts, row.word()?)? {
             Ok(()) => say(found, "ok")?,
             Err(error) => say_shown(found, &error)?,
         }
     }
+    Ok(())
+}
+
+/// Appends how a transport stands.
+fn say_state(transport: &mut Transport<'_>, found: &mut String) -> Result<(), Fault> {
     if transport.failed() {
         say(found, "failed")?;
     } else if transport.inside() {
@@ -129,10 +149,10 @@ fn called(
     say_number(found, transport.output().len() as u64)
 }
 
-fn answer_to(
+fn answer_to<A: Agreement, H: HostKeys, G: GroupLookup, R: Rng>(
     alloc: Global,
     transport: &mut Transport<'_>,
-    parts: &mut Handed,
+    parts: &mut Parts<A, H, G, R>,
     call: &str,
 ) -> Result<Result<(), Error>, Fault> {
     if call == "rekey" {

@@ -5,7 +5,7 @@ ghost use Rattle.ssh_mac.specs.Names.{mac_key_length};
 ghost use Rattle.ssh_packet.specs.Names.{cipher_key_length, nonce_length};
 
 use ssh_mac::mac;
-use ssh_packet::{CipherPair, cipher};
+use ssh_packet::{CipherPair, OpenKey, SealKey, cipher};
 use vector_rows::{Fault, Row};
 
 /// Two names, and a key for each.
@@ -37,6 +37,14 @@ impl Material {
 
     /// Keys to seal and to open with. Malformed where a key hasn't the length of its name.
     pub(crate) fn pair(&self) -> Result<CipherPair, Fault> {
+        Ok(CipherPair {
+            local_to_remote: self.sealing()?,
+            remote_to_local: self.opening()?,
+        })
+    }
+
+    /// A key to seal with, as `pair`.
+    pub(crate) fn sealing(&self) -> Result<SealKey, Fault> {
         let (key, nonce, mac_key) = (
             self.key.as_slice(),
             self.nonce.as_slice(),
@@ -45,10 +53,20 @@ impl Material {
         if !has_lengths(self.cipher, self.mac, key, nonce, mac_key) {
             return Err(Fault::Malformed);
         }
-        Ok(CipherPair {
-            local_to_remote: self.cipher.make_sealing_key(key, nonce, mac_key, self.mac),
-            remote_to_local: self.cipher.make_opening_key(key, nonce, mac_key, self.mac),
-        })
+        Ok(self.cipher.make_sealing_key(key, nonce, mac_key, self.mac))
+    }
+
+    /// A key to open with, as `pair`.
+    pub(crate) fn opening(&self) -> Result<OpenKey, Fault> {
+        let (key, nonce, mac_key) = (
+            self.key.as_slice(),
+            self.nonce.as_slice(),
+            self.mac_key.as_slice(),
+        );
+        if !has_lengths(self.cipher, self.mac, key, nonce, mac_key) {
+            return Err(Fault::Malformed);
+        }
+        Ok(self.cipher.make_opening_key(key, nonce, mac_key, self.mac))
     }
 }
 

@@ -2,7 +2,7 @@
 
 ghost use Rattle.std.specs.Prelude.{List, ℕ, Option, Some};
 
-use ssh_wire::{Error, Failed, IdProgress, ReadSshIdBuffer, Source, SshRead};
+use ssh_wire::{Failed, IdProgress, ReadSshIdBuffer, Source, SshRead};
 use vector_rows::{Fault, Row, say, say_bytes, say_number, say_shown};
 
 /// Bytes that are handed out a few at a time. The first call fails where it is to.

@@ -9,7 +9,7 @@ use ssh_negotiate::{
     write_kex,
 };
 use ssh_packet::{PacketWriter, cipher, compression};
-use ssh_wire::{Algorithm, AlgorithmKind, Blob, Error, NameList, Reader, Side, Text};
+use ssh_wire::{Algorithm, AlgorithmKind, Blob, Error, NameList, Reader, Side};
 use std::alloc::Global;
 use vector_rows::preferences::{
     Named, certificates, extension, kexinit, keys, names, preferred, texts,

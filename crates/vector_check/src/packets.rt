@@ -137,31 +137,53 @@ fn fill(out: &mut PacketBytesWriter, payload: &[u8]) -> Result<(), Error> {
 fn seal(row: &mut Row<'_>, found: &mut String) -> Result<(), Fault> {
     let material = Material::of(row)?;
     let number = row.number32()?;
-    let padding = row.bytes()?;
-    let words = words_of(row.alloc(), padding.as_slice())?;
+    let words = words_of(row.alloc(), row.bytes()?.as_slice())?;
     let payload = row.bytes()?;
     let mut sealed = Vec::new(row.alloc());
     for call in 0..4 {
-        let keys = material.pair()?;
-        let mut rng = Words::of(words.as_slice());
-        let mut writer = PacketWriter::new(row.alloc(), keys.local_to_remote, Compress::None);
-        writer.buffer().seqn = number;
-        write_by(call, &mut writer, &mut rng, payload.as_slice())?;
-        if call == 0 {
-            sealed.extend_from_slice(writer.output())?;
-            say_bytes(found, sealed.as_slice())?;
-            say_number(found, rng.left() as u64)?;
-        }
-        say_other(found, "by", writer.output(), sealed.as_slice())?;
+        let rng = Words::of(words.as_slice());
+        seal_by(
+            call,
+            writer_at(row.alloc(), &material, number)?,
+            rng,
+            payload.as_slice(),
+            &mut sealed,
+            found,
+        )?;
     }
-    let mut opening = material.pair()?.remote_to_local;
     open_again(
-        &mut opening,
+        &mut material.opening()?,
         number,
         sealed.as_mut_slice(),
         payload.as_slice(),
         found,
     )
+}
+
+/// A writer whose next packet has the number.
+fn writer_at(alloc: Global, material: &Material, number: u32) -> Result<PacketWriter, Fault> {
+    let mut writer = PacketWriter::new(alloc, material.sealing()?, Compress::None);
+    writer.buffer().seqn = number;
+    Ok(writer)
+}
+
+/// Writes a payload by one of the four calls. Appends the packet of the first, and how many words weren't drawn; of another
+/// what it wrote, where that is other than the first.
+fn seal_by(
+    call: usize,
+    mut writer: PacketWriter,
+    mut rng: Words<'_>,
+    payload: &[u8],
+    sealed: &mut Vec<u8>,
+    found: &mut String,
+) -> Result<(), Fault> {
+    write_by(call, &mut writer, &mut rng, payload)?;
+    if call == 0 {
+        sealed.extend_from_slice(writer.output())?;
+        say_bytes(found, sealed.as_slice())?;
+        return say_number(found, rng.left() as u64);
+    }
+    say_other(found, "by", writer.output(), sealed.as_slice())
 }
 
 /// `opens` with what a key opens a packet to, where the payload stands elsewhere than behind its length, or the
@@ -227,7 +249,7 @@ fn open(row: &mut Row<'_>, found: &mut String) -> Result<(), Fault> {
 /// `forged CIPHER MAC KEY NONCE MACKEY NUMBER BYTES`: what a key answers to a packet of a wrong tag, and the bytes as
 /// they stand then.
 fn forged(row: &mut Row<'_>, found: &mut String) -> Result<(), Fault> {
-    let mut key = Material::of(row)?.pair()?.remote_to_local;
+    let mut key = Material::of(row)?.opening()?;
     let number = row.number32()?;
     let mut bytes = row.bytes()?;
     if bytes.len() > 1 << 24 || bytes.len() < 4 + key.tag_len() {
@@ -249,7 +271,7 @@ fn read(
     size: usize,
     found: &mut String,
 ) -> Result<(), Fault> {
-    let mut key = material.pair()?.remote_to_local;
+    let mut key = material.opening()?;
     let mut reader = reader_behind(alloc, number)?;
     for piece in bytes.chunks(size.max(1)) {
         reader.push(piece)?;
@@ -342,19 +364,28 @@ fn shows_length(row: &mut Row<'_>, found: &mut String) -> Result<(), Fault> {
 /// the packet's length, and that of the payload that it opens to; or the refusal and the length of the output.
 fn longest(row: &mut Row<'_>, found: &mut String) -> Result<(), Fault> {
     let call = row.count()?;
-    let keys = Material::of(row)?.pair()?;
+    let material = Material::of(row)?;
     let mut payload = Vec::new(row.alloc());
     payload.resize(row.count()?, 97)?;
-    let mut opening = keys.remote_to_local;
-    let mut writer = PacketWriter::new(row.alloc(), keys.local_to_remote, Compress::None);
+    let mut writer = PacketWriter::new(row.alloc(), material.sealing()?, Compress::None);
     if let Err(error) = write_by(call, &mut writer, &mut Words::of(&[]), payload.as_slice()) {
         say_shown(found, &error)?;
         return say_number(found, writer.output().len() as u64);
     }
-    say_bytes(found, writer.output().get(..4).unwrap_or(b""))?;
-    say_number(found, writer.output().len() as u64)?;
-    let mut reader = PacketReader::new(row.alloc());
-    reader.push(writer.output())?;
+    say_longest(row.alloc(), material.opening()?, writer.output(), found)
+}
+
+/// Appends a packet's first bytes and its length, and that of its payload, or the refusal of it.
+fn say_longest(
+    alloc: Global,
+    mut opening: OpenKey,
+    packet: &[u8],
+    found: &mut String,
+) -> Result<(), Fault> {
+    say_bytes(found, packet.get(..4).unwrap_or(b""))?;
+    say_number(found, packet.len() as u64)?;
+    let mut reader = PacketReader::new(alloc);
+    reader.push(packet)?;
     match reader.next(&mut opening) {
         Ok(incoming) => {
             let length = incoming.map(|incoming| incoming.payload.len()).unwrap_or(0);
@@ -389,26 +420,37 @@ fn say_state(writer: &mut PacketWriter, found: &mut String) -> Result<(), Fault>
 fn given_up(row: &mut Row<'_>, found: &mut String) -> Result<(), Fault> {
     let payload = row.bytes()?;
     let bytes = row.bytes()?;
-    let given = bytes.as_slice();
-    let mut rng = Words::of(&[]);
     let mut writer = PacketWriter::clear(row.alloc());
-    writer.packet_raw(&mut rng, payload.as_slice())?;
-    let written = writer.write_packet(&mut rng, |out| {
-        out.extend_from_slice(given)?;
-        Err(Error::Kex)
-    });
-    say_shown(found, &written.err())?;
-    let packed = writer.packet(&mut rng, |out| {
-        out.extend_from_slice(given)?;
-        Err(Error::Kex)
-    });
-    say_shown(found, &packed.err())?;
-    let filled = writer.packet_bytes(&mut rng, |out| {
-        out.extend_from_slice(given)?;
-        Err(Error::Kex)
-    });
-    say_shown(found, &filled.err())?;
+    writer.packet_raw(&mut Words::of(&[]), payload.as_slice())?;
+    for call in 0..3 {
+        say_shown(found, &fault_given_up(call, &mut writer, bytes.as_slice()))?;
+    }
     say_state(&mut writer, found)
+}
+
+/// What one of three calls answers to a closure that appends bytes and gives up, where it answers a fault.
+fn fault_given_up(call: usize, writer: &mut PacketWriter, given: &[u8]) -> Option<Error> {
+    let rng = &mut Words::of(&[]);
+    match call {
+        0 => writer
+            .write_packet(rng, |out| {
+                out.extend_from_slice(given)?;
+                Err(Error::Kex)
+            })
+            .err(),
+        1 => writer
+            .packet(rng, |out| {
+                out.extend_from_slice(given)?;
+                Err(Error::Kex)
+            })
+            .err(),
+        _ => writer
+            .packet_bytes(rng, |out| {
+                out.extend_from_slice(given)?;
+                Err(Error::Kex)
+            })
+            .err(),
+    }
 }
 
 /// `room LENGTH COUNT`: whether a clear writer with room for so many payloads of a length takes no memory for them,

@@ -122,11 +122,9 @@ fn keys(
     found: &mut String,
 ) -> Result<(), Fault> {
     let material = Material::of(row)?;
-    direction.whole_key = material.pair()?.remote_to_local;
-    direction.cut_key = material.pair()?.remote_to_local;
-    direction
-        .writer
-        .set_cipher(material.pair()?.local_to_remote);
+    direction.whole_key = material.opening()?;
+    direction.cut_key = material.opening()?;
+    direction.writer.set_cipher(material.sealing()?);
     direction.whole.reset_bytes();
     direction.cut.reset_bytes();
     if is_strict {
