@@ -42,7 +42,7 @@ pub(crate) fn answer(kind: &str, row: &mut Row<'_>, found: &mut String) -> Resul
     };
     let mut client = config_of(alloc, CLIENT_ID, preferred(row)?, sizes(), none)?;
     let mut server = server_of(row)?;
-    play(&mut client, &mut server, row, found)?;
+    play_row(&mut client, &mut server, row, found)?;
     Ok(true)
 }
 
@@ -50,8 +50,8 @@ pub(crate) fn answer(kind: &str, row: &mut Row<'_>, found: &mut String) -> Resul
 fn server_of(row: &mut Row<'_>) -> Result<Config, Fault> {
     let prefers = preferred(row)?;
     let host = ServerKeys {
-        keys: some(keys(row)?)?,
-        certificates: some(certificates(row)?)?,
+        keys: keys(row)?.ok_or(Fault::Malformed)?,
+        certificates: certificates(row)?.ok_or(Fault::Malformed)?,
     };
     config_of(row.alloc(), SERVER_ID, prefers, sizes(), host)
 }
@@ -66,7 +66,7 @@ fn sizes() -> GexParams {
 }
 
 /// Lets a client and a server speak by the words that are left, once these have set what else they set.
-fn play(
+fn play_row(
     client: &mut Config,
     server: &mut Config,
     row: &mut Row<'_>,
@@ -169,14 +169,6 @@ fn spoken(
     Ok(())
 }
 
-/// What has to be given.
-fn some<T: Drop>(given: Option<T>) -> Result<T, Fault> {
-    match given {
-        Some(given) => Ok(given),
-        None => Err(Fault::Malformed),
-    }
-}
-
 /// The next word as why the exchange begins: `first`, or a later one behind a first that was strict or not, `strict:HASH`
 /// or `plain:HASH`.
 fn cause_of(row: &mut Row<'_>) -> Result<KexCause, Fault> {
@@ -254,8 +246,12 @@ impl Settings {
             return Ok(());
         }
         match name {
-            "client_without" => self.client.without = some(kex::Name::from_str(value))?,
-            "server_without" => self.server.without = some(kex::Name::from_str(value))?,
+            "client_without" => self.client.without = kex::Name::from_str(value).ok_or(
+                Fault::Malformed,
+            )?,
+            "server_without" => self.server.without = kex::Name::from_str(value).ok_or(
+                Fault::Malformed,
+            )?,
             _ => return self.set_number(name, value),
         }
         Ok(())

@@ -16,7 +16,7 @@ use ssh_wire::{Error, Side};
 use std::alloc::Global;
 use vector_rows::Fault;
 
-/// The machine of either side while it runs, and the keys once it is done; neither behind a refusal.
+/// The machine of either side while it runs, and the keys once it is done; neither once it refused a message.
 ///
 /// It stays where it is made, and its calls lend it: a check lists all that it holds anew wherever a function moves it.
 #[derive(Drop)]
@@ -92,7 +92,8 @@ impl<'c> Machine<'c> {
         self.keys.as_ref()
     }
 
-    /// Gives it a message, or none. Inconsistent where it doesn't run.
+    /// Gives it a message, or none. PacketSize for one of 2^31 bytes or more, which the machine isn't given; Inconsistent
+    /// where it doesn't run.
     pub fn step<A: Agreement, H: HostKeys, G: GroupLookup, R: Rng>(
         &mut self,
         parts: &mut Parts<A, H, G, R>,

@@ -29,12 +29,12 @@ pub(crate) fn answer(
     let (own, _) = talk.sides(side);
     let words = drawn_by(alloc, own.packets.as_slice())?;
     let mut parts = parts_of(alloc, side, talk.agreed.as_slice(), words.as_slice())?;
-    set_off(talk, side, &mut parts, found)?;
+    say_connection(talk, side, &mut parts, found)?;
     Ok(true)
 }
 
 /// Appends what a transport of a side with these parts makes of the connection.
-fn set_off(
+fn say_connection(
     talk: &Talk,
     side: Side,
     parts: &mut Given<'_>,
@@ -52,11 +52,11 @@ fn set_off(
         packets,
         agreed.host.as_slice(),
     )?;
-    set_off_under(talk, side, &config, parts, found)
+    say_connection_under(talk, side, &config, parts, found)
 }
 
 /// The same under this configuration.
-fn set_off_under(
+fn say_connection_under(
     talk: &Talk,
     side: Side,
     config: &Config,
@@ -69,13 +69,13 @@ fn set_off_under(
         Side::Server => Transport::server(alloc, config),
     };
     match new {
-        Ok(mut transport) => carry(talk, side, &mut transport, parts, found),
+        Ok(mut transport) => say_outcome(talk, side, &mut transport, parts, found),
         Err(error) => Err(Fault::from(error)),
     }
 }
 
 /// Appends what a new transport makes of the connection.
-fn carry(
+fn say_outcome(
     talk: &Talk,
     side: Side,
     transport: &mut Transport<'_>,

@@ -104,11 +104,11 @@ fn replayed_under(
     found: &mut String,
 ) -> Result<Option<Made>, Fault> {
     let mut machine = Machine::new();
-    begun(talk, side, config, &mut machine, parts, found)
+    replayed_through(talk, side, config, &mut machine, parts, found)
 }
 
 /// What a machine makes that is still to begin.
-fn begun<'c>(
+fn replayed_through<'c>(
     talk: &Talk,
     side: Side,
     config: &'c Config,
@@ -128,11 +128,11 @@ fn begun<'c>(
         &mut parts.rng,
         &mut output,
     )?;
-    finished(talk, side, machine, parts, &mut output, found)
+    made_by(talk, side, machine, parts, &mut output, found)
 }
 
 /// What a machine makes that has sent its KEXINIT.
-fn finished(
+fn made_by(
     talk: &Talk,
     side: Side,
     machine: &mut Machine<'_>,

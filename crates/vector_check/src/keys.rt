@@ -45,43 +45,42 @@ impl Material {
 
     /// A key to seal with, as `pair`.
     pub(crate) fn sealing(&self) -> Result<SealKey, Fault> {
-        let (key, nonce, mac_key) = (
-            self.key.as_slice(),
-            self.nonce.as_slice(),
-            self.mac_key.as_slice(),
-        );
-        if !has_lengths(self.cipher, self.mac, key, nonce, mac_key) {
+        if !self.has_lengths() {
             return Err(Fault::Malformed);
         }
-        Ok(self.cipher.make_sealing_key(key, nonce, mac_key, self.mac))
+        Ok(
+            self.cipher.make_sealing_key(
+                self.key.as_slice(),
+                self.nonce.as_slice(),
+                self.mac_key.as_slice(),
+                self.mac,
+            ),
+        )
     }
 
     /// A key to open with, as `pair`.
     pub(crate) fn opening(&self) -> Result<OpenKey, Fault> {
-        let (key, nonce, mac_key) = (
-            self.key.as_slice(),
-            self.nonce.as_slice(),
-            self.mac_key.as_slice(),
-        );
-        if !has_lengths(self.cipher, self.mac, key, nonce, mac_key) {
+        if !self.has_lengths() {
             return Err(Fault::Malformed);
         }
-        Ok(self.cipher.make_opening_key(key, nonce, mac_key, self.mac))
+        Ok(
+            self.cipher.make_opening_key(
+                self.key.as_slice(),
+                self.nonce.as_slice(),
+                self.mac_key.as_slice(),
+                self.mac,
+            ),
+        )
     }
-}
 
-fn has_lengths(
-    cipher: cipher::Name,
-    mac: mac::Name,
-    key: &[u8],
-    nonce: &[u8],
-    mac_key: &[u8],
-) -> bool
-    ensures { IsTrue result → (length key.now ≡ cipher_key_length cipher)
-        × (length nonce.now ≡ nonce_length cipher)
-        × (length mac_key.now ≡ mac_key_length mac) }
-{
-    key.len() == cipher.key_len()
-        && nonce.len() == cipher.nonce_len()
-        && mac_key.len() == mac.key_len()
+    /// Whether each key has the length of its name.
+    fn has_lengths(&self) -> bool
+        ensures { IsTrue result → (length self.now.key.items ≡ cipher_key_length self.now.cipher)
+            × (length self.now.nonce.items ≡ nonce_length self.now.cipher)
+            × (length self.now.mac_key.items ≡ mac_key_length self.now.mac) }
+    {
+        self.key.len() == self.cipher.key_len()
+            && self.nonce.len() == self.cipher.nonce_len()
+            && self.mac_key.len() == self.mac.key_len()
+    }
 }

@@ -142,7 +142,7 @@ fn seal(row: &mut Row<'_>, found: &mut String) -> Result<(), Fault> {
     let mut sealed = Vec::new(row.alloc());
     for call in 0..4 {
         let rng = Words::of(words.as_slice());
-        seal_by(
+        say_sealed(
             call,
             writer_at(row.alloc(), &material, number)?,
             rng,
@@ -169,7 +169,7 @@ fn writer_at(alloc: Global, material: &Material, number: u32) -> Result<PacketWr
 
 /// Writes a payload by one of the four calls. Appends the packet of the first, and how many words weren't drawn; of another
 /// what it wrote, where that is other than the first.
-fn seal_by(
+fn say_sealed(
     call: usize,
     mut writer: PacketWriter,
     mut rng: Words<'_>,
