@@ -1,9 +1,11 @@
 #!/usr/bin/env bash
 # Usage: bench/vectors.sh [FILE..]
 # Compares the rows of the files (each *.txt at or below vectors/ if none is given) with what the crates' public calls
-# answer, and prints each row that differs and how many passed and failed. Files of vectors/exchange/ are read by the
-# program crates/exchange_check, vectors/machines/steps.txt by crates/machine_check, vectors/machines/transport.txt by
-# crates/transport_check, those of vectors/peers/ by crates/replay_check and by crates/vector_check, all others by the latter.
+# answer, and prints each row that differs and how many passed and failed. Then each file is read again with all wanted
+# answers spoiled, of which none may pass: no contract says what these programs answer, so this shows that they compare.
+# Files of vectors/exchange/ are read by the program crates/exchange_check, vectors/machines/steps.txt by
+# crates/machine_check, vectors/machines/transport.txt by crates/transport_check, those of vectors/peers/ by
+# crates/replay_check and by crates/vector_check, all others by the latter.
 # Where a program is missing, or older than its sources, it is proved and built first.
 set -u
 top=$(cd "$(dirname "${BASH_SOURCE[0]}")/.." && pwd)
@@ -33,6 +35,14 @@ read_by() {
     echo "$2: no answer of $1"
   fi
   [ "$written" = "${written##*$'\n'}" ] || { echo "$2"; echo "${written%$'\n'*}"; }
+  # replay_check learns from the rows of what stood on a wire, and answers the two others
+  local rows='^[a-z]'
+  [ "$1" != replay_check ] || rows='^(agreed|carried) '
+  written=$(sed -E "/$rows/s/ = /&spoiled /" "$2" | "$top/crates/$1/out/$1")
+  if [[ ! ${written##*$'\n'} =~ ^0\ passed,\ [1-9] ]]; then
+    failed=$((failed + 1))
+    echo "$2: rows pass in $1 with spoiled answers: ${written##*$'\n'}"
+  fi
 }
 
 for program in vector_check exchange_check machine_check transport_check replay_check; do
