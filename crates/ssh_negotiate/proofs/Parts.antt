@@ -221,17 +221,17 @@ unfolding ◌>>=◌
 no_choice_of m then' error (inl memory) = inl memory
 no_choice_of m then' error (inr h) = inr (h.0, ap (λ x. x >>= then') h.1, h.2)
 
-pub no_choice : (side : Side) (p : Preferences) (kex : List kexes.Name) (hosts : List HostName) (still : Bool) (bytes : List ℕ) (list : List (List ℕ)) (rest : List ℕ) (error : Error) → names_at bytes ≡ Ok (list, rest) → RefusesReading (select kex_text side Kex (without_extensions kex) list) error → RefusesReading (read_fields side (with_lists p kex hosts) still bytes) error
-unfolding read_fields compared_kex
-no_choice side p kex hosts still bytes list rest error e h = refused_too _ _ error (field_found (names_at bytes) _ list rest e) (no_choice_of (select kex_text side Kex (without_extensions kex) list) _ error h)
+pub no_choice : (side : Side) (p : Preferences) (kex : List kexes.Name) (hosts : List HostName) (still : Bool) (bytes : List ℕ) (list : List (List ℕ)) (rest : List ℕ) (error : Error) → names_at bytes ≡ Ok (list, rest) → RefusesReading (select kex_text side Kex (without_extensions kex) (compared_kex list)) error → RefusesReading (read_fields side (with_lists p kex hosts) still bytes) error
+unfolding read_fields
+no_choice side p kex hosts still bytes list rest error e h = refused_too _ _ error (field_found (names_at bytes) _ list rest e) (no_choice_of (select kex_text side Kex (without_extensions kex) (compared_kex list)) _ error h)
 
 chosen_first : {A B : Type 0} (m : Result A KexinitFault) (then' : A → Result B KexinitFault) (a : A) → m ≡ Ok a → (m >>= then') ≡ then' a
 unfolding ◌>>=◌
 chosen_first m then' a e = ap (λ x. x >>= then') e
 
-pub fields_read : (side : Side) (p : Preferences) (kex : List kexes.Name) (hosts : List HostName) (still : Bool) (bytes : List ℕ) (list : List (List ℕ)) (rest : List ℕ) (choice : Bool × kexes.Name) → names_at bytes ≡ Ok (list, rest) → select kex_text side Kex (without_extensions kex) list ≡ Ok choice → read_fields side (with_lists p kex hosts) still bytes ≡ hosts_part side p hosts choice (still || both_strict side (with_lists p kex hosts) list) rest
-unfolding read_fields compared_kex
-fields_read side p kex hosts still bytes list rest choice e f = field_found (names_at bytes) _ list rest e ∙ chosen_first (select kex_text side Kex (without_extensions kex) list) _ choice f
+pub fields_read : (side : Side) (p : Preferences) (kex : List kexes.Name) (hosts : List HostName) (still : Bool) (bytes : List ℕ) (list : List (List ℕ)) (rest : List ℕ) (choice : Bool × kexes.Name) → names_at bytes ≡ Ok (list, rest) → select kex_text side Kex (without_extensions kex) (compared_kex list) ≡ Ok choice → read_fields side (with_lists p kex hosts) still bytes ≡ hosts_part side p hosts choice (still || both_strict side (with_lists p kex hosts) list) rest
+unfolding read_fields
+fields_read side p kex hosts still bytes list rest choice e f = field_found (names_at bytes) _ list rest e ∙ chosen_first (select kex_text side Kex (without_extensions kex) (compared_kex list)) _ choice f
 
 pub front_short : (side : Side) (own : Offers) (still : Bool) (payload : List ℕ) → length payload < 17 → RefusesReading (names_read side own still payload) errors.Inconsistent
 unfolding names_read

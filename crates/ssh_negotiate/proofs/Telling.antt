@@ -1,8 +1,7 @@
 -- How long a list is, name by name.
 use Rattle.std.proofs.Common.{◌≡◌, ℕ, ◌+◌, ◌<◌, ◌≤◌, List, [], ◌∷◌, ◌++◌, length, map, take, get_or, Bool, true, false, if◌then◌else◌, IsTrue, ◌↔◌, refl, sym, ap, subst, ◌∙◌, arith, append_assoc, append-nil}
-use Rattle.std.specs.Prelude.{min, filter, not, ◌&&◌, Option, Some, None}
-use Rattle.std.specs.List.{list_any, flat_map}
-use Rattle.std.specs.Str.{bytes_eq}
+use Rattle.std.specs.Prelude.{min, filter, not, ◌&&◌, Some, None}
+use Rattle.std.specs.List.{flat_map}
 use Rattle.std.proofs.lemmas.List.{length-append, take_more, take_all, map-append}
 use Rattle.std.proofs.lemmas.List.Elements.{filter-append}
 use Rattle.std.proofs.lemmas.Grind.{flat_map-append}
@@ -11,6 +10,7 @@ use Rattle.ssh_packet.specs.declared.cipher.Name as ciphers
 use Rattle.ssh_packet.specs.declared.compression.Name as compressions
 use Rattle.ssh_wire.specs.Algorithms.{algorithm_name, certificate_name}
 use Rattle.ssh_wire.specs.Forms.{joined_names}
+use Rattle.ssh_wire.specs.Names.{name_limit}
 use Rattle.ssh_wire.specs.declared.algorithm.Algorithm.{Algorithm}
 use Rattle.ssh_wire.specs.declared.side.Side.TheVariants.{Client, Server}
 use Rattle.ssh_negotiate.specs.Advertised.{Offers, certificate_names, cipher_text, compression_text, each_once, fits, has_key, host_text, is_foreign, mac_text, offers_with, some_fits}
@@ -39,16 +39,16 @@ length_more texts t = length-append texts (t ∷ [])
 stops : (n m k most : ℕ) → n ≡ min m most → min (n + k) most ≡ min (m + k) most
 stops n m k most e = omega arith
 
-one_more : (old : ℕ) (s n : ℕ) → old < 18446744073709551616 → s ≡ min (old + 1) 18446744073709551615 → n ≡ min s 1026 → n ≡ min (old + 1) 1026
+one_more : (old : ℕ) (s n : ℕ) → old < 18446744073709551616 → s ≡ min (old + 1) 18446744073709551615 → n ≡ min s (name_limit + 1) → n ≡ min (old + 1) (name_limit + 1)
 one_more old s n f e g = omega arith
 
 name_more : (old l s t n : ℕ) → s ≡ min (old + l) 18446744073709551615 → t ≡ min (s + 1) 18446744073709551615 → n ≡ min t 16386 → n ≡ min (old + (l + 1)) 16386
 name_more old l s t n e f g = omega arith
 
-pub told_more : (old new : Told) (name : List ℕ) (s t u : ℕ) → old.names < 18446744073709551616 → s ≡ min (old.names + 1) 18446744073709551615 → new.names ≡ min s 1026 → t ≡ min (old.bytes + length name) 18446744073709551615 → u ≡ min (t + 1) 18446744073709551615 → new.bytes ≡ min u 16386
+pub told_more : (old new : Told) (name : List ℕ) (s t u : ℕ) → old.names < 18446744073709551616 → s ≡ min (old.names + 1) 18446744073709551615 → new.names ≡ min s (name_limit + 1) → t ≡ min (old.bytes + length name) 18446744073709551615 → u ≡ min (t + 1) 18446744073709551615 → new.bytes ≡ min u 16386
     → (texts : List (List ℕ)) → Tells old texts → Tells new (texts ++ name ∷ [])
 told_more old new name s t u f es en et eu eb texts h = record {
-  names = one_more old.names s new.names f es en ∙ (stops old.names (length texts) 1 1026 h.names ∙ sym (ap (λ n. min n 1026) (length_more texts name)));
+  names = one_more old.names s new.names f es en ∙ (stops old.names (length texts) 1 (name_limit + 1) h.names ∙ sym (ap (λ n. min n (name_limit + 1)) (length_more texts name)));
   bytes = name_more old.bytes (length name) t u new.bytes et eu eb ∙ (stops old.bytes (bytes_with_commas texts) (length name + 1) 16386 h.bytes ∙ sym (ap (λ n. min n 16386) (bytes_more texts name)));
 }
 
@@ -143,14 +143,14 @@ whole n m most e h = omega arith
 stopped : (n m most : ℕ) → n ≡ min m (most + 1) → m ≤ most → n ≤ most
 stopped n m most e h = omega arith
 
-pub told_listed : (told : Told) (texts : List (List ℕ)) → told.names ≤ 1025 → Tells told texts → (told.bytes ≤ 16385 → IsListed texts) × (IsListed texts → told.bytes ≤ 16385)
+pub told_listed : (told : Told) (texts : List (List ℕ)) → told.names ≤ name_limit → Tells told texts → (told.bytes ≤ 16385 → IsListed texts) × (IsListed texts → told.bytes ≤ 16385)
 told_listed told texts h t = (
-  λ few. record { count = whole told.names (length texts) 1025 t.names h; size = (joined_within texts).0 (whole told.bytes (bytes_with_commas texts) 16385 t.bytes few) },
+  λ few. record { count = whole told.names (length texts) name_limit t.names h; size = (joined_within texts).0 (whole told.bytes (bytes_with_commas texts) 16385 t.bytes few) },
   λ listed. stopped told.bytes (bytes_with_commas texts) 16385 t.bytes ((joined_within texts).1 listed.size),
 )
 
-pub untold : (told : Told) (texts : List (List ℕ)) → 1025 < told.names → Tells told texts → IsListed texts → ⊥
-untold told texts h t listed = omega (arith, stopped told.names (length texts) 1025 t.names listed.count)
+pub untold : (told : Told) (texts : List (List ℕ)) → name_limit < told.names → Tells told texts → IsListed texts → ⊥
+untold told texts h t listed = omega (arith, stopped told.names (length texts) name_limit t.names listed.count)
 
 -- ---- the lists of host keys
 

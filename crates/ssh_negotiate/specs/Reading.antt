@@ -1,5 +1,5 @@
 -- How a side reads the other's KEXINIT: field by field, the first refusal deciding (RFC 4253 section 7.1).
-use Rattle.std.specs.Prelude.{◌≡◌, ℕ, Bool, false, not, ◌&&◌, ◌||◌, ◌==◌, nat_lt, if◌then◌else◌, List, [], ◌∷◌, length, drop, map, find, Option, Some, None, Result, Ok, Err, ◌⊎◌}
+use Rattle.std.specs.Prelude.{◌≡◌, ℕ, Bool, false, not, ◌&&◌, ◌||◌, ◌==◌, nat_lt, if◌then◌else◌, List, [], ◌∷◌, length, drop, map, filter, find, Option, Some, None, Result, Ok, Err, ◌⊎◌}
 use Rattle.std.specs.List.{list_any}
 use Rattle.std.specs.Str.{bytes_eq}
 use denote.Ref.{Bor}
@@ -21,7 +21,7 @@ use Rattle.ssh_negotiate.specs.Preferences.{Preferences, Hosts}
 use Rattle.rand_core.specs.Stream.{Stream, fill_bytes}
 use Rattle.ssh_negotiate.specs.Advertised.{Offers, offers, kexinit, host_text, cipher_text, mac_text, compression_text}
 use Rattle.ssh_negotiate.specs.Chosen.{◌>>=◌, or_err, without_extensions, asks, mac_under, names_with}
-use Rattle.ssh_negotiate.specs.Tables.{kex_text}
+use Rattle.ssh_negotiate.specs.Tables.{kex_text, extension_names}
 use Rattle.ssh_negotiate.specs.declared.kex.Name as kexes
 use Rattle.ssh_negotiate.specs.declared.kex.Name.TheVariants.{StrictC, StrictS}
 use Rattle.ssh_negotiate.specs.declared.negotiation.Names.{Names}
@@ -56,9 +56,12 @@ unfoldable pub select : {A : Type 0} → (A → List ℕ) → Side → Algorithm
 select text side kind own peer =
     or_err (NoCommon kind (map text own) peer) (common text side own peer) >>= λ a. Ok (same_first (map text own) peer, a)
 
--- what of the peer's list of key exchanges is compared. Its extension names stay in it
+abbrev pub is_extension_text : List ℕ → Bool
+is_extension_text text = list_any (λ n. bytes_eq text (kex_text n)) extension_names
+
+-- what of the peer's list of key exchanges is compared: all but the extension names
 unfoldable pub compared_kex : List (List ℕ) → List (List ℕ)
-compared_kex texts = texts
+compared_kex texts = filter (λ t. not (is_extension_text t)) texts
 
 -- a choice of MACs under a cipher
 abbrev pub select_mac : Side → ciphers.Name → List macs.Name → List (List ℕ) → Result macs.Name KexinitFault

@@ -3,6 +3,7 @@ use Rattle.std.specs.Prelude.{◌≡◌, ℕ, ◌+◌, min, Bool, List, [], ◌�
 use Rattle.std.specs.List.{list_any}
 use Rattle.std.specs.Str.{bytes_eq}
 use Rattle.ssh_wire.specs.Algorithms.{algorithm_name}
+use Rattle.ssh_wire.specs.Names.{name_limit}
 use Rattle.ssh_wire.specs.declared.algorithm.Algorithm.{Algorithm}
 use Rattle.ssh_wire.specs.declared.algorithm.Algorithm.TheVariants.{Ed25519, Ecdsa, Rsa}
 use Rattle.ssh_wire.specs.declared.algorithm.EcdsaCurve.TheVariants.{NistP256, NistP384, NistP521}
@@ -17,7 +18,7 @@ bytes_with_commas (text ∷ texts) = (length text + 1) + bytes_with_commas texts
 
 -- so many of these texts are told, up to one more than may be advertised
 pub record Tells (told : Told) (texts : List (List ℕ)) : Type 0 where
-  pub names : told.names ≡ min (length texts) 1026
+  pub names : told.names ≡ min (length texts) (name_limit + 1)
   pub bytes : told.bytes ≡ min (bytes_with_commas texts) 16386
 
 -- whether an algorithm is marked

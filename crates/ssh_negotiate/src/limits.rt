@@ -14,7 +14,7 @@ use crate::preferred::{Preferred, ServerKeys};
 use crate::told::Told;
 use ssh_wire::{Algorithm, Side};
 
-/// Whether each list that a side advertises has at most 1025 names and 16384 bytes, as `write_kex` wants it. It is a
+/// Whether each list that a side advertises has at most 1024 names and 16384 bytes, as `write_kex` wants it. It is a
 /// server's where the keys are given. It takes no memory.
 pub fn can_be_advertised(prefs: &Preferred, server_config: Option<&ServerKeys>) -> bool
     ensures exact { IsTrue result ↔ IsWithin (offered_by prefs.now (option_copied server_config.entry)) }

@@ -9,7 +9,7 @@ ghost use Rattle.ssh_wire.specs.declared.error.AlgorithmKind.TheVariants.{Kex};
 ghost use Rattle.ssh_negotiate.specs.Advertised.{is_foreign, mac_text, offers_with};
 ghost use Rattle.ssh_negotiate.specs.Chosen.{algorithm_of, asks, is_certificate, mac_under, names_with, without_extensions};
 ghost use Rattle.ssh_negotiate.specs.Parts.{GivesFront, ciphers_part, compressions_part, with_guess, hosts_part, macs_part, front_taken, with_lists, with_rest};
-ghost use Rattle.ssh_negotiate.specs.Reading.{AnswersReading, IsRefusal, slice_list, names_read, read_fields, read_rest, select, select_mac, strict_name};
+ghost use Rattle.ssh_negotiate.specs.Reading.{AnswersReading, IsRefusal, compared_kex, is_extension_text, slice_list, names_read, read_fields, read_rest, select, select_mac, strict_name};
 ghost use Rattle.ssh_negotiate.specs.Tables.{kex_text};
 
 use crate::kex;
@@ -70,17 +70,40 @@ fn names_of_fields(
     names_behind_kex(alloc, side, pref, hosts, kex, strict, &mut reader)
 }
 
-/// A choice of key exchanges.
+/// A choice of key exchanges, extension names aside.
 fn kex_of(
     alloc: Global,
     side: Side,
     kex: &[kex::Name],
     peer: NameList,
 ) -> Result<(bool, kex::Name), Error>
-    ensures { AnswersReading (select kex_text side Kex (without_extensions (filter (λ n. not (is_foreign side n)) kex.now)) peer.0.items) result }
+    ensures { AnswersReading (select kex_text side Kex (without_extensions (filter (λ n. not (is_foreign side n)) kex.now)) (compared_kex peer.0.items)) result }
 {
     let own = comparable_kex(alloc, side, kex)?;
-    choice_with(alloc, side, AlgorithmKind::Kex, own.as_slice(), peer)
+    choice_with(
+        alloc,
+        side,
+        AlgorithmKind::Kex,
+        own.as_slice(),
+        compared_kex(peer),
+    )
+}
+
+/// The peer's key exchanges that are compared: all but the extension names.
+#[tactic(auto, unfolding(crate::specs::Reading::compared_kex))]
+fn compared_kex(peer: NameList) -> NameList
+    ensures { result.0.items ≡ compared_kex peer.0.items }
+{
+    let NameList(mut names) = peer;
+    names.retain(|name| !is_extension_text(name.as_str()));
+    NameList(names)
+}
+
+/// Whether a text is an extension name.
+fn is_extension_text(text: &str) -> bool
+    ensures { result ≡ is_extension_text text.now }
+{
+    holds(&kex::EXTENSION_NAMES, text)
 }
 
 /// Whether the exchange is strict: the first one was, or both sides ask for it.

@@ -18,7 +18,7 @@ use crate::preferred::{HostCertificate, HostKey, is_fitting, some_key_fits};
 use ssh_wire::{Algorithm, EcdsaCurve, HashAlg, Side};
 
 /// How many names a list may have.
-const NAME_LIMIT: usize = 1025;
+const NAME_LIMIT: usize = 1024;
 
 /// How many bytes a list may have as text.
 const NAME_LIST_LIMIT: usize = 16384;

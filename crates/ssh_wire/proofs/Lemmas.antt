@@ -7,3 +7,4 @@ pub use Rattle.ssh_wire.proofs.Magnitudes.{magnitude_front, magnitude_length, ma
 pub use Rattle.ssh_wire.proofs.NameLaws.{joined_read, joined_utf8, names_again, read_spelled}
 pub use Rattle.ssh_wire.proofs.Numbers.{equal_mpints, mpint_number, one_mpint}
 pub use Rattle.ssh_wire.proofs.Utf8.{is_utf8-by_reading}
+pub use Rattle.ssh_wire.proofs.Weights.{fits_room}

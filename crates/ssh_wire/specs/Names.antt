@@ -7,7 +7,7 @@ use Rattle.ssh_wire.specs.declared.error.EncodingFault.TheVariants.{Length, Char
 
 -- how many names a list may have
 abbrev pub name_limit : ℕ
-name_limit = 1025
+name_limit = 1024
 
 -- how many bytes a list may have as text
 abbrev pub name_list_limit : ℕ
@@ -79,8 +79,8 @@ comma-example = refl
 wide-example : names_of (97 ∷ 44 ∷ 0xc3 ∷ 0xa9 ∷ []) ≡ Err CharacterEncoding
 wide-example = refl
 
-limit-example : fault_of 1024 (codes "a") ≡ None
+limit-example : fault_of 1023 (codes "a") ≡ None
 limit-example = refl
 
-past-example : fault_of 1025 (codes "a") ≡ Some Length
+past-example : fault_of 1024 (codes "a") ≡ Some Length
 past-example = refl

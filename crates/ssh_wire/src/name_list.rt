@@ -17,7 +17,7 @@ use crate::reader::Reader;
 use std::alloc::Global;
 
 /// How many names a list may have.
-const NAME_LIMIT: usize = 1025;
+const NAME_LIMIT: usize = 1024;
 
 /// How many bytes a list may have as text.
 const NAME_LIST_LIMIT: usize = 16384;
@@ -29,7 +29,7 @@ pub struct NameList(pub Vec<Text>);
 impl NameList {
     /// The names of a text that is cut at its commas. The empty text is no names, and one comma at the end
     /// is dropped where something stands before it. The first faulty name decides:
-    /// SshEncoding(CharacterEncoding) where it is empty or not ASCII, SshEncoding(Length) where 1025 names
+    /// SshEncoding(CharacterEncoding) where it is empty or not ASCII, SshEncoding(Length) where 1024 names
     /// stand before it. Memory.
     pub fn from_encoded_string(alloc: Global, value: &str) -> Result<NameList, Error>
         ensures exact { Gives (λ l. l.0.items) (names_of value.now) result }

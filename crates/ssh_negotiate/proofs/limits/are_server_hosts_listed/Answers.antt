@@ -1,4 +1,4 @@
-use Rattle.std.proofs.Common.{◌≡◌, map, ◌++◌, rules}
+use Rattle.std.proofs.Common.{map, ◌++◌, rules}
 use Rattle.std.specs.Prelude.{filter}
 use Rattle.ssh_wire.specs.Algorithms.{algorithm_name, certificate_name}
 use Rattle.ssh_negotiate.specs.Advertised.{certificate_names, some_fits}

@@ -1,4 +1,4 @@
-use Rattle.std.proofs.Common.{◌↔◌, IsTrue, subst, sym, ap, rules}
+use Rattle.std.proofs.Common.{◌↔◌, IsTrue, subst, sym, rules}
 use Rattle.std.specs.Option.{option_copied}
 use Rattle.ssh_negotiate.specs.Laws.{IsWithin}
 use Rattle.ssh_negotiate.specs.Reading.{offered_by}

@@ -6,4 +6,8 @@ use Rattle.ssh_negotiate.proofs.Parts.{given}
 use Rattle.ssh_negotiate.proofs.read.kex_of.Goals as goal
 
 pub returns : goal.returns
-returns c = given _ _ c.choice_with.result (ap (λ own. select kex_text c.args.side Kex own c.args.peer.0.items) (c.as_slice.ensures.value ∙ c.in_ok-own.ensures)) c.choice_with.ensures
+returns c =
+    given _ _ c.choice_with.result
+    (ap (λ own. select kex_text c.args.side Kex own c.compared_kex.result.0.items) (c.as_slice.ensures.value ∙ c.in_ok-own.ensures)
+    ∙ ap (select kex_text c.args.side Kex _) c.compared_kex.ensures)
+    c.choice_with.ensures

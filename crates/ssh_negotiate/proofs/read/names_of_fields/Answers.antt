@@ -6,7 +6,7 @@ use Rattle.ssh_wire.specs.declared.error.AlgorithmKind.TheVariants.{Kex}
 use Rattle.ssh_negotiate.specs.Advertised.{is_foreign}
 use Rattle.ssh_negotiate.specs.Chosen.{without_extensions}
 use Rattle.ssh_negotiate.specs.Parts.{RefusesReading, hosts_part, with_lists}
-use Rattle.ssh_negotiate.specs.Reading.{both_strict, read_fields, select}
+use Rattle.ssh_negotiate.specs.Reading.{both_strict, compared_kex, read_fields, select}
 use Rattle.ssh_negotiate.specs.Tables.{kex_text}
 use Rattle.ssh_negotiate.specs.declared.kex.Name as kexes
 use Rattle.ssh_negotiate.proofs.Parts.{gives_err, given, no_list, no_choice, fields_read}
@@ -28,7 +28,7 @@ returns-in_err-kex c =
     gives_err (read_fields c.args.side (with_lists c.args.pref.now kex c.args.hosts.now) c.args.still_strict c.args.bytes.now) c.from_residual-in_err-kex.result p.0 c.in_err-kex.field-0.0 p.1 p.2
     (no_choice c.args.side c.args.pref.now kex c.args.hosts.now c.args.still_strict c.args.bytes.now c.in_ok-peer.peer.0.items c.decode.new.r c.in_err-kex.field-0.0
     (ap names_at (sym c.new-reader.ensures) ∙ c.in_ok-peer.ensures.exact)
-    (subst (λ (l : List kexes.Name). RefusesReading (select kex_text c.args.side Kex (without_extensions (filter (λ n. not (is_foreign c.args.side n)) l)) c.in_ok-peer.peer.0.items) c.in_err-kex.field-0.0) own c.in_err-kex.ensures))
+    (subst (λ (l : List kexes.Name). RefusesReading (select kex_text c.args.side Kex (without_extensions (filter (λ n. not (is_foreign c.args.side n)) l)) (compared_kex c.in_ok-peer.peer.0.items)) c.in_err-kex.field-0.0) own c.in_err-kex.ensures))
 
 pub returns : goal.returns
 returns c =
@@ -38,7 +38,7 @@ returns c =
     given _ _ c.names_behind_kex.result
     (sym (fields_read c.args.side c.args.pref.now kex c.args.hosts.now c.args.still_strict c.args.bytes.now c.in_ok-peer.peer.0.items c.decode.new.r c.in_ok-kex.kex
     (ap names_at (sym c.new-reader.ensures) ∙ c.in_ok-peer.ensures.exact)
-    (subst (λ (l : List kexes.Name). select kex_text c.args.side Kex (without_extensions (filter (λ n. not (is_foreign c.args.side n)) l)) c.in_ok-peer.peer.0.items ≡ Ok c.in_ok-kex.kex) own c.in_ok-kex.ensures)
+    (subst (λ (l : List kexes.Name). select kex_text c.args.side Kex (without_extensions (filter (λ n. not (is_foreign c.args.side n)) l)) (compared_kex c.in_ok-peer.peer.0.items) ≡ Ok c.in_ok-kex.kex) own c.in_ok-kex.ensures)
     ∙ ap (λ (b : Bool). hosts_part c.args.side c.args.pref.now c.args.hosts.now c.in_ok-kex.kex b c.decode.new.r)
     (sym (c.is_strict-strict.ensures
     ∙ (ap (λ (l : List kexes.Name). c.args.still_strict || both_strict c.args.side (with_lists c.args.pref.now (filter (λ n. not (is_foreign c.args.side n)) l) c.args.hosts.now) c.as_slice-2.result.now) first

@@ -1,4 +1,4 @@
-use Rattle.std.proofs.Common.{map, sym, ap, ◌∙◌}
+use Rattle.std.proofs.Common.{map, ap, ◌∙◌}
 use Rattle.ssh_negotiate.proofs.Telling.{all_told, turn_kept}
 use Rattle.ssh_negotiate.proofs.told.Told.add_all.Goals as goal
 

@@ -1,4 +1,4 @@
-use Rattle.std.proofs.Common.{◌≡◌, ◌++◌, ℕ, List, map, take}
+use Rattle.std.proofs.Common.{◌++◌, ℕ, List, map, take}
 use Rattle.ssh_wire.specs.Algorithms.{certificate_name}
 use Rattle.ssh_negotiate.specs.Told.{Tells}
 use Rattle.ssh_negotiate.proofs.told.Told.add_certificates.Given as goal

@@ -1,4 +1,4 @@
-use Rattle.std.proofs.Common.{◌≡◌, ◌++◌, ℕ, List, map, filter, take}
+use Rattle.std.proofs.Common.{◌++◌, ℕ, List, map, filter, take}
 use Rattle.ssh_wire.specs.Algorithms.{algorithm_name}
 use Rattle.ssh_negotiate.specs.Advertised.{some_fits}
 use Rattle.ssh_negotiate.specs.Told.{Tells}

@@ -1,4 +1,4 @@
-use Rattle.std.proofs.Common.{◌≡◌, ◌++◌, [], ℕ, List, map, filter, take}
+use Rattle.std.proofs.Common.{[], map, filter, take}
 use Rattle.std.specs.List.{flat_map}
 use Rattle.ssh_wire.specs.Algorithms.{certificate_name}
 use Rattle.ssh_negotiate.specs.Advertised.{each_once, fits, has_key}

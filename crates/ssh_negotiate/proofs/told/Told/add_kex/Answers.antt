@@ -1,4 +1,4 @@
-use Rattle.std.proofs.Common.{map, subst, sym, ap, ◌∙◌}
+use Rattle.std.proofs.Common.{map, subst, sym, ap}
 use Rattle.std.specs.Prelude.{filter, not}
 use Rattle.ssh_negotiate.specs.Advertised.{is_foreign}
 use Rattle.ssh_negotiate.specs.Tables.{kex_text}

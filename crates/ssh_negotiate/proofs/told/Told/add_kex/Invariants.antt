@@ -1,4 +1,4 @@
-use Rattle.std.proofs.Common.{◌≡◌, ◌++◌, ℕ, List, map, filter, not, take}
+use Rattle.std.proofs.Common.{◌++◌, ℕ, List, map, filter, not, take}
 use Rattle.ssh_negotiate.specs.Advertised.{is_foreign}
 use Rattle.ssh_negotiate.specs.Tables.{kex_text}
 use Rattle.ssh_negotiate.specs.Told.{Tells}

@@ -1,6 +1,6 @@
-use Rattle.std.proofs.Common.{subst, sym, ◌++◌, ◌∙◌, take}
+use Rattle.std.proofs.Common.{◌++◌, take}
 use Rattle.std.specs.Prelude.{filter}
-use Rattle.ssh_negotiate.specs.Advertised.{each_once, fits}
+use Rattle.ssh_negotiate.specs.Advertised.{fits}
 use Rattle.ssh_negotiate.proofs.Telling.{TellsOnce, once_all, once_further, once_known, once_left, once_same, once_taken}
 use Rattle.ssh_negotiate.proofs.told.Told.add_new.Goals as goal
 use Rattle.ssh_negotiate.proofs.told.Told.add_new.Goals.{then-is_fitting+then-not-has, else-is_fitting, else-is_fitting-via-then-is_fitting+else-not-has, else-is_fitting-via-else-is_fitting}
