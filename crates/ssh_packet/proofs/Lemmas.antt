@@ -1,5 +1,6 @@
 -- What proofs above cite.
 pub use Rattle.ssh_packet.proofs.Fronts.{front_whole, front_stays_whole, front_stays_refused, opens_again, states_agree}
+pub use Rattle.ssh_packet.proofs.Lent.{never_memory}
 pub use Rattle.ssh_packet.proofs.Padding.{padding_fills}
 pub use Rattle.ssh_packet.proofs.Shapes.{one_packet, cut_alike, u32_injective, length_framed, length_sealed}
 pub use Rattle.ssh_packet.proofs.Sound.{front_sound, moved_sound}

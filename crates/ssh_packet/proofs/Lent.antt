@@ -1,8 +1,9 @@
 -- The part of a reader's buffer that is lent, as part of what waited, and what a refusal leaves.
-use Rattle.std.proofs.Common.{◌≡◌, inl, inr, refl, subst, true, false, ℕ, ◌+◌, ◌-◌, ◌≤◌, List, ◌++◌, length, take, drop, sym, ◌∙◌, ap, arith, length-append, length-drop}
+use Rattle.std.proofs.Common.{◌≡◌, [], inl, inr, refl, subst, true, false, ℕ, ◌+◌, ◌-◌, ◌≤◌, List, ◌++◌, length, take, drop, sym, ◌∙◌, ap, arith, length-append, length-drop}
 use Rattle.std.proofs.lemmas.Grind.{common_steps}
 use Rattle.std.proofs.lemmas.List.{drop-drop}
-use Rattle.ssh_packet.specs.Errors.{open_error}
+use Rattle.ssh_packet.specs.Errors.{error_of, open_error}
+use Rattle.ssh_wire.specs.declared.error.Error.TheVariants as causes
 use Rattle.ssh_packet.specs.Finding.{RefusesBy, LeavesFront, OpensPart}
 use Rattle.ssh_packet.specs.Front.{Fault, PacketSize, PacketAuth, DecryptionError, IndexOutOfBounds, Whole, Refused, front_of, is_bad_length, key_behind}
 use Rattle.ssh_packet.specs.Reading.{Reader, RefusesNext, IsOver, EndsAt}
@@ -16,6 +17,10 @@ part_is now items start payload same =
     let size : start + 5 + payload - (start + 5) ≡ payload = omega arith in
     ap (λ b. take (start + 5 + payload - (start + 5)) (drop (start + 5) b)) same
     ∙ (ap (λ n. take n (drop (start + 5) items)) size ∙ ap (take payload) (sym (drop-drop 5 start items)))
+
+-- the part that is kept in mind
+pub handed_is : (items : List ℕ) (start payload : ℕ) → take payload (drop (start + 5) items) ≡ take payload (drop 5 (drop start items))
+handed_is items start payload = ap (take payload) (sym (drop-drop 5 start items))
 
 pub length_part : (items : List ℕ) (start payload : ℕ) → start + 5 + payload ≤ length items → length (take payload (drop 5 (drop start items))) ≡ payload
 length_part items start payload h =
@@ -50,7 +55,7 @@ both_ways key n m e bad good =
     let same : m ≡ n = cc in
     let h : true ≡ false = sym bad ∙ (ap (is_bad_length key) same ∙ good) in cc
 
-ended_by : (old new : Reader) (key key' : Sealing) (fault : Fault) → IsOver old new → (new.waiting ≡ old.waiting → new ≡ record old { failed = true }) → LeavesFront key old.waiting new.waiting (open_error fault) key' → EndsAt old key key' (open_error fault) new
+ended_by : (old new : Reader) (key key' : Sealing) (fault : Fault) → IsOver old new → (new.waiting ≡ old.waiting → new ≡ record old { failed = true; handed = [] }) → LeavesFront key old.waiting new.waiting (open_error fault) key' → EndsAt old key key' (open_error fault) new
 ended_by old new key key' (PacketSize n) over same (inl (bad, waiting, kept)) = (over, λ h. (same waiting, kept), λ good. absurd (both_ways key n bad.0 bad.1 bad.2 good))
 ended_by old new key key' (PacketSize n) over same (inr (good, left)) = (over, λ bad. absurd (let h : true ≡ false = sym bad ∙ good n refl in cc), λ h. left)
 ended_by old new key key' PacketAuth over same (inl (bad, waiting, kept)) = absurd (let h : errors.PacketAuth ≡ errors.PacketSize bad.0 = bad.1 in cc)
@@ -61,9 +66,17 @@ ended_by old new key key' IndexOutOfBounds over same (inl (bad, waiting, kept)) 
 ended_by old new key key' IndexOutOfBounds over same (inr (good, left)) = (over, left)
 
 -- what is refused at the front is the end of the reader
-pub ends_at : (old new : Reader) (key key' : Sealing) (error : OpenError) → old.failed ≡ false → RefusesBy (front_of key old.number old.waiting) error → IsOver old new → (new.waiting ≡ old.waiting → new ≡ record old { failed = true }) → LeavesFront key old.waiting new.waiting error key' → RefusesNext old key error × EndsAt old key key' error new
+pub ends_at : (old new : Reader) (key key' : Sealing) (error : OpenError) → old.failed ≡ false → RefusesBy (front_of key old.number old.waiting) error → IsOver old new → (new.waiting ≡ old.waiting → new ≡ record old { failed = true; handed = [] }) → LeavesFront key old.waiting new.waiting error key' → RefusesNext old key error × EndsAt old key key' error new
 ends_at old new key key' error live refused over kept left =
     let same = refused.1 in (
       subst (RefusesNext old key) (sym same) (refused_by old key refused.0 live refused.2),
       subst (λ e. EndsAt old key key' e new) (sym same) (ended_by old new key key' refused.0 over kept (subst (λ e. LeavesFront key old.waiting new.waiting e key') same left)),
     )
+
+-- none is want of memory
+pub never_memory : (error : OpenError) → error_of error ≡ causes.Memory → ⊥
+never_memory (errors.PacketSize n) h = let e : causes.PacketSize n ≡ causes.Memory = h in cc
+never_memory errors.IndexOutOfBounds h = let e : causes.IndexOutOfBounds ≡ causes.Memory = h in cc
+never_memory errors.PacketAuth h = let e : causes.PacketAuth ≡ causes.Memory = h in cc
+never_memory errors.DecryptionError h = let e : causes.DecryptionError ≡ causes.Memory = h in cc
+never_memory errors.Disconnect h = let e : causes.Disconnect ≡ causes.Memory = h in cc

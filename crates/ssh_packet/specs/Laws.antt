@@ -6,6 +6,9 @@ use Rattle.ssh_packet.specs.Sealing.{Item, Sealing, Clear, Block, Gcm, IsAdmissi
 use Rattle.ssh_packet.specs.Stream.{Opening, Place, Entries, EntriesBy, IsPlain, Reads, ReadsBy, by_type, first_place}
 use Rattle.ssh_packet.specs.Carried.{AgreeFor, SameFor}
 use Rattle.ssh_packet.specs.Front.{Whole, Fault, Refused, front_of, tag_for, text_in, opened_past, key_behind}
+use Rattle.ssh_packet.specs.Errors.{error_of}
+use Rattle.ssh_packet.specs.declared.error.OpenError.{OpenError}
+use Rattle.ssh_wire.specs.declared.error.Error.TheVariants.{Memory}
 
 -- state, number and bytes determine the packet, whatever follows it
 abbrev pub OnePacket : Type 0
@@ -90,3 +93,7 @@ IsPadding padding filled_length unit = (4 ≤ padding) × (padding ≤ longest_p
 abbrev pub PaddingFills : Type 0
 PaddingFills = (sealing : Sealing) (n : ℕ)
     → IsPadding (padding_length sealing n) (filled_length sealing n (padding_length sealing n)) (unit_of sealing)
+
+-- whatever a reader refuses, it is never for want of memory
+abbrev pub NeverMemory : Type 0
+NeverMemory = (error : OpenError) → error_of error ≡ Memory → ⊥

@@ -1,6 +1,6 @@
 //! What stands at the front of the bytes that wait.
 
-ghost use Rattle.std.specs.Prelude.{◌≡◌, ◌+◌, ◌<◌, ◌≤◌, ◌^◌, length, drop, slice_index, vec_len};
+ghost use Rattle.std.specs.Prelude.{◌≡◌, ◌+◌, ◌<◌, ◌≤◌, ◌^◌, length, drop, slice_index, vec_capacity, vec_len};
 ghost use Rattle.ssh_packet.specs.Finding.{Measures, Parts, OpensChecked, Opens};
 ghost use Rattle.ssh_packet.specs.Front.{is_bad_length};
 ghost use Rattle.ssh_wire.specs.Forms.{AreBytes};
@@ -122,6 +122,7 @@ pub(crate) fn open_behind<K: OpeningKey>(
     requires { start ≤ vec_len bytes.old }
     ensures opens { Opens (K.opening key.old) number (drop start bytes.old.items) (drop start bytes.new.items) result (K.opening key.new) }
     ensures size { vec_len bytes.new ≡ vec_len bytes.old }
+    ensures capacity { vec_capacity bytes.new ≡ vec_capacity bytes.old }
     ensures bytes { AreBytes (drop start bytes.old.items) }
 {
     open_front(key, number, &mut bytes[start..])

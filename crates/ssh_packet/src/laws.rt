@@ -1,7 +1,7 @@
 //! Laws of packets and of streams of packets, for proofs above to cite.
 
 ghost use Rattle.ssh_packet.specs.Laws.{OnePacket, FrontWhole, FrontSound, OpensAgain, PairOpens, StatesAgree, FrontStays};
-ghost use Rattle.ssh_packet.specs.Laws.{OneReading, PlainReading, ReadsByType, ReadsWhatWasWritten, PaddingFills};
+ghost use Rattle.ssh_packet.specs.Laws.{NeverMemory, OneReading, PlainReading, ReadsByType, ReadsWhatWasWritten, PaddingFills};
 
 use crate::cipher::{OpeningKey, SealingKey};
 
@@ -70,4 +70,10 @@ pub fn reads_what_was_written()
 #[tactic(auto, using(crate::proofs::Lemmas::padding_fills))]
 pub fn padding_fills()
     ensures { PaddingFills }
+{}
+
+/// Whatever a reader refuses, it is never for want of memory: `next` takes none.
+#[tactic(auto, using(crate::proofs::Lemmas::never_memory))]
+pub fn never_memory()
+    ensures { NeverMemory }
 {}

@@ -22,8 +22,8 @@ pub use crate::cipher::{OpeningKey, SealingKey};
 pub use crate::error::OpenError;
 pub use crate::keys::{CipherPair, OpenKey, SealKey};
 pub use crate::laws::{
-    front_sound, front_stays, front_whole, one_packet, one_reading, opens_again, padding_fills,
-    pair_opens, plain_reading, reads_by_type, reads_what_was_written, states_agree,
+    front_sound, front_stays, front_whole, never_memory, one_packet, one_reading, opens_again,
+    padding_fills, pair_opens, plain_reading, reads_by_type, reads_what_was_written, states_agree,
 };
 pub use crate::names::{cipher_names, compression_names};
 pub use crate::reader::{Incoming, PacketReader};

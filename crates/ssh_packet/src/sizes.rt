@@ -14,3 +14,6 @@ pub(crate) const LONGEST_PADDING: usize = 19;
 
 /// What a packet has at most beside payload and tag, rounded up (`room_beside`).
 pub(crate) const ROOM_BESIDE: usize = 37;
+
+/// What a reader's window holds: a packet length, the longest packet, the longest tag (`window_length`).
+pub(crate) const WINDOW: usize = 262245;

@@ -1,9 +1,9 @@
-use Rattle.std.proofs.Common.{◌≡◌, refl, sym, ap, ◌∙◌, arith, length-drop, ◌+◌, length, min, take, drop, true}
+use Rattle.std.proofs.Common.{◌≡◌, refl, sym, ap, ◌∙◌, arith, length-drop, ◌+◌, length, min, take, drop, true, []}
 use Rattle.ssh_packet.specs.Keys.{opening_of}
 use Rattle.ssh_packet.specs.Sealing.{Item}
 use Rattle.ssh_packet.specs.Reading.{Reader}
 use Rattle.ssh_packet.proofs.Sound.{front_sound, moved_sound}
-use Rattle.ssh_packet.proofs.Lent.{ends_at, found_is, moved_is, part_is, length_part, spent_is}
+use Rattle.ssh_packet.proofs.Lent.{ends_at, found_is, handed_is, moved_is, part_is, length_part, spent_is}
 use Rattle.ssh_packet.proofs.reader.PacketReader.next.Goals as goal
 
 pub returns-in-Ok-Some : goal.returns-in-Ok-Some
@@ -31,6 +31,8 @@ returns-in-Ok-Some c =
             number = refl;
             count = c.saturating_add-self-inside.ensures ∙ ap (λ n. min (c.self.inside.count + n) 18446744073709551615) (sym long);
             failed = c.if-self.false;
+            handed = handed_is now start part.payload;
+            window = refl;
             spent = spent_is c.self.inside.start part.end (drop start there) (drop (start + part.end) now) _ whole.bytes_are (omega (arith, found.within, found.fits, size, length-drop start there, length-drop (start + part.end) now));
             shorter = omega (arith, found.within, found.fits, size, length-drop start there, length-drop (start + part.end) now);
             admissible = whole.admissible;
@@ -56,9 +58,11 @@ returns-in-Err c =
               number = refl;
               count = refl;
               waiting = omega (arith, size, length-drop c.self.inside.start there, length-drop c.self.inside.start now);
+              handed = refl;
+              window = refl;
               spent = refl;
             })
-            (λ same. ap (λ w. let r : Reader = record { waiting = w; number = c.self.inside.number; count = c.self.inside.count; failed = true; spent = c.self.inside.start } in r) same)
+            (λ same. ap (λ w. let r : Reader = record { waiting = w; number = c.self.inside.number; count = c.self.inside.count; failed = true; handed = []; window = c.self.inside.window; spent = c.self.inside.start } in r) same)
             c.in-Err.ensures.opens.1),
       ),
       record { after_borrow = tt },
