@@ -12,7 +12,8 @@ use Rattle.ssh_client_kex.specs.ClientRows as rows
 use Rattle.ssh_client_kex.specs.ClientViews.{client_machine, client_setting, client_stage}
 use Rattle.ssh_kex.specs.Messages.{is_gex}
 use Rattle.ssh_kex.specs.Opening.{Reads}
-use Rattle.ssh_kex.specs.Refusals.{Denies, IsInside, IsOutside, Negotiates, RefusesMessage}
+use Rattle.ssh_kex.specs.Refusals.{Denies, Negotiates, RefusesMessage}
+use Rattle.ssh_kex.specs.Fields.{IsInside, IsOutside}
 use Rattle.ssh_kex.specs.Setting.{Says, offers_of}
 use Rattle.ssh_kex.specs.Stages.{Machine, Created}
 use Rattle.ssh_kex.specs.Stepping.{RefusesStep}
@@ -78,26 +79,26 @@ kexinit_refused says denies config cause x state m i (Err e) view is h =
 
 -- ---- the group
 
-group_refuses : (says : Says) (denies : Denies) (config : Config) (cause : KexCause) (x : Exchange) (n : Names) (i : Incoming) (e : Error) → rows.RefusesGroup (λ g l v. says.client_makes n.kex (Some g) l v) says.value_small (λ g. denies.start n.kex (Some g)) config i.payload.now e → RefusesMessage says denies (client_setting config cause x) (client_stage x (states.AwaitsGroup n)) i.seqn i.payload.now e
-group_refuses says denies config cause x n i e h = by h where
+group_refuses : (says : Says) (denies : Denies) (config : Config) (cause : KexCause) (x : Exchange) (n : Names) (i : Incoming) (e : Error) → n.ignore_guessed ≡ false → rows.RefusesGroup (λ g l v. says.client_makes n.kex (Some g) l v) says.value_small (λ g. denies.start n.kex (Some g)) config i.payload.now e → RefusesMessage says denies (client_setting config cause x) (client_stage x (states.AwaitsGroup n)) i.seqn i.payload.now e
+group_refuses says denies config cause x n i e kept h = by h where
   refused : Error → Type 0
   refused error = RefusesMessage says denies (client_setting config cause x) (client_stage x (states.AwaitsGroup n)) i.seqn i.payload.now error
 
   by : rows.RefusesGroup (λ g l v. says.client_makes n.kex (Some g) l v) says.value_small (λ g. denies.start n.kex (Some g)) config i.payload.now e → refused e
   by (inl m) = subst refused (sym m) tt
-  by (inr (inl k)) = subst refused (sym k.1) (inl (refl, record { kept = refl; type_is = k.0 }))
+  by (inr (inl k)) = subst refused (sym k.1) (inl (refl, record { kept = kept; type_is = k.0 }))
   by (inr (inr (inl k))) =
-      let f = fault_of _ e k.1 in subst refused (sym f.2) (record { kept = refl; type_is = k.0 }, f.1)
+      let f = fault_of _ e k.1 in subst refused (sym f.2) (record { kept = kept; type_is = k.0 }, f.1)
   by (inr (inr (inr k))) = behind k.why where
     behind : (IsOutside config.gex k.group × (e ≡ errors.KexInit)) ⊎ (IsInside config.gex k.group × rows.RefusesValue (λ l v. says.client_makes n.kex (Some k.group) l v) says.value_small (denies.start n.kex (Some k.group)) e) → refused e
-    behind (inl o) = subst refused (sym o.1) (inr (record { kept = refl; type_is = k.type_is }, (k.group, k.read, o.0)))
+    behind (inl o) = subst refused (sym o.1) (inr (record { kept = kept; type_is = k.type_is }, (k.group, k.read, o.0)))
     behind (inr (inside, inl m)) = subst refused (sym m) tt
     behind (inr (inside, inr (inl d))) =
-        subst refused (sym d.0) (inr (record { kept = refl; type_is = k.type_is }, record { group = k.group; read = k.read; inside = inside; denied = d.1 }))
+        subst refused (sym d.0) (inr (record { kept = kept; type_is = k.type_is }, record { group = k.group; read = k.read; inside = inside; denied = d.1 }))
     behind (inr (inside, inr (inr l))) =
-        subst refused (sym l.error_is) (record { kept = refl; type_is = k.type_is }, l.long, (k.group, k.read, record { local = l.local; public = l.value; makes = l.made; small = l.small_value; size = refl }))
+        subst refused (sym l.error_is) (record { kept = kept; type_is = k.type_is }, l.long, (k.group, k.read, record { local = l.local; public = l.value; makes = l.made; small = l.small_value; size = refl }))
 
-pub group_refused : (says : Says) (denies : Denies) (config : Config) (cause : KexCause) (x : Exchange) (n : Names) (state : ClientState) (m : Machine) (i : Incoming) (r : Result (KexProgress Machine) Error) → client_machine config cause x state ≡ m → state ≡ states.AwaitsGroup n → IfErr r (rows.RefusesGroup (λ g l v. says.client_makes n.kex (Some g) l v) says.value_small (λ g. denies.start n.kex (Some g)) config i.payload.now) → IfErr r (λ e. RefusesStep says denies m (Some i) e)
-group_refused says denies config cause x n state m i (Ok p) view is h = tt
-group_refused says denies config cause x n state m i (Err e) view is h =
-    step_refuses says denies config cause x state (states.AwaitsGroup n) m i e view is (group_refuses says denies config cause x n i e h)
+pub group_refused : (says : Says) (denies : Denies) (config : Config) (cause : KexCause) (x : Exchange) (n : Names) (state : ClientState) (m : Machine) (i : Incoming) (r : Result (KexProgress Machine) Error) → client_machine config cause x state ≡ m → state ≡ states.AwaitsGroup n → n.ignore_guessed ≡ false → IfErr r (rows.RefusesGroup (λ g l v. says.client_makes n.kex (Some g) l v) says.value_small (λ g. denies.start n.kex (Some g)) config i.payload.now) → IfErr r (λ e. RefusesStep says denies m (Some i) e)
+group_refused says denies config cause x n state m i (Ok p) view is kept h = tt
+group_refused says denies config cause x n state m i (Err e) view is kept h =
+    step_refuses says denies config cause x state (states.AwaitsGroup n) m i e view is (group_refuses says denies config cause x n i e kept h)

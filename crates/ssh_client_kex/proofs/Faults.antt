@@ -4,7 +4,7 @@ use Rattle.ssh_wire.specs.Fields.{◌>>=◌, answer_of, mpint_at, string_at}
 use Rattle.ssh_wire.specs.Forms.{magnitude, mpint, string}
 use Rattle.ssh_wire.specs.declared.error.EncodingFault.TheVariants.{TrailingData}
 use Rattle.ssh_client_kex.specs.Reading.{ReadsGroup}
-use Rattle.ssh_kex.specs.Refusals.{at_end, group_in, reply_front, value_in}
+use Rattle.ssh_kex.specs.Fields.{at_end, group_in, reply_front, value_in}
 use Rattle.ssh_kex.specs.declared.group.DhGroup.{DhGroup}
 use Rattle.ssh_wire.specs.declared.error.EncodingFault.{EncodingFault}
 use Rattle.ssh_wire.specs.declared.error.Error.{Error}

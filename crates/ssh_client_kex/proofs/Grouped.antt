@@ -11,7 +11,7 @@ use Rattle.ssh_wire.specs.Forms.{magnitude, mpint, u32be, unsigned}
 use Rattle.ssh_wire.specs.declared.error.Error.{Error}
 use Rattle.ssh_client_kex.specs.ClientRows.{AnswersGroup, SendsOfGroup}
 use Rattle.ssh_client_kex.specs.Reading.{ReadsGroup}
-use Rattle.ssh_kex.specs.Refusals.{IsInside}
+use Rattle.ssh_kex.specs.Fields.{IsInside}
 use Rattle.ssh_kex.specs.Stages.{Machine}
 use Rattle.ssh_kex.specs.declared.config.Config.{Config}
 use Rattle.ssh_kex.specs.declared.exchange.Exchange.{Exchange}

@@ -9,10 +9,10 @@ use Rattle.ssh_wire.specs.Forms.{string, u32be}
 use Rattle.ssh_wire.specs.declared.error.Error.{Error}
 use Rattle.ssh_wire.specs.declared.error.Error.TheVariants.{Memory, WrongServerSig}
 use Rattle.ssh_kex.specs.Agreeing.{Agreeing, IsWhole}
-use Rattle.ssh_client_kex.specs.ClientRows.{AgreesOnReply, RefusesReply, RefusesToAgree, made_with}
+use Rattle.ssh_client_kex.specs.ClientRows.{AgreesOnReply, RefusesReply, made_with}
 use Rattle.ssh_client_kex.specs.ClientViews.{HasValue}
 use Rattle.ssh_kex.specs.Messages.{host_with, is_gex, reply_message}
-use Rattle.ssh_kex.specs.Refusals.{fields}
+use Rattle.ssh_kex.specs.Fields.{fields}
 use Rattle.ssh_kex.specs.Signature.{judged}
 use Rattle.ssh_kex.specs.Stages.{Machine}
 use Rattle.ssh_kex.specs.Views.{HasShortSides}
@@ -53,15 +53,10 @@ whole_reply makes x n old new payload host value signature short sides has h =
       kind = has.kind ∙ ap is_gex (sym has.name_is ∙ sym (ap (λ (a : Agreeing). a.name) h.kept));
     }
 
-pub refuses_to_agree : (b : Bool) (denied : List ℕ → List ℕ → Type 0) (makes : List ℕ → List ℕ → List ℕ → Type 0) (missigned : ServerHost → List ℕ → List ℕ → Type 0) (cause : KexCause) (x : Exchange) (n : Names) (algorithm : Agreeing) (payload : List ℕ) (e : Error) → b ≡ false → RefusesToAgree denied makes algorithm payload e → RefusesReply b denied makes missigned cause x n algorithm payload e
-refuses_to_agree true denied makes missigned cause x n algorithm payload e f h = cc
-refuses_to_agree false denied makes missigned cause x n algorithm payload e f h = inl h
-
-pub refuses_signature : (r : Result (KexProgress Machine) Error) (b : Bool) (denied : List ℕ → List ℕ → Type 0) (makes : List ℕ → List ℕ → List ℕ → Type 0) (missigned : ServerHost → List ℕ → List ℕ → Type 0) (cause : KexCause) (x : Exchange) (n : Names) (algorithm next : Agreeing) (payload host value signature : List ℕ) → b ≡ false → AgreesOnReply makes algorithm next payload host value signature → IfErr r (λ e. (e ≡ Memory) ⊎ ((e ≡ WrongServerSig) × missigned (host_with n host) (made_with cause n x next.secret host value).hash (judged signature))) → IfErr r (RefusesReply b denied makes missigned cause x n algorithm payload)
-refuses_signature (Ok p) b denied makes missigned cause x n algorithm next payload host value signature f a h = tt
-refuses_signature (Err e) true denied makes missigned cause x n algorithm next payload host value signature f a h = cc
-refuses_signature (Err e) false denied makes missigned cause x n algorithm next payload host value signature f a (inl m) = inl (inl m)
-refuses_signature (Err e) false denied makes missigned cause x n algorithm next payload host value signature f a (inr h) =
+pub refuses_signature : (r : Result (KexProgress Machine) Error) (denied : List ℕ → List ℕ → Type 0) (makes : List ℕ → List ℕ → List ℕ → Type 0) (missigned : ServerHost → List ℕ → List ℕ → Type 0) (cause : KexCause) (x : Exchange) (n : Names) (algorithm next : Agreeing) (payload host value signature : List ℕ) → AgreesOnReply makes algorithm next payload host value signature → IfErr r (λ e. (e ≡ Memory) ⊎ ((e ≡ WrongServerSig) × missigned (host_with n host) (made_with cause n x next.secret host value).hash (judged signature))) → IfErr r (RefusesReply denied makes missigned cause x n algorithm payload)
+refuses_signature (Ok p) denied makes missigned cause x n algorithm next payload host value signature a h = tt
+refuses_signature (Err e) denied makes missigned cause x n algorithm next payload host value signature a (inl m) = inl (inl m)
+refuses_signature (Err e) denied makes missigned cause x n algorithm next payload host value signature a (inr h) =
     inr (record { next = next; host = host; value = value; signature = signature; agrees = a; denied_it = h.1; error_is = h.0 })
 
 pub reply_spelled : (b : Bool) (payload host value signature : List ℕ) → message_type payload ≡ message_type (reply_message b [] [] []) → fields payload ≡ string host ++ (string value ++ string signature) → payload ≡ reply_message b host value signature

@@ -1,5 +1,6 @@
 -- What the rows of a client's machine answer.
 use Rattle.std.specs.Prelude.{◌≡◌, ◌⊎◌, ◌+◌, ◌<◌, ◌^◌, ◌||◌, ℕ, Bool, true, false, List, [], length, Option, None, Some, Ok, Err}
+use Rattle.std.specs.Global.{Box}
 use Rattle.ssh_negotiate.specs.Causes.{was_strict}
 use Rattle.ssh_negotiate.specs.Tables.{shape_of}
 use Rattle.ssh_negotiate.specs.declared.kex.KexCause.{KexCause}
@@ -7,7 +8,7 @@ use Rattle.ssh_negotiate.specs.declared.kex.Name as kexes
 use Rattle.ssh_negotiate.specs.declared.negotiation.Names.{Names}
 use Rattle.ssh_packet.specs.Sealing.{longest_payload}
 use Rattle.ssh_packet.specs.Stream.{message_type}
-use Rattle.ssh_packet.specs.Writing.{Writer, SameButRoom}
+use Rattle.ssh_packet.specs.Writing.{Writer}
 use Rattle.ssh_packet.specs.declared.keys.CipherPair.{CipherPair}
 use Rattle.ssh_packet.specs.declared.reader.Incoming.{Incoming}
 use Rattle.ssh_wire.specs.Fields.{answer_of}
@@ -19,8 +20,8 @@ use Rattle.ssh_kex.specs.Agreeing.{Agreeing}
 use Rattle.ssh_client_kex.specs.ClientViews.{client_machine, local_of}
 use Rattle.ssh_kex.specs.Messages.{IsCanonical, group_message, host_with, is_gex, newkeys, reply_message, request_message, value_message}
 use Rattle.ssh_kex.specs.Opening.{Reads, RefusesNames}
-use Rattle.ssh_kex.specs.Refusals.{IsInside, IsOutside, fields, group_in, reply_front, value_in}
-use Rattle.ssh_kex.specs.Setting.{behind_guess, made_of, offers_of}
+use Rattle.ssh_kex.specs.Fields.{IsInside, IsOutside, fields, group_in, reply_front, value_in}
+use Rattle.ssh_kex.specs.Setting.{made_of, offers_of}
 use Rattle.ssh_client_kex.specs.Reading.{ReadsFront}
 use Rattle.ssh_kex.specs.Signature.{judged}
 use Rattle.ssh_kex.specs.Stages.{Machine}
@@ -182,7 +183,7 @@ made_with cause n x secret host value = made_of cause n (record x { server_ephem
 pub record AcceptsReply (accepts : ServerHost → List ℕ → List ℕ
     → Type 0) (config : Config) (cause : KexCause) (x : Exchange) (n : Names) (secret : Option (List ℕ)) (host value signature : List ℕ) (p : KexProgress Machine) (w w' : Writer) : Type 0 where
   pub accepted : accepts (host_with n host) (made_with cause n x secret host value).hash (judged signature)
-  pub cipher : CipherPair
+  pub cipher : Box CipherPair
   pub keys : HasKeys Client (made_with cause n x secret host value) cipher
   pub done : p ≡ NeedsReply (client_machine config cause (record x { server_ephemeral = value }) (states.AwaitsNewkeys (host_with n host) (made_with cause n x secret host value) cipher)) (n.strict_kex || was_strict cause)
   pub puts : Puts w newkeys w'
@@ -197,14 +198,6 @@ pub record AnswersReply (makes : List ℕ → List ℕ → List ℕ → Type 0) 
   pub agrees : AgreesOnReply makes algorithm next payload host value signature
   pub accepted : AcceptsReply accepts config cause x n next.secret host value signature p w w'
 
--- a wrong guess is dropped
-abbrev pub AnswersOrDrops : Bool → (List ℕ → List ℕ → List ℕ → Type 0) → (ServerHost → List ℕ → List ℕ → Type 0)
-    → Config → KexCause → Exchange → Names → Agreeing → List ℕ → KexProgress Machine → Writer → Writer → Type 0
-AnswersOrDrops true makes accepts config cause x n algorithm payload p w w' =
-    (p ≡ NeedsReply (client_machine config cause x (states.AwaitsReply (behind_guess Client n) algorithm)) false)
-    × SameButRoom w w'
-AnswersOrDrops false makes accepts config cause x n algorithm payload p w w' = AnswersReply makes accepts config cause x n algorithm payload p w w'
-
 -- a signature that is refused
 pub record Missigns (makes : List ℕ → List ℕ → List ℕ → Type 0) (denied : ServerHost → List ℕ → List ℕ
     → Type 0) (cause : KexCause) (x : Exchange) (n : Names) (algorithm : Agreeing) (payload : List ℕ) (e : Error) : Type 0 where
@@ -216,8 +209,7 @@ pub record Missigns (makes : List ℕ → List ℕ → List ℕ → Type 0) (den
   pub denied_it : denied (host_with n host) (made_with cause n x next.secret host value).hash (judged signature)
   pub error_is : e ≡ errors.WrongServerSig
 
-abbrev pub RefusesReply : Bool → (List ℕ → List ℕ → Type 0) → (List ℕ → List ℕ → List ℕ → Type 0)
+abbrev pub RefusesReply : (List ℕ → List ℕ → Type 0) → (List ℕ → List ℕ → List ℕ → Type 0)
     → (ServerHost → List ℕ → List ℕ → Type 0) → KexCause → Exchange → Names → Agreeing → List ℕ → Error → Type 0
-RefusesReply true denied makes missigned cause x n algorithm payload e = ⊥
-RefusesReply false denied makes missigned cause x n algorithm payload e = RefusesToAgree denied makes algorithm payload e
+RefusesReply denied makes missigned cause x n algorithm payload e = RefusesToAgree denied makes algorithm payload e
     ⊎ Missigns makes missigned cause x n algorithm payload e

@@ -1,5 +1,5 @@
 -- What the fields of a client's machine stand for.
-use Rattle.std.specs.Prelude.{◌≡◌, ◌<◌, ◌^◌, ℕ, true, false, List, [], length, is_some, Option, None, Some, IfSome}
+use Rattle.std.specs.Prelude.{◌≡◌, ◌<◌, ◌^◌, ℕ, Bool, true, false, List, [], length, is_some, Option, None, Some, IfSome}
 use Rattle.ssh_negotiate.specs.Laws.{AreShort}
 use Rattle.ssh_negotiate.specs.Tables.{shape_of}
 use Rattle.ssh_negotiate.specs.declared.kex.KexCause.{KexCause}
@@ -7,6 +7,7 @@ use Rattle.ssh_negotiate.specs.declared.negotiation.Names.{Names}
 use Rattle.ssh_wire.specs.declared.side.Side.TheVariants.{Client}
 use Rattle.ssh_kex.specs.Agreeing.{Agreeing}
 use Rattle.ssh_kex.specs.Messages.{is_gex}
+use Rattle.ssh_kex.specs.Setting as opening
 use Rattle.ssh_kex.specs.Setting.{Opened, Setting, group_of, offers_of}
 use Rattle.ssh_kex.specs.Stages.{Machine, Stage, Created, AwaitsGroup, AwaitsReply, AwaitsNewkeys}
 use Rattle.ssh_kex.specs.Views.{HasKeys, HasShortSides}
@@ -35,6 +36,19 @@ client_setting config cause x = record { side = Client; config = config; client_
 
 abbrev pub client_machine : Config → KexCause → Exchange → ClientState → Machine
 client_machine config cause x state = record { setting = client_setting config cause x; stage = client_stage x state }
+
+-- whether the next message is a wrong guess, and the state behind it
+abbrev pub drops_guess : ClientState → Bool
+drops_guess states.Created = false
+drops_guess (states.AwaitsGroup names) = names.ignore_guessed
+drops_guess (states.AwaitsReply names algorithm) = names.ignore_guessed
+drops_guess (states.AwaitsNewkeys host made cipher) = false
+
+abbrev pub behind_guess : ClientState → ClientState
+behind_guess states.Created = states.Created
+behind_guess (states.AwaitsGroup names) = states.AwaitsGroup (opening.behind_guess names)
+behind_guess (states.AwaitsReply names algorithm) = states.AwaitsReply (opening.behind_guess names) algorithm
+behind_guess (states.AwaitsNewkeys host made cipher) = states.AwaitsNewkeys host made cipher
 
 -- an exchange whose values aren't there yet
 pub record HasNoValues (x : Exchange) : Type 0 where

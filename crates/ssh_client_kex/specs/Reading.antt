@@ -2,7 +2,7 @@
 use Rattle.std.specs.Prelude.{◌≡◌, ℕ, ◌++◌, List, Ok}
 use Rattle.ssh_wire.specs.Forms.{mpint, string}
 use Rattle.ssh_kex.specs.Messages.{IsCanonical}
-use Rattle.ssh_kex.specs.Refusals.{group_in, reply_front}
+use Rattle.ssh_kex.specs.Fields.{group_in, reply_front}
 use Rattle.ssh_kex.specs.declared.group.DhGroup.{DhGroup}
 
 -- the fields of a group

@@ -13,21 +13,21 @@ ghost use Rattle.ssh_wire.specs.Outside.{Rose};
 ghost use Rattle.ssh_wire.specs.declared.error.Error.TheVariants.{Memory};
 ghost use Rattle.ssh_wire.specs.declared.side.Side.TheVariants.{Client as client_side};
 ghost use Rattle.ssh_client_kex.specs.ClientRows.{AnswersGroup, AnswersKexinit, OpensWithValue, SendsOfGroup, RefusesGroup, RefusesKexinit, RefusesValue, SendsValue};
-ghost use Rattle.ssh_client_kex.specs.ClientViews.{client_machine, ClientHolds, HasNoValues};
+ghost use Rattle.ssh_client_kex.specs.ClientViews.{behind_guess, client_machine, drops_guess, ClientHolds, HasNoValues};
 ghost use Rattle.ssh_client_kex.specs.declared.client_kex.ClientState.TheVariants.{AwaitsGroup as awaits_group};
 ghost use Rattle.ssh_kex.specs.declared.progress.KexProgress.TheVariants.{NeedsReply};
 ghost use Rattle.ssh_kex.specs.Messages.{is_gex, request_message};
 ghost use Rattle.ssh_kex.specs.Parts.{IsSmall, KeepsAgreement, KeepsGroups, KeepsHosts, Setup};
-ghost use Rattle.ssh_kex.specs.Refusals.{IsInside, IsOutside};
+ghost use Rattle.ssh_kex.specs.Fields.{IsInside, IsOutside};
 ghost use Rattle.ssh_kex.specs.Setting.{offers_of};
-ghost use Rattle.ssh_kex.specs.Stages.{Created as created, names_of, is_strict};
+ghost use Rattle.ssh_kex.specs.Stages.{Created as created, has_ignored, names_of, is_strict};
 ghost use Rattle.ssh_kex.specs.Stepping.{at_kexinit, asks_agreement, asks_hosts, asks_groups, next_of, says_of, denies_of, Progresses, RefusesStep, Puts, PutsFront};
 ghost use Rattle.ssh_kex.specs.Views.{HasShortSides};
 
 use crate::client_reply::take_reply;
 use crate::fields::{fields_of, group_of};
 use rand_core::Rng;
-use ssh_kex::first_message::client_names;
+use ssh_kex::first_message::{client_names, names_behind_guess};
 use ssh_kex::kexinit_message::send_kexinit;
 use ssh_kex::last_message::{end_at_once, last};
 use ssh_kex::message::{has_type, put_message};
@@ -54,7 +54,7 @@ pub(crate) enum ClientState {
     AwaitsNewkeys {
         host: ServerHost,
         made: FinishedExchange,
-        cipher: CipherPair,
+        cipher: Box<CipherPair>,
     },
 }
 
@@ -113,8 +113,8 @@ impl<'c> ClientKex<'c> {
         })
     }
 
-    /// One message of the peer. What each stage takes, refuses and writes is said of the stages; a refusal leaves the output
-    /// as it was.
+    /// One message of the peer. What each stage takes, refuses and writes is said of the stages; a wrong guess is dropped. A
+    /// refusal leaves the output as it was.
     pub fn step<A: Agreement, H: HostKeys, G: GroupLookup, R: Rng>(
         self,
         parts: &mut Parts<A, H, G, R>,
@@ -153,6 +153,10 @@ impl<'c> ClientKex<'c> {
             exchange,
             state,
         } = self;
+        if drops_guess(&state) {
+            let state = behind_guess(state);
+            return Ok(waits(alloc, config, cause, exchange, state, false));
+        }
         let payload = incoming.payload;
         match state {
             ClientState::Created => take_kexinit(
@@ -247,6 +251,47 @@ impl<'c> ClientKex<'c> {
             }
             ClientState::AwaitsNewkeys { made, .. } => made.names.strict_kex,
         }
+    }
+
+    /// Whether a wrong guess of the server was dropped.
+    pub fn guess_ignored(&self) -> bool
+        ensures { result ≡ has_ignored (names_of self.now.stage) }
+    {
+        match &self.state {
+            ClientState::Created => false,
+            ClientState::AwaitsGroup { names } | ClientState::AwaitsReply { names, .. } => {
+                names.guessed_ignored
+            }
+            ClientState::AwaitsNewkeys { made, .. } => made.names.guessed_ignored,
+        }
+    }
+}
+
+/// Whether the next message is a wrong guess.
+fn drops_guess(state: &ClientState) -> bool
+    ensures { result ≡ drops_guess state.now }
+{
+    match state {
+        ClientState::AwaitsGroup { names } | ClientState::AwaitsReply { names, .. } => {
+            names.ignore_guessed
+        }
+        ClientState::Created | ClientState::AwaitsNewkeys { .. } => false,
+    }
+}
+
+/// The state behind a wrong guess, which was dropped.
+fn behind_guess(state: ClientState) -> ClientState
+    ensures { result ≡ behind_guess state }
+{
+    match state {
+        ClientState::AwaitsGroup { names } => ClientState::AwaitsGroup {
+            names: names_behind_guess(names),
+        },
+        ClientState::AwaitsReply { names, algorithm } => ClientState::AwaitsReply {
+            names: names_behind_guess(names),
+            algorithm,
+        },
+        ClientState::Created | ClientState::AwaitsNewkeys { .. } => state,
     }
 }
 
@@ -434,7 +479,9 @@ fn take_kexinit<'c, A: Agreement, R: Rng>(
     exchange.server_kex_init = Blob::copy_of(alloc, incoming.payload)?;
     let algorithm = KexAlgorithm::new(alloc, names.kex);
     if algorithm.skip_exchange() {
-        return end_at_once(&algorithm, &cause, exchange, names, false, rng, output);
+        return end_at_once(
+            alloc, &algorithm, &cause, exchange, names, false, rng, output,
+        );
     }
     if !agreement.offers(names.kex) {
         return Err(Error::UnknownAlgo);

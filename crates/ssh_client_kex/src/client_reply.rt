@@ -6,13 +6,12 @@ ghost use Rattle.ssh_packet.specs.Stream.{message_type as message_type_of};
 ghost use Rattle.ssh_packet.specs.Writing.{SameButRoom};
 ghost use Rattle.ssh_wire.specs.Outside.{Rose};
 ghost use Rattle.ssh_wire.specs.declared.error.Error.TheVariants.{Memory, WrongServerSig};
-ghost use Rattle.ssh_client_kex.specs.ClientRows.{AcceptsReply, AgreesOnReply, AnswersOrDrops, made_with, RefusesReply, RefusesToAgree};
+ghost use Rattle.ssh_client_kex.specs.ClientRows.{AcceptsReply, AgreesOnReply, AnswersReply, made_with, RefusesReply, RefusesToAgree};
 ghost use Rattle.ssh_client_kex.specs.ClientViews.{local_of, HasValue};
 ghost use Rattle.ssh_kex.specs.Agreeing.{IsWhole};
 ghost use Rattle.ssh_kex.specs.Signature.{judged, or_same};
 ghost use Rattle.ssh_kex.specs.Messages.{host_with, is_gex, reply_message};
 ghost use Rattle.ssh_kex.specs.Parts.{KeepsAgreement, KeepsHosts, Setup};
-ghost use Rattle.ssh_kex.specs.Stepping.{once_unless};
 ghost use Rattle.ssh_kex.specs.Views.{HasShortSides};
 
 use crate::client_kex::{ClientKex, ClientState, waits};
@@ -172,7 +171,7 @@ fn accept_reply<'c, H: HostKeys, R: Rng>(
     if let Err(error) = verify_signature(alloc, hosts, &host, &hash, reply.signature) {
         return Err(error);
     }
-    let (made, cipher) = finish(&algorithm, &cause, names, hash, false);
+    let (made, cipher) = finish(alloc, &algorithm, &cause, names, hash, false)?;
     let reset_seqn = names.strict_kex || cause.is_strict_rekey();
     match put_message(output, rng, &[msg::NEWKEYS]) {
         Ok(()) => Ok(waits(
@@ -187,8 +186,8 @@ fn accept_reply<'c, H: HostKeys, R: Rng>(
     }
 }
 
-/// The server's reply; a wrong guess is dropped. KexInit where it is another message; SshEncoding; Kex where the agreement
-/// refused; WrongServerSig; Memory. A refusal leaves the output as it was.
+/// The server's reply. KexInit where it is another message; SshEncoding; Kex where the agreement refused; WrongServerSig;
+/// Memory. A refusal leaves the output as it was.
 pub(crate) fn take_reply<'c, A: Agreement, H: HostKeys, R: Rng>(
     alloc: Global,
     config: &'c Config,
@@ -206,16 +205,16 @@ pub(crate) fn take_reply<'c, A: Agreement, H: HostKeys, R: Rng>(
     requires sides { HasShortSides exchange }
     requires value { HasValue exchange names algorithm }
     ensures agreement { KeepsAgreement A.lawful A.obliging A.offered A.refusals A.calls agreement.old agreement.new }
-    ensures agreement_calls { A.calls agreement.new ≤ A.calls agreement.old + once_unless names.ignore_guessed }
+    ensures agreement_calls { A.calls agreement.new ≤ A.calls agreement.old + 1 }
     ensures hosts { KeepsHosts H.lawful H.obliging H.accepts H.trusts H.refused_sign H.refused_verify H.refused_check
         H.calls hosts.old hosts.new }
-    ensures hosts_calls { H.calls hosts.new ≤ H.calls hosts.old + once_unless names.ignore_guessed }
-    ensures ok { IfOk result (λ p. AnswersOrDrops names.ignore_guessed (λ l v x. (s : Setup) (public : List ℕ)
+    ensures hosts_calls { H.calls hosts.new ≤ H.calls hosts.old + 1 }
+    ensures ok { IfOk result (λ p. AnswersReply (λ l v x. (s : Setup) (public : List ℕ)
         → A.lawful agreement.old s → A.client_makes algorithm.name algorithm.group l public
         → A.agrees algorithm.name algorithm.group public v x)
         (λ h d g. H.accepts hosts.old h d g ≡ true) config.now cause exchange names algorithm payload.now p output.old
         output.new) }
-    ensures err { IfErr result (RefusesReply names.ignore_guessed (λ l v. Rose (A.refusals agreement.old)
+    ensures err { IfErr result (RefusesReply (λ l v. Rose (A.refusals agreement.old)
         (A.refusals agreement.new) × ((s : Setup) (public : List ℕ) → A.obliging agreement.old s
         → A.offered agreement.old algorithm.name ≡ true → A.client_makes algorithm.name algorithm.group l public
         → A.server_makes algorithm.name algorithm.group v → ⊥)) (λ l v x. (s : Setup) (public : List ℕ)
@@ -225,21 +224,6 @@ pub(crate) fn take_reply<'c, A: Agreement, H: HostKeys, R: Rng>(
         → ⊥)) cause exchange names algorithm payload.now) }
     ensures unchanged { OnErr result (SameButRoom output.old output.new) }
 {
-    if names.ignore_guessed {
-        let names = Names {
-            ignore_guessed: false,
-            guessed_ignored: false,
-            ..names
-        };
-        return Ok(waits(
-            alloc,
-            config,
-            cause,
-            exchange,
-            ClientState::AwaitsReply { names, algorithm },
-            false,
-        ));
-    }
     let mut algorithm = algorithm;
     let reply = match agree_on_reply(&mut algorithm, agreement, payload) {
         Ok(reply) => reply,

@@ -5,7 +5,7 @@ ghost use Rattle.ssh_wire.specs.Fields.{answer_of};
 ghost use Rattle.ssh_wire.specs.Forms.{string};
 ghost use Rattle.ssh_wire.specs.declared.error.Error.TheVariants.{Memory};
 ghost use Rattle.ssh_client_kex.specs.Reading.{ReadsFront, ReadsGroup};
-ghost use Rattle.ssh_kex.specs.Refusals.{group_in, reply_front, value_in};
+ghost use Rattle.ssh_kex.specs.Fields.{group_in, reply_front, value_in};
 
 use ssh_kex::DhGroup;
 use ssh_wire::{Blob, Error, Reader};

@@ -1,6 +1,7 @@
 -- The peer's NEWKEYS ends an exchange.
 use Rattle.std.proofs.Common.{◌≡◌, [], refl, sym, subst, Option, Some, Result, Ok, Err, inl, inr}
 use Rattle.std.specs.Prelude.{IfOk, IfErr}
+use Rattle.std.specs.Global.{Box}
 use Rattle.ssh_packet.specs.Keys.{sealing_of, opening_of}
 use Rattle.ssh_packet.specs.Writing.{Writer}
 use Rattle.ssh_packet.specs.declared.keys.CipherPair.{CipherPair}
@@ -19,7 +20,7 @@ use Rattle.ssh_kex.specs.declared.exchange.FinishedExchange.{FinishedExchange}
 use Rattle.ssh_kex.specs.declared.exchange.ServerHost.{ServerHost}
 use Rattle.ssh_kex.specs.declared.progress.KexProgress.{KexProgress}
 
-pub last_done : (says : Says) (side : Side) (m : Machine) (i : Incoming) (w : Writer) (x : Exchange) (host : Option ServerHost) (made : FinishedExchange) (cipher : CipherPair) (r : Result (KexProgress Machine) Error) → m.stage ≡ AwaitsNewkeys x made host → m.setting.side ≡ side → HasKeys side made cipher → Lasts x host made cipher i.payload.now r → IfOk r (λ p. Progresses says m (Some i) w p w)
+pub last_done : (says : Says) (side : Side) (m : Machine) (i : Incoming) (w : Writer) (x : Exchange) (host : Option ServerHost) (made : FinishedExchange) (cipher : Box CipherPair) (r : Result (KexProgress Machine) Error) → m.stage ≡ AwaitsNewkeys x made host → m.setting.side ≡ side → HasKeys side made cipher → Lasts x host made cipher i.payload.now r → IfOk r (λ p. Progresses says m (Some i) w p w)
 last_done says my m i w x host made cipher (Ok p) stage side keys h =
     subst (λ q. Progresses says m (Some i) w q w) (sym h.done)
     (record {
@@ -33,14 +34,14 @@ last_done says my m i w x host made cipher (Ok p) stage side keys h =
         hash_is = refl;
         session_is = refl;
         keys_is = refl;
-        seals = subst (λ s. sealing_of cipher.local_to_remote ≡ sealing_after s made.names made.keys) (sym side) keys.seals;
-        opens = subst (λ s. opening_of cipher.remote_to_local ≡ sealing_after (other_side s) made.names made.keys) (sym side) keys.opens;
+        seals = subst (λ s. sealing_of cipher.value.local_to_remote ≡ sealing_after s made.names made.keys) (sym side) keys.seals;
+        opens = subst (λ s. opening_of cipher.value.remote_to_local ≡ sealing_after (other_side s) made.names made.keys) (sym side) keys.opens;
       };
       puts = refl;
     })
 last_done says my m i w x host made cipher (Err e) stage side keys h = tt
 
-pub last_refused : (says : Says) (denies : Denies) (m : Machine) (i : Incoming) (x : Exchange) (host : Option ServerHost) (made : FinishedExchange) (cipher : CipherPair) (e : Error) → m.stage ≡ AwaitsNewkeys x made host → Lasts {K = Machine} x host made cipher i.payload.now (Err e) → RefusesMessage says denies m.setting m.stage i.seqn i.payload.now e
+pub last_refused : (says : Says) (denies : Denies) (m : Machine) (i : Incoming) (x : Exchange) (host : Option ServerHost) (made : FinishedExchange) (cipher : Box CipherPair) (e : Error) → m.stage ≡ AwaitsNewkeys x made host → Lasts {K = Machine} x host made cipher i.payload.now (Err e) → RefusesMessage says denies m.setting m.stage i.seqn i.payload.now e
 last_refused says denies m i x host made cipher e stage (inl h) =
     subst (λ (s : Stage). RefusesMessage says denies m.setting s i.seqn i.payload.now e) (sym stage)
     (subst (RefusesMessage says denies m.setting (AwaitsNewkeys x made host) i.seqn i.payload.now) (sym h.1) (inl (refl, record { kept = refl; type_is = h.0 })))
@@ -48,6 +49,6 @@ last_refused says denies m i x host made cipher e stage (inr h) =
     subst (λ (s : Stage). RefusesMessage says denies m.setting s i.seqn i.payload.now e) (sym stage)
     (subst (RefusesMessage says denies m.setting (AwaitsNewkeys x made host) i.seqn i.payload.now) (sym h.2) (record { kept = refl; type_is = h.0 }, (refl, h.1)))
 
-pub last_refused_if : (says : Says) (denies : Denies) (m : Machine) (i : Incoming) (x : Exchange) (host : Option ServerHost) (made : FinishedExchange) (cipher : CipherPair) (r : Result (KexProgress Machine) Error) → m.stage ≡ AwaitsNewkeys x made host → Lasts x host made cipher i.payload.now r → IfErr r (λ e. RefusesStep says denies m (Some i) e)
+pub last_refused_if : (says : Says) (denies : Denies) (m : Machine) (i : Incoming) (x : Exchange) (host : Option ServerHost) (made : FinishedExchange) (cipher : Box CipherPair) (r : Result (KexProgress Machine) Error) → m.stage ≡ AwaitsNewkeys x made host → Lasts x host made cipher i.payload.now r → IfErr r (λ e. RefusesStep says denies m (Some i) e)
 last_refused_if says denies m i x host made cipher (Ok p) stage h = tt
 last_refused_if says denies m i x host made cipher (Err e) stage h = last_refused says denies m i x host made cipher e stage h

@@ -12,7 +12,8 @@ use Rattle.ssh_wire.specs.declared.error.Error.{Error}
 use Rattle.ssh_wire.specs.declared.error.Error.TheVariants as errors
 use Rattle.ssh_kex.specs.Laws.{PartsAnswer}
 use Rattle.ssh_kex.specs.Messages.{IsCanonical, is_gex, newkeys}
-use Rattle.ssh_kex.specs.Refusals.{Denies, IsBadlyEncoded, IsCreated, IsInside, IsLate, IsOutOfRange, IsOutside, IsUnoffered, RefusesMessage, ReplyFront, awaited, fields, group_in, kexinit_read, reply_front, sizes_in, value_in}
+use Rattle.ssh_kex.specs.Refusals.{Denies, IsBadlyEncoded, IsCreated, IsLate, IsOutOfRange, IsUnoffered, RefusesMessage, awaited, kexinit_read}
+use Rattle.ssh_kex.specs.Fields.{IsInside, IsOutside, ReplyFront, fields, group_in, reply_front, sizes_in, value_in}
 use Rattle.ssh_kex.specs.Setting.{Says, Setting}
 use Rattle.ssh_kex.specs.Stages.{Stage, Created, AwaitsGroup, AwaitsReply, AwaitsRequest, AwaitsValue, AwaitsNewkeys, Machine, Takes, Finishes, Skips, IsFirst, drops_guess}
 use Rattle.ssh_kex.specs.Stepping.{Progresses, RefusesStep}

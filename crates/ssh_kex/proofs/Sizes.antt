@@ -6,7 +6,7 @@ use Rattle.ssh_wire.specs.Forms.{u32be}
 use Rattle.ssh_wire.specs.declared.error.Error.{Error}
 use Rattle.ssh_wire.specs.declared.error.EncodingFault.TheVariants.{Length}
 use Rattle.std.specs.Int.{w32, from_be_bytes}
-use Rattle.ssh_kex.specs.Refusals.{sizes_front}
+use Rattle.ssh_kex.specs.Fields.{sizes_front}
 
 long_u32 : (bytes : List ℕ) → 4 ≤ length bytes → u32_at bytes ≡ Ok (from_be_bytes w32 (take 4 bytes), drop 4 bytes)
 unfolding u32_at

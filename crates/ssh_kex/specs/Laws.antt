@@ -17,7 +17,8 @@ use Rattle.ssh_wire.specs.declared.side.Side.TheVariants.{Client, Server}
 use Rattle.ssh_kex.specs.Exchange.{HaveLengths, keys_of, sealing_after}
 use Rattle.ssh_kex.specs.Messages.{Presented, presented}
 use Rattle.ssh_kex.specs.Parts.{IsSmall, Setup}
-use Rattle.ssh_kex.specs.Refusals.{Denies, IsTooLong, PartDenies, SignatureDenied, SigningDenied, fields, sizes_in}
+use Rattle.ssh_kex.specs.Refusals.{Denies, IsTooLong, PartDenies, SignatureDenied, SigningDenied}
+use Rattle.ssh_kex.specs.Fields.{fields, sizes_in}
 use Rattle.ssh_kex.specs.Setting.{Says, Setting}
 use Rattle.ssh_kex.specs.Signature.{canonical_form}
 use Rattle.ssh_kex.specs.Stages.{Machine, Stage, Created, AwaitsGroup, AwaitsReply, AwaitsRequest, AwaitsValue, AwaitsNewkeys}

@@ -5,6 +5,7 @@ pub mod Messages
 pub mod Parts
 pub mod Setting
 pub mod Stages
+pub mod Fields
 pub mod Refusals
 pub mod Stepping
 pub mod Agreeing

@@ -1,5 +1,5 @@
 -- Why a step of a machine is refused: the first cause in the order of the fields.
-use Rattle.std.specs.Prelude.{◌≡◌, ℕ, ◌+◌, ◌-◌, ◌^◌, ◌%◌, ◌<◌, ◌≤◌, Bool, true, false, List, [], ◌∷◌, length, drop, Option, Some, None, Result, Ok, Err, ◌⊎◌}
+use Rattle.std.specs.Prelude.{◌≡◌, ℕ, ◌+◌, ◌-◌, ◌^◌, ◌%◌, ◌<◌, Bool, true, false, List, [], length, Option, Some, None, Result, Ok, Err, ◌⊎◌}
 use Rattle.ssh_negotiate.specs.Causes.{was_strict}
 use Rattle.ssh_negotiate.specs.Reading.{KexinitFault, Inconsistent, Encoding, NoCommon, names_read}
 use Rattle.ssh_negotiate.specs.Tables.{shape_of}
@@ -7,13 +7,13 @@ use Rattle.ssh_negotiate.specs.declared.kex.Name as kexes
 use Rattle.ssh_negotiate.specs.declared.negotiation.Names.{Names}
 use Rattle.ssh_packet.specs.Sealing.{longest_payload}
 use Rattle.ssh_packet.specs.Stream.{message_type}
-use Rattle.ssh_wire.specs.Fields.{◌>>=◌, u32_at, string_at, mpint_at}
 use Rattle.ssh_wire.specs.declared.error.EncodingFault.{EncodingFault}
 use Rattle.ssh_wire.specs.declared.error.EncodingFault.TheVariants.{TrailingData}
 use Rattle.ssh_wire.specs.declared.error.Error.{Error}
 use Rattle.ssh_wire.specs.declared.error.Error.TheVariants as errors
 use Rattle.ssh_wire.specs.declared.side.Side.TheVariants.{Client}
-use Rattle.ssh_kex.specs.Messages.{is_gex, value_message, reply_message, group_message, bit_size, host_with}
+use Rattle.ssh_kex.specs.Fields.{IsInside, IsOutside, ReplyFront, fields, group_in, reply_front, sizes_in, value_in}
+use Rattle.ssh_kex.specs.Messages.{is_gex, value_message, reply_message, group_message, host_with}
 use Rattle.ssh_kex.specs.Messages.{Presented, presented}
 use Rattle.ssh_kex.specs.Setting.{Says, Setting, Opened, offers_of, group_of, exchange_of, made_of}
 use Rattle.ssh_kex.specs.Signature.{judged}
@@ -36,39 +36,6 @@ pub record Denies : Type 1 where
   pub sign : Type 0
   -- host, hash, signature in its canonical form
   pub verify : ServerHost → List ℕ → List ℕ → Type 0
-
--- ---- the fields of a message, behind its type
-
-abbrev pub at_end : {A : Type 0} → A → List ℕ → Result A EncodingFault
-at_end x [] = Ok x
-at_end x (b ∷ bytes) = Err TrailingData
-
-unfoldable pub group_in : List ℕ → Result DhGroup EncodingFault
-group_in bytes = mpint_at bytes >>= λ p. mpint_at p.1 >>= λ g. at_end (record { prime = p.0; generator = g.0 }) g.1
-
--- three numbers at the front, and what is behind
-unfoldable pub sizes_front : List ℕ → Result (GexParams × List ℕ) EncodingFault
-sizes_front bytes =
-    u32_at bytes >>= λ a. u32_at a.1 >>= λ b. u32_at b.1 >>= λ c.
-    Ok (record { min_group_size = a.0; preferred_group_size = b.0; max_group_size = c.0 }, c.1)
-
-unfoldable pub sizes_in : List ℕ → Result GexParams EncodingFault
-sizes_in bytes = sizes_front bytes >>= λ g. at_end g.0 g.1
-
-unfoldable pub value_in : List ℕ → Result (List ℕ) EncodingFault
-value_in bytes = string_at bytes >>= λ v. at_end v.0 v.1
-
--- what of a reply is read before the secret is agreed on: the host's blob, the server's value; and what is behind
-pub record ReplyFront : Type 0 where
-  pub host : List ℕ
-  pub value : List ℕ
-  pub behind : List ℕ
-
-unfoldable pub reply_front : List ℕ → Result ReplyFront EncodingFault
-reply_front bytes = string_at bytes >>= λ h. string_at h.1 >>= λ v. Ok (record { host = h.0; value = v.0; behind = v.1 })
-
-abbrev pub fields : List ℕ → List ℕ
-fields payload = drop 1 payload
 
 -- ---- causes
 
@@ -103,14 +70,6 @@ pub record IsWrong (stage : Stage) (payload : List ℕ) : Type 0 where
 -- the names of a KEXINIT that is due
 abbrev pub kexinit_read : Setting → List ℕ → Result Names KexinitFault
 kexinit_read s payload = names_read s.side (offers_of s.side s.config) (was_strict s.cause) payload
-
--- a group outside the client's sizes
-abbrev pub IsOutside : GexParams → DhGroup → Type 0
-IsOutside sizes g = (bit_size g.prime < sizes.min_group_size) ⊎ (sizes.max_group_size < bit_size g.prime)
-
-pub record IsInside (sizes : GexParams) (g : DhGroup) : Type 0 where
-  pub least : sizes.min_group_size ≤ bit_size g.prime
-  pub most : bit_size g.prime ≤ sizes.max_group_size
 
 -- a field that is cut short, badly encoded, or has bytes behind the last
 abbrev pub IsBadlyEncoded : Setting → Stage → List ℕ → EncodingFault → Type 0

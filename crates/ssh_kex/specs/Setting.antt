@@ -1,5 +1,5 @@
 -- Between whom an exchange stands, what the handed-in parts say, and the record that an exchange makes.
-use Rattle.std.specs.Prelude.{ℕ, ◌^◌, ◌<◌, Bool, true, false, if◌then◌else◌, List, length, Option, Some, None}
+use Rattle.std.specs.Prelude.{ℕ, ◌^◌, ◌<◌, true, false, if◌then◌else◌, List, length, Option, Some, None}
 use Rattle.ssh_negotiate.specs.Advertised.{Offers, offers}
 use Rattle.ssh_negotiate.specs.Causes.{session_of}
 use Rattle.ssh_negotiate.specs.Tables.{shape_of}
@@ -92,17 +92,13 @@ kept_of cause n secret hash = record {
 abbrev pub made_of : KexCause → Names → Exchange → List ℕ → Option (List ℕ) → FinishedExchange
 made_of cause n x host secret = kept_of cause n secret (exchange_hash n.kex x host secret)
 
--- the names behind a guess that was dropped; a server marks it
-abbrev pub marks_guess : Side → Bool
-marks_guess Client = false
-marks_guess Server = true
-
-abbrev pub behind_guess : Side → Names → Names
-behind_guess side n = record n { ignore_guessed = false; guessed_ignored = marks_guess side }
+-- the names behind a guess that was dropped, which is marked
+abbrev pub behind_guess : Names → Names
+behind_guess n = record n { ignore_guessed = false; guessed_ignored = true }
 
 -- the names of the record, of those that were read
-abbrev pub held_names : Side → Names → Names
-held_names side n = if n.ignore_guessed then behind_guess side n else n
+abbrev pub held_names : Names → Names
+held_names n = if n.ignore_guessed then behind_guess n else n
 
 -- the lengths of a group and the numbers of its sizes
 pub record IsShortGroup (g : GexChosen) : Type 0 where

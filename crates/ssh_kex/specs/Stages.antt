@@ -193,23 +193,23 @@ Skips s (AwaitsNewkeys exchange made host) seqn payload written x m h = ⊥
 -- the stages in which a wrong guess is dropped
 abbrev pub drops_guess : Stage → Bool
 drops_guess (Created own) = false
-drops_guess (AwaitsGroup o) = false
+drops_guess (AwaitsGroup o) = o.names.ignore_guessed
 drops_guess (AwaitsReply o gex local public) = o.names.ignore_guessed
-drops_guess (AwaitsRequest o) = false
+drops_guess (AwaitsRequest o) = o.names.ignore_guessed
 drops_guess (AwaitsValue o gex) = o.names.ignore_guessed
 drops_guess (AwaitsNewkeys exchange made host) = false
 
-abbrev pub without_guess : Side → Opened → Opened
-without_guess side o = record o { names = behind_guess side o.names }
+abbrev pub without_guess : Opened → Opened
+without_guess o = record o { names = behind_guess o.names }
 
 -- the stage behind it
-abbrev pub guess_dropped : Side → Stage → Stage
-guess_dropped side (Created own) = Created own
-guess_dropped side (AwaitsGroup o) = AwaitsGroup o
-guess_dropped side (AwaitsReply o gex local public) = AwaitsReply (without_guess side o) gex local public
-guess_dropped side (AwaitsRequest o) = AwaitsRequest o
-guess_dropped side (AwaitsValue o gex) = AwaitsValue (without_guess side o) gex
-guess_dropped side (AwaitsNewkeys exchange made host) = AwaitsNewkeys exchange made host
+abbrev pub guess_dropped : Stage → Stage
+guess_dropped (Created own) = Created own
+guess_dropped (AwaitsGroup o) = AwaitsGroup (without_guess o)
+guess_dropped (AwaitsReply o gex local public) = AwaitsReply (without_guess o) gex local public
+guess_dropped (AwaitsRequest o) = AwaitsRequest (without_guess o)
+guess_dropped (AwaitsValue o gex) = AwaitsValue (without_guess o) gex
+guess_dropped (AwaitsNewkeys exchange made host) = AwaitsNewkeys exchange made host
 
 -- ---- what a machine tells
 

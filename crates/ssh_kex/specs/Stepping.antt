@@ -97,7 +97,7 @@ once_unless dropped = if dropped then 0 else 1
 
 abbrev pub asks_agreement : Side → Stage → Option Stage → ℕ
 asks_agreement side (Created own) next = at_kexinit side next
-asks_agreement side (AwaitsGroup o) next = 1
+asks_agreement side (AwaitsGroup o) next = once_unless o.names.ignore_guessed
 asks_agreement side (AwaitsReply o gex local public) next = once_unless o.names.ignore_guessed
 asks_agreement side (AwaitsRequest o) next = 0
 asks_agreement side (AwaitsValue o gex) next = once_unless o.names.ignore_guessed
@@ -116,7 +116,7 @@ abbrev pub asks_groups : Stage → ℕ
 asks_groups (Created own) = 0
 asks_groups (AwaitsGroup o) = 0
 asks_groups (AwaitsReply o gex local public) = 0
-asks_groups (AwaitsRequest o) = 1
+asks_groups (AwaitsRequest o) = once_unless o.names.ignore_guessed
 asks_groups (AwaitsValue o gex) = 0
 asks_groups (AwaitsNewkeys exchange made host) = 0
 
@@ -145,7 +145,7 @@ PutsAll old (p ∷ payloads) new = (mid : Writer) × Puts old p mid × PutsAll m
 -- a machine after a wrong guess, of which nothing is written
 pub record DropsGuess (m : Machine) (old : Writer) (kex : Machine) (reset : Bool) (new : Writer) : Type 0 where
   pub drops : drops_guess m.stage ≡ true
-  pub kex_is : kex ≡ record m { stage = guess_dropped m.setting.side m.stage }
+  pub kex_is : kex ≡ record m { stage = guess_dropped m.stage }
   pub reset_is : reset ≡ false
   pub same : SameButRoom old new
 
@@ -166,8 +166,8 @@ pub record IsNewKeys (side : Side) (x : Exchange) (made : FinishedExchange) (k :
   pub hash_is : k.hash ≡ made.hash
   pub session_is : k.session_id ≡ made.session_id
   pub keys_is : k.keys ≡ made.keys
-  pub seals : sealing_of k.cipher.local_to_remote ≡ sealing_after side made.names made.keys
-  pub opens : opening_of k.cipher.remote_to_local ≡ sealing_after (other_side side) made.names made.keys
+  pub seals : sealing_of k.cipher.value.local_to_remote ≡ sealing_after side made.names made.keys
+  pub opens : opening_of k.cipher.value.remote_to_local ≡ sealing_after (other_side side) made.names made.keys
 
 -- the end of an exchange: at the peer's NEWKEYS, or at once where no exchange of values was chosen
 pub record IsDone (m : Machine) (i : Incoming) (old : Writer) (host : Option ServerHost) (k : NewKeys) (new : Writer) : Type 0 where

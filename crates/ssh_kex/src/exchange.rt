@@ -170,7 +170,8 @@ pub struct NewKeys {
     pub hash: HashValue,
     pub session_id: HashValue,
     pub keys: Keys,
-    pub cipher: CipherPair,
+    /// Boxed, so that a machine and what it hands out are short to move.
+    pub cipher: Box<CipherPair>,
 }
 
 /// What is kept of an exchange.

@@ -1,9 +1,9 @@
 //! The peer's KEXINIT (RFC 4253 section 7.1).
 
-ghost use Rattle.std.specs.Prelude.{IfOk, IfErr};
+ghost use Rattle.std.specs.Prelude.{◌≡◌, IfOk, IfErr};
 ghost use Rattle.ssh_wire.specs.declared.side.Side.TheVariants.{Client as client_side, Server as server_side};
 ghost use Rattle.ssh_kex.specs.Opening.{IsLateWhere, Reads, RefusesNames};
-ghost use Rattle.ssh_kex.specs.Setting.{offers_of};
+ghost use Rattle.ssh_kex.specs.Setting.{behind_guess, offers_of};
 
 use crate::config::Config;
 use crate::message::has_type;
@@ -92,4 +92,15 @@ pub fn server_names(
         });
     }
     Ok(names)
+}
+
+/// The names of a KEXINIT behind its wrong guess, which was dropped.
+pub fn names_behind_guess(names: Names) -> Names
+    ensures { result ≡ behind_guess names }
+{
+    Names {
+        ignore_guessed: false,
+        guessed_ignored: true,
+        ..names
+    }
 }

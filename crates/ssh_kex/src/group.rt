@@ -5,7 +5,7 @@ ghost use Rattle.ssh_wire.specs.Fields.{TakesForm};
 ghost use Rattle.ssh_wire.specs.declared.error.Error.TheVariants.{Memory, InvalidConfig};
 ghost use Rattle.ssh_wire.specs.declared.error.ConfigFault.TheVariants.{GroupSizes};
 ghost use Rattle.ssh_kex.specs.Messages.{bit_size, byte_digits, sizes_text};
-ghost use Rattle.ssh_kex.specs.Refusals.{sizes_front};
+ghost use Rattle.ssh_kex.specs.Fields.{sizes_front};
 
 use ssh_wire::{Blob, ConfigFault, EncodingFault, Error, Reader, mpint_parts, put_u32};
 use std::alloc::Global;

@@ -16,13 +16,14 @@ use ssh_mac::HashValue;
 use ssh_negotiate::{KexCause, Names};
 use ssh_packet::{CipherPair, PacketWriter};
 use ssh_wire::{EncodingFault, Error, msg};
+use std::alloc::Global;
 
 /// The peer's NEWKEYS, which is the end. Kex where it is another message, SshEncoding(TrailingData) where more follows.
 pub fn last<K>(
     exchange: Exchange,
     host: Option<ServerHost>,
     made: FinishedExchange,
-    cipher: CipherPair,
+    cipher: Box<CipherPair>,
     payload: &[u8],
 ) -> Result<KexProgress<K>, Error>
     ensures { Lasts exchange host made cipher payload.now result }
@@ -46,6 +47,7 @@ pub fn last<K>(
 
 /// The end of an exchange of no values: NEWKEYS is sent, and the hash is empty. Memory leaves the output as it was.
 pub fn end_at_once<K, R: Rng>(
+    alloc: Global,
     algorithm: &KexAlgorithm,
     cause: &KexCause,
     exchange: Exchange,
@@ -60,7 +62,14 @@ pub fn end_at_once<K, R: Rng>(
     ensures err { IfErr result (λ e. e ≡ Memory) }
     ensures unchanged { OnErr result (SameButRoom output.old output.new) }
 {
-    let (made, cipher) = finish(algorithm, cause, names, HashValue::empty(), is_server);
+    let (made, cipher) = finish(
+        alloc,
+        algorithm,
+        cause,
+        names,
+        HashValue::empty(),
+        is_server,
+    )?;
     match put_message(output, rng, &[msg::NEWKEYS]) {
         Ok(()) => Ok(KexProgress::Done {
             server_host: None,
@@ -77,17 +86,19 @@ pub fn end_at_once<K, R: Rng>(
     }
 }
 
-/// What is kept of an exchange whose hash is known, and what is sealed and opened with behind it.
+/// What is kept of an exchange whose hash is known, and what is sealed and opened with behind it. Memory.
 pub fn finish(
+    alloc: Global,
     algorithm: &KexAlgorithm,
     cause: &KexCause,
     names: Names,
     hash: HashValue,
     is_server: bool,
-) -> (FinishedExchange, CipherPair)
+) -> Result<(FinishedExchange, Box<CipherPair>), Error>
     requires { algorithm.now.name ≡ names.kex }
-    ensures made { result.0 ≡ kept_of cause.now names algorithm.now.secret hash }
-    ensures keys { HasKeys (side_if is_server) result.0 result.1 }
+    ensures made { IfOk result (λ r. r.0 ≡ kept_of cause.now names algorithm.now.secret hash) }
+    ensures keys { IfOk result (λ r. HasKeys (side_if is_server) r.0 r.1) }
+    ensures err { IfErr result (λ e. e ≡ Memory) }
 {
     let session_id = match cause {
         KexCause::Initial => hash,
@@ -100,5 +111,5 @@ pub fn finish(
         session_id,
         keys: new.keys,
     };
-    (made, new.cipher)
+    Ok((made, Box::new(alloc, new.cipher)?))
 }

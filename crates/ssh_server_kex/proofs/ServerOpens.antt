@@ -1,6 +1,7 @@
 -- A client's KEXINIT and its NEWKEYS are rows of a server's machine.
 use Rattle.std.proofs.Common.{◌≡◌, ℕ, ◌<◌, ◌^◌, List, [], ◌∷◌, length, refl, sym, ap, subst, ◌∙◌, Bool, true, false, Option, Some, None, is_some, Result, Ok, Err, inl, inr}
 use Rattle.std.specs.Prelude.{IfErr, IfOk, IfSome}
+use Rattle.std.specs.Global.{Box}
 use Rattle.ssh_negotiate.specs.Causes.{was_strict}
 use Rattle.ssh_negotiate.specs.Tables.{shape_of}
 use Rattle.ssh_negotiate.specs.declared.kex.KexCause.{KexCause}
@@ -186,7 +187,7 @@ begins_value false false config cause x n w s e = (refl, refl)
 
 -- ---- NEWKEYS
 
-pub ended : (says : Says) (config : Config) (cause : KexCause) (x : Exchange) (state : ServerState) (m : Machine) (made : FinishedExchange) (cipher : CipherPair) (i : Incoming) (w : Writer) (r : Result (KexProgress Machine) Error) → server_machine config cause x state ≡ m → state ≡ states.AwaitsNewkeys made cipher → HasKeys Server made cipher → Lasts x None made cipher i.payload.now r → IfOk r (λ p. Progresses says m (Some i) w p w)
+pub ended : (says : Says) (config : Config) (cause : KexCause) (x : Exchange) (state : ServerState) (m : Machine) (made : FinishedExchange) (cipher : Box CipherPair) (i : Incoming) (w : Writer) (r : Result (KexProgress Machine) Error) → server_machine config cause x state ≡ m → state ≡ states.AwaitsNewkeys made cipher → HasKeys Server made cipher → Lasts x None made cipher i.payload.now r → IfOk r (λ p. Progresses says m (Some i) w p w)
 ended says config cause x state m made cipher i w r v s keys h =
     let same = ap (server_machine config cause x) (sym s) ∙ v in
     last_done says Server m i w x None made cipher r (ap (λ (k : Machine). k.stage) (sym same)) (ap (λ (k : Machine). k.setting.side) (sym same)) keys h

@@ -1,5 +1,5 @@
 -- What a server's rows refuse is what its stages refuse.
-use Rattle.std.proofs.Common.{◌≡◌, ◌∙◌, ap, refl, sym, subst, Bool, true, false, Some, Result, Ok, Err, inl, inr}
+use Rattle.std.proofs.Common.{◌≡◌, ◌∙◌, ap, refl, sym, subst, false, Some, Result, Ok, Err, inl, inr}
 use Rattle.std.specs.Prelude.{IfErr}
 use Rattle.ssh_negotiate.specs.declared.kex.KexCause.{KexCause}
 use Rattle.ssh_negotiate.specs.declared.negotiation.Names.{Names}
@@ -7,9 +7,9 @@ use Rattle.ssh_packet.specs.declared.reader.Incoming.{Incoming}
 use Rattle.ssh_wire.specs.declared.error.Error.{Error}
 use Rattle.ssh_kex.specs.Messages.{is_gex}
 use Rattle.ssh_kex.specs.Refusals.{Denies}
-use Rattle.ssh_server_kex.specs.ServerAnswers.{RefusesClient, RefusesKexinit}
+use Rattle.ssh_server_kex.specs.ServerAnswers.{RefusesKexinit}
 use Rattle.ssh_server_kex.specs.ServerRows.{IsLongAnswer, RefusesRequest, RefusesValue}
-use Rattle.ssh_server_kex.specs.ServerViews.{server_machine}
+use Rattle.ssh_server_kex.specs.ServerViews.{drops_guess, server_machine}
 use Rattle.ssh_kex.specs.Setting.{Says, group_of}
 use Rattle.ssh_kex.specs.Stages.{Machine}
 use Rattle.ssh_kex.specs.Stepping.{RefusesStep}
@@ -19,6 +19,7 @@ use Rattle.ssh_kex.specs.declared.progress.KexProgress.{KexProgress}
 use Rattle.ssh_server_kex.specs.declared.server_kex.ServerState.{ServerState}
 use Rattle.ssh_server_kex.specs.declared.server_kex.ServerState.TheVariants as states
 use Rattle.ssh_kex.proofs.Lemmas.{refuses_names}
+use Rattle.ssh_server_kex.proofs.ServerSteps.{kept_request, kept_value}
 
 -- a machine at a state that is known
 step_refuses : (says : Says) (denies : Denies) (config : Config) (cause : KexCause) (x : Exchange) (state known : ServerState) (m : Machine) (i : Incoming) (e : Error) → server_machine config cause x state ≡ m → state ≡ known → RefusesStep says denies (server_machine config cause x known) (Some i) e → RefusesStep says denies m (Some i) e
@@ -48,24 +49,24 @@ opening_refused says denies config cause x state m i (Err e) view is h =
 
 -- ---- the sizes that a client asks for
 
-request_refuses : (says : Says) (denies : Denies) (config : Config) (cause : KexCause) (x : Exchange) (n : Names) (i : Incoming) (e : Error) → RefusesRequest says.finds denies.lookup i.payload.now e → RefusesStep says denies (server_machine config cause x (states.AwaitsRequest n)) (Some i) e
-request_refuses says denies config cause x n i e h = by h where
+request_refuses : (says : Says) (denies : Denies) (config : Config) (cause : KexCause) (x : Exchange) (n : Names) (i : Incoming) (e : Error) → n.ignore_guessed ≡ false → RefusesRequest says.finds denies.lookup i.payload.now e → RefusesStep says denies (server_machine config cause x (states.AwaitsRequest n)) (Some i) e
+request_refuses says denies config cause x n i e kept h = by h where
   refused : Error → Type 0
   refused error = RefusesStep says denies (server_machine config cause x (states.AwaitsRequest n)) (Some i) error
 
   by : RefusesRequest says.finds denies.lookup i.payload.now e → refused e
-  by (inl (inl (t, m))) = subst refused (sym m) (inl (refl, record { kept = refl; type_is = t }))
-  by (inl (inr (t, (fault, read, m)))) = subst refused (sym m) (record { kept = refl; type_is = t }, read)
+  by (inl (inl (t, m))) = subst refused (sym m) (inl (refl, record { kept = kept; type_is = t }))
+  by (inl (inr (t, (fault, read, m)))) = subst refused (sym m) (record { kept = kept; type_is = t }, read)
   by (inr (inl (t, (sizes, read, denied), m))) =
-      subst refused (sym m) (inr (record { kept = refl; type_is = t }, record { sizes = sizes; read = read; denied = denied }))
+      subst refused (sym m) (inr (record { kept = kept; type_is = t }, record { sizes = sizes; read = read; denied = denied }))
   by (inr (inr (inl (t, (size, l, k, m))))) =
-      subst refused (sym m) (record { kept = refl; type_is = t }, l, record { sizes = k.sizes; group = k.group; read = k.read; finds = k.finds; size = k.size })
+      subst refused (sym m) (record { kept = kept; type_is = t }, l, record { sizes = k.sizes; group = k.group; read = k.read; finds = k.finds; size = k.size })
   by (inr (inr (inr m))) = subst refused (sym m) tt
 
-pub request_refused : (says : Says) (denies : Denies) (config : Config) (cause : KexCause) (x : Exchange) (state : ServerState) (m : Machine) (n : Names) (i : Incoming) (r : Result (KexProgress Machine) Error) → server_machine config cause x state ≡ m → state ≡ states.AwaitsRequest n → IfErr r (RefusesRequest says.finds denies.lookup i.payload.now) → IfErr r (λ e. RefusesStep says denies m (Some i) e)
-request_refused says denies config cause x state m n i (Ok p) view is h = tt
-request_refused says denies config cause x state m n i (Err e) view is h =
-    step_refuses says denies config cause x state (states.AwaitsRequest n) m i e view is (request_refuses says denies config cause x n i e h)
+pub request_refused : (says : Says) (denies : Denies) (config : Config) (cause : KexCause) (x : Exchange) (state : ServerState) (m : Machine) (n : Names) (i : Incoming) (r : Result (KexProgress Machine) Error) → server_machine config cause x state ≡ m → state ≡ states.AwaitsRequest n → drops_guess state ≡ false → IfErr r (RefusesRequest says.finds denies.lookup i.payload.now) → IfErr r (λ e. RefusesStep says denies m (Some i) e)
+request_refused says denies config cause x state m n i (Ok p) view is kept h = tt
+request_refused says denies config cause x state m n i (Err e) view is kept h =
+    step_refuses says denies config cause x state (states.AwaitsRequest n) m i e view is (request_refuses says denies config cause x n i e (kept_request n state is kept) h)
 
 -- ---- a client's value
 
@@ -102,15 +103,9 @@ value_refuses says denies config cause x n i e kept h = by h where
       )
   by (inr (t, inr (inr (inr m)))) = subst refused (sym m) tt
 
-client_refuses : (b : Bool) (says : Says) (denies : Denies) (config : Config) (cause : KexCause) (x : Exchange) (n : Names) (i : Incoming) (e : Error) → n.ignore_guessed ≡ b
-    → RefusesClient b (is_gex n.kex) (denies.value n.kex (group_of x.gex)) denies.sign (IsLongAnswer (says.server_makes n.kex (group_of x.gex)) says.value_small says.signature_small config n i.payload.now) i.payload.now e
-    → RefusesStep says denies (server_machine config cause x (states.AwaitsValue n)) (Some i) e
-client_refuses true says denies config cause x n i e drops h = absurd h
-client_refuses false says denies config cause x n i e kept h = value_refuses says denies config cause x n i e kept h
-
-pub value_refused : (says : Says) (denies : Denies) (config : Config) (cause : KexCause) (x : Exchange) (state : ServerState) (m : Machine) (n : Names) (i : Incoming) (r : Result (KexProgress Machine) Error) → server_machine config cause x state ≡ m → state ≡ states.AwaitsValue n
-    → IfErr r (RefusesClient n.ignore_guessed (is_gex n.kex) (denies.value n.kex (group_of x.gex)) denies.sign (IsLongAnswer (says.server_makes n.kex (group_of x.gex)) says.value_small says.signature_small config n i.payload.now) i.payload.now)
+pub value_refused : (says : Says) (denies : Denies) (config : Config) (cause : KexCause) (x : Exchange) (state : ServerState) (m : Machine) (n : Names) (i : Incoming) (r : Result (KexProgress Machine) Error) → server_machine config cause x state ≡ m → state ≡ states.AwaitsValue n → drops_guess state ≡ false
+    → IfErr r (RefusesValue (is_gex n.kex) (denies.value n.kex (group_of x.gex)) denies.sign (IsLongAnswer (says.server_makes n.kex (group_of x.gex)) says.value_small says.signature_small config n i.payload.now) i.payload.now)
     → IfErr r (λ e. RefusesStep says denies m (Some i) e)
-value_refused says denies config cause x state m n i (Ok p) view is h = tt
-value_refused says denies config cause x state m n i (Err e) view is h =
-    step_refuses says denies config cause x state (states.AwaitsValue n) m i e view is (client_refuses n.ignore_guessed says denies config cause x n i e refl h)
+value_refused says denies config cause x state m n i (Ok p) view is kept h = tt
+value_refused says denies config cause x state m n i (Err e) view is kept h =
+    step_refuses says denies config cause x state (states.AwaitsValue n) m i e view is (value_refuses says denies config cause x n i e (kept_value n state is kept) h)

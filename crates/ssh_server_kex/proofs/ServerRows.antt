@@ -5,6 +5,7 @@ use Rattle.std.proofs.lemmas.List.{take_all}
 use Rattle.std.proofs.lemmas.List.Elements.{All-head, All-tail}
 use Rattle.std.specs.List.{All}
 use Rattle.std.specs.Str.{bytes_eq}
+use Rattle.std.specs.Global.{Box}
 use Rattle.ssh_negotiate.specs.Advertised.{fits, has_key}
 use Rattle.ssh_negotiate.specs.Preferences.{Hosts}
 use Rattle.ssh_negotiate.specs.declared.kex.KexCause.{KexCause}
@@ -26,7 +27,7 @@ use Rattle.ssh_wire.specs.declared.side.Side.TheVariants.{Server}
 use Rattle.ssh_kex.specs.Exchange.{exchange_hash}
 use Rattle.ssh_kex.specs.Messages.{Presented, by_certificate, by_holder, by_key, host_with, is_gex, newkeys, presented, reply_message, request_message, sizes_text, value_message}
 use Rattle.ssh_kex.specs.Parts.{Presents, Setup}
-use Rattle.ssh_kex.specs.Refusals.{sizes_front, sizes_in, value_in}
+use Rattle.ssh_kex.specs.Fields.{sizes_front, sizes_in, value_in}
 use Rattle.ssh_server_kex.specs.ServerRows.{AgreesOn, AnswersValue, AreShortBlobs, CanAnswer, IsLongAnswer, RefusesAnswer, RefusesSizes, RefusesText, RefusesValue}
 use Rattle.ssh_kex.specs.Setting.{kept_of}
 use Rattle.ssh_kex.specs.Signature.{judged}
@@ -182,7 +183,7 @@ signs_it Makes Obliging config n p hash signature made shown s e o =
     subst (λ z. Makes z (host_with n p.blob) hash signature) e
     (made s (host_with n p.blob) o (record { shown = ap (λ (z : Config). presented z.host n.host_key_is_certificate n.key) e ∙ sym shown; same = refl }))
 
-pub value_done : (Made : List ℕ → List ℕ → Type 0) (Makes : List ℕ → Type 0) (Agrees : List ℕ → List ℕ → List ℕ → Type 0) (Signs : ServerHost → List ℕ → List ℕ → Type 0) (config : Config) (cause : KexCause) (n : Names) (x y : Exchange) (payload : List ℕ) (old new : Writer) (f : FinishedExchange × CipherPair)
+pub value_done : (Made : List ℕ → List ℕ → Type 0) (Makes : List ℕ → Type 0) (Agrees : List ℕ → List ℕ → List ℕ → Type 0) (Signs : ServerHost → List ℕ → List ℕ → Type 0) (config : Config) (cause : KexCause) (n : Names) (x y : Exchange) (payload : List ℕ) (old new : Writer) (f : FinishedExchange × Box CipherPair)
     (k : Agreeing) (p : Presented) (value copy host hash signature shown own sent reply : List ℕ) (gex : Bool)
     → gex ≡ is_gex n.kex → payload ≡ value_message gex value → length value < 2 ^ 31 → CanAnswer config n x
     → AgreesOn Made n.kex (record x { client_ephemeral = copy }) y k → copy ≡ value

@@ -1,20 +1,19 @@
 -- A server's rows, each with the machine behind it.
-use Rattle.std.specs.Prelude.{◌≡◌, ℕ, ◌||◌, Bool, true, false, List, Some, ◌⊎◌}
+use Rattle.std.specs.Prelude.{◌≡◌, ℕ, ◌||◌, false, List, Some, ◌⊎◌}
+use Rattle.std.specs.Global.{Box}
 use Rattle.ssh_negotiate.specs.Causes.{was_strict}
 use Rattle.ssh_negotiate.specs.Tables.{shape_of}
 use Rattle.ssh_negotiate.specs.declared.kex.KexCause.{KexCause}
 use Rattle.ssh_negotiate.specs.declared.kex.Name as kexes
 use Rattle.ssh_negotiate.specs.declared.negotiation.Names.{Names}
-use Rattle.ssh_packet.specs.Writing.{SameButRoom, Writer}
+use Rattle.ssh_packet.specs.Writing.{Writer}
 use Rattle.ssh_packet.specs.declared.keys.CipherPair.{CipherPair}
 use Rattle.ssh_packet.specs.declared.reader.Incoming.{Incoming}
 use Rattle.ssh_wire.specs.declared.error.Error.{Error}
 use Rattle.ssh_wire.specs.declared.error.Error.TheVariants.{Memory}
-use Rattle.ssh_wire.specs.declared.side.Side.TheVariants.{Server}
 use Rattle.ssh_kex.specs.Messages.{is_gex}
-use Rattle.ssh_server_kex.specs.ServerRows.{AnswersRequest, AnswersValue, OpensServer, RefusesOpening, RefusesValue}
+use Rattle.ssh_server_kex.specs.ServerRows.{AnswersRequest, AnswersValue, OpensServer, RefusesOpening}
 use Rattle.ssh_server_kex.specs.ServerViews.{Begins, server_machine}
-use Rattle.ssh_kex.specs.Setting.{behind_guess}
 use Rattle.ssh_kex.specs.Stages.{Machine}
 use Rattle.ssh_kex.specs.declared.config.Config.{Config}
 use Rattle.ssh_kex.specs.declared.exchange.Exchange.{Exchange}
@@ -51,19 +50,6 @@ pub record AnswersClient (Makes : List ℕ → Type 0) (Agrees : List ℕ → Li
     → List ℕ → List ℕ
     → Type 0) (config : Config) (cause : KexCause) (x : Exchange) (n : Names) (payload : List ℕ) (p : KexProgress Machine) (w w' : Writer) : Type 0 where
   pub exchange : Exchange
-  pub made : FinishedExchange × CipherPair
+  pub made : FinishedExchange × Box CipherPair
   pub answers : AnswersValue Makes Agrees Signs config cause n x exchange payload w w' made
   pub done : p ≡ NeedsReply (server_machine config cause exchange (states.AwaitsNewkeys made.0 made.1)) (made.0.names.strict_kex || was_strict cause)
-
--- a wrong guess is dropped
-abbrev pub AnswersOrDrops : Bool → (List ℕ → Type 0) → (List ℕ → List ℕ → List ℕ → Type 0)
-    → (ServerHost → List ℕ → List ℕ → Type 0) → Config → KexCause → Exchange → Names → List ℕ → KexProgress Machine
-    → Writer → Writer → Type 0
-AnswersOrDrops true Makes Agrees Signs config cause x n payload p w w' =
-    (p ≡ NeedsReply (server_machine config cause x (states.AwaitsValue (behind_guess Server n))) false)
-    × SameButRoom w w'
-AnswersOrDrops false Makes Agrees Signs config cause x n payload p w w' = AnswersClient Makes Agrees Signs config cause x n payload p w w'
-
-abbrev pub RefusesClient : Bool → Bool → (List ℕ → Type 0) → Type 0 → (ℕ → Type 0) → List ℕ → Error → Type 0
-RefusesClient true gex Denied Unsigned Long payload error = ⊥
-RefusesClient false gex Denied Unsigned Long payload error = RefusesValue gex Denied Unsigned Long payload error

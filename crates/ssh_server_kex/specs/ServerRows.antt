@@ -1,6 +1,7 @@
 -- A server's rows: what each of its functions answers, over the function's own arguments.
 use Rattle.std.specs.Prelude.{◌≡◌, ℕ, ◌<◌, ◌^◌, Bool, false, List, [], ◌∷◌, length, drop, is_some, Option, Some, None, IfSome, ◌⊎◌, Ok, Err}
 use Rattle.std.specs.List.{All}
+use Rattle.std.specs.Global.{Box}
 use Rattle.ssh_negotiate.specs.Preferences.{Hosts}
 use Rattle.ssh_negotiate.specs.Tables.{shape_of}
 use Rattle.ssh_negotiate.specs.declared.kex.KexCause.{KexCause}
@@ -20,7 +21,7 @@ use Rattle.ssh_kex.specs.Agreeing.{Agreeing}
 use Rattle.ssh_kex.specs.Views.{HasKeys}
 use Rattle.ssh_kex.specs.Messages.{Presented, group_message, host_with, is_gex, newkeys, presented, reply_message, request_message, value_message}
 use Rattle.ssh_kex.specs.Opening.{Reads, RefusesNames}
-use Rattle.ssh_kex.specs.Refusals.{sizes_in, value_in}
+use Rattle.ssh_kex.specs.Fields.{sizes_in, value_in}
 use Rattle.ssh_kex.specs.Setting.{IsShortGroup, group_of, made_of, offers_of}
 use Rattle.ssh_kex.specs.Signature.{judged}
 use Rattle.ssh_kex.specs.Stepping.{Puts, PutsAll}
@@ -99,7 +100,7 @@ pub record AgreesOn (Made : List ℕ → List ℕ → Type 0) (name : kexes.Name
 
 -- the value, what was agreed on and signed, and what was written
 pub record AnswersValue (Makes : List ℕ → Type 0) (Agrees : List ℕ → List ℕ → List ℕ → Type 0) (Signs : ServerHost
-    → List ℕ → List ℕ → Type 0) (config : Config) (cause : KexCause) (n : Names) (x y : Exchange) (payload : List ℕ) (old new : Writer) (made : FinishedExchange × CipherPair) : Type 0 where
+    → List ℕ → List ℕ → Type 0) (config : Config) (cause : KexCause) (n : Names) (x y : Exchange) (payload : List ℕ) (old new : Writer) (made : FinishedExchange × Box CipherPair) : Type 0 where
   pub value : List ℕ
   pub own_value : List ℕ
   pub secret : List ℕ

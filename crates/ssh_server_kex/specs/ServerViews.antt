@@ -9,6 +9,7 @@ use Rattle.ssh_packet.specs.Writing.{SameButRoom, Writer}
 use Rattle.ssh_kex.specs.Views.{EndsAtOnce, HasKeys}
 use Rattle.ssh_kex.specs.Messages.{Presented, is_gex, presented}
 use Rattle.ssh_server_kex.specs.ServerRows.{AreShortBlobs, CanAnswer}
+use Rattle.ssh_kex.specs.Setting as opening
 use Rattle.ssh_kex.specs.Setting.{Opened, offers_of}
 use Rattle.ssh_kex.specs.Stages.{Machine, Stage, Created, AwaitsRequest, AwaitsValue, AwaitsNewkeys}
 use Rattle.ssh_kex.specs.declared.config.Config.{Config}
@@ -32,6 +33,19 @@ server_machine config cause x state = record {
   setting = record { side = Server; config = config; client_id = x.client_id; server_id = x.server_id; cause = cause };
   stage = server_stage x state;
 }
+
+-- whether the next message is a wrong guess, and the state behind it
+abbrev pub drops_guess : ServerState → Bool
+drops_guess states.Created = false
+drops_guess (states.AwaitsRequest names) = names.ignore_guessed
+drops_guess (states.AwaitsValue names) = names.ignore_guessed
+drops_guess (states.AwaitsNewkeys made cipher) = false
+
+abbrev pub behind_guess : ServerState → ServerState
+behind_guess states.Created = states.Created
+behind_guess (states.AwaitsRequest names) = states.AwaitsRequest (opening.behind_guess names)
+behind_guess (states.AwaitsValue names) = states.AwaitsValue (opening.behind_guess names)
+behind_guess (states.AwaitsNewkeys made cipher) = states.AwaitsNewkeys made cipher
 
 -- before the peer's KEXINIT
 pub record IsFresh (config : Config) (x : Exchange) : Type 0 where

@@ -7,7 +7,7 @@ ghost use Rattle.ssh_wire.specs.Outside.{Rose};
 ghost use Rattle.ssh_wire.specs.declared.error.Error.TheVariants.{Memory};
 ghost use Rattle.ssh_kex.specs.Messages.{IsCanonical, group_message, request_message};
 ghost use Rattle.ssh_kex.specs.Parts.{KeepsGroups, Setup};
-ghost use Rattle.ssh_kex.specs.Refusals.{sizes_in};
+ghost use Rattle.ssh_kex.specs.Fields.{sizes_in};
 ghost use Rattle.ssh_server_kex.specs.ServerRows.{AnswersRequest, RefusesRequest, RefusesSizes};
 ghost use Rattle.ssh_kex.specs.Stepping.{Puts};
 

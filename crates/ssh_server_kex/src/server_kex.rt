@@ -14,19 +14,20 @@ ghost use Rattle.ssh_wire.specs.Lines.{id_text};
 ghost use Rattle.ssh_wire.specs.declared.error.Error.TheVariants.{Memory};
 ghost use Rattle.ssh_wire.specs.declared.side.Side.TheVariants.{Server as server_side};
 ghost use Rattle.ssh_kex.specs.Parts.{IsSmall, KeepsAgreement, KeepsGroups, KeepsHosts, Setup};
-ghost use Rattle.ssh_server_kex.specs.ServerRows.{AreShortBlobs, CanAnswer, IsLongAnswer, PutsAtMostReply, RefusesRequest};
-ghost use Rattle.ssh_server_kex.specs.ServerAnswers.{AnswersOpening, AnswersOrDrops, AnswersSizes, RefusesClient, RefusesKexinit};
+ghost use Rattle.ssh_server_kex.specs.ServerRows.{AreShortBlobs, CanAnswer, IsLongAnswer, PutsAtMostReply, RefusesRequest, RefusesValue};
+ghost use Rattle.ssh_server_kex.specs.ServerAnswers.{AnswersClient, AnswersOpening, AnswersSizes, RefusesKexinit};
 ghost use Rattle.ssh_wire.specs.Outside.{Rose};
-ghost use Rattle.ssh_server_kex.specs.ServerViews.{Begins, CanAsk, CanBegin, IsFresh, ServerKeeps, server_machine};
-ghost use Rattle.ssh_kex.specs.Setting.{behind_guess, group_of, offers_of};
+ghost use Rattle.ssh_server_kex.specs.ServerViews.{Begins, CanAsk, CanBegin, IsFresh, ServerKeeps, behind_guess, drops_guess, server_machine};
+ghost use Rattle.ssh_kex.specs.Setting.{group_of, offers_of};
 ghost use Rattle.ssh_kex.specs.Stages.{Created as created_stage, has_ignored, is_strict, names_of};
 ghost use Rattle.ssh_kex.specs.declared.progress.KexProgress.TheVariants.{NeedsReply};
-ghost use Rattle.ssh_kex.specs.Stepping.{asks_agreement, asks_hosts, asks_groups, next_of, says_of, denies_of, once_unless, Progresses, RefusesStep, PutsFront};
+ghost use Rattle.ssh_kex.specs.Stepping.{asks_agreement, asks_hosts, asks_groups, next_of, says_of, denies_of, Progresses, RefusesStep, PutsFront};
 
 use crate::opening::open;
 use crate::request::answer_request;
 use crate::value::answer_value;
 use rand_core::Rng;
+use ssh_kex::first_message::names_behind_guess;
 use ssh_kex::kexinit_message::send_kexinit;
 use ssh_kex::last_message::{end_at_once, last};
 use ssh_kex::{
@@ -50,7 +51,7 @@ enum ServerState {
     },
     AwaitsNewkeys {
         made: FinishedExchange,
-        cipher: CipherPair,
+        cipher: Box<CipherPair>,
     },
 }
 
@@ -212,6 +213,10 @@ impl<'c> ServerKex<'c> {
             state,
             alloc,
         } = self;
+        if drops_guess(&state) {
+            let state = behind_guess(state);
+            return Ok(waits(alloc, config, cause, exchange, state, false));
+        }
         let payload = incoming.payload;
         match state {
             ServerState::Created => take_kexinit(
@@ -257,6 +262,33 @@ impl<'c> ServerKex<'c> {
             ),
             ServerState::AwaitsNewkeys { made, .. } => Some(made.names),
         }
+    }
+}
+
+/// Whether the next message is a wrong guess.
+fn drops_guess(state: &ServerState) -> bool
+    ensures { result ≡ drops_guess state.now }
+{
+    match state {
+        ServerState::AwaitsRequest { names } | ServerState::AwaitsValue { names } => {
+            names.ignore_guessed
+        }
+        ServerState::Created | ServerState::AwaitsNewkeys { .. } => false,
+    }
+}
+
+/// The state behind a wrong guess, which was dropped.
+fn behind_guess(state: ServerState) -> ServerState
+    ensures { result ≡ behind_guess state }
+{
+    match state {
+        ServerState::AwaitsRequest { names } => ServerState::AwaitsRequest {
+            names: names_behind_guess(names),
+        },
+        ServerState::AwaitsValue { names } => ServerState::AwaitsValue {
+            names: names_behind_guess(names),
+        },
+        ServerState::Created | ServerState::AwaitsNewkeys { .. } => state,
     }
 }
 
@@ -345,7 +377,7 @@ fn take_request<'c, G: GroupLookup, R: Rng>(
     }
 }
 
-/// A client's value; a wrong guess is dropped. As `answer_value`.
+/// A client's value. As `answer_value`.
 fn take_value<'c, A: Agreement, H: HostKeys, G, R: Rng>(
     alloc: Global,
     config: &'c Config,
@@ -363,16 +395,16 @@ fn take_value<'c, A: Agreement, H: HostKeys, G, R: Rng>(
     ensures hosts { KeepsHosts H.lawful H.obliging H.accepts H.trusts H.refused_sign H.refused_verify H.refused_check
         H.calls parts.old.hosts parts.new.hosts }
     ensures groups { parts.new.groups ≡ parts.old.groups }
-    ensures agreement_calls { A.calls parts.new.agreement ≤ A.calls parts.old.agreement + once_unless names.ignore_guessed }
-    ensures hosts_calls { H.calls parts.new.hosts ≤ H.calls parts.old.hosts + once_unless names.ignore_guessed }
-    ensures ok { IfOk result (λ p. AnswersOrDrops names.ignore_guessed
+    ensures agreement_calls { A.calls parts.new.agreement ≤ A.calls parts.old.agreement + 1 }
+    ensures hosts_calls { H.calls parts.new.hosts ≤ H.calls parts.old.hosts + 1 }
+    ensures ok { IfOk result (λ p. AnswersClient
         (λ v. (s : Setup) → A.lawful parts.old.agreement s → A.server_makes names.kex (group_of exchange.gex) v)
         (λ c v x. (s : Setup) → A.lawful parts.old.agreement s
         → A.agrees names.kex (group_of exchange.gex) c v x)
         (λ host hash signature. (s : Setup) → s.server ≡ config.now → H.obliging parts.old.hosts s
         → H.makes config.now host hash signature)
         config.now cause exchange names payload.now p output.old output.new) }
-    ensures causes { IfErr result (RefusesClient names.ignore_guessed (is_gex names.kex)
+    ensures causes { IfErr result (RefusesValue (is_gex names.kex)
         (λ c. Rose (A.refusals parts.old.agreement) (A.refusals parts.new.agreement) × ((s : Setup) (l : List ℕ)
         → A.obliging parts.old.agreement s → A.offered parts.old.agreement names.kex ≡ true
         → A.client_makes names.kex (group_of exchange.gex) l c → ⊥))
@@ -386,11 +418,6 @@ fn take_value<'c, A: Agreement, H: HostKeys, G, R: Rng>(
     ensures front { OnErr result (PutsAtMostReply (is_gex names.kex) output.old output.new) }
     ensures unchanged { IfErr result (λ e. (e ≡ Memory → ⊥) → SameButRoom output.old output.new) }
 {
-    if names.ignore_guessed {
-        let names = behind_guess(names);
-        let state = ServerState::AwaitsValue { names };
-        return Ok(waits(alloc, config, cause, exchange, state, false));
-    }
     let mut exchange = exchange;
     match answer_value(
         alloc,
@@ -430,7 +457,9 @@ fn begin<'c, R: Rng>(
 {
     let algorithm = KexAlgorithm::new(alloc, names.kex);
     if algorithm.skip_exchange() {
-        return end_at_once(&algorithm, &cause, exchange, names, true, rng, output);
+        return end_at_once(
+            alloc, &algorithm, &cause, exchange, names, true, rng, output,
+        );
     }
     if algorithm.is_dh_gex() {
         let state = ServerState::AwaitsRequest { names };
@@ -445,15 +474,4 @@ fn begins_again(made: &FinishedExchange, cause: &KexCause) -> bool
     ensures { result ≡ (made.now.names.strict_kex || was_strict cause.now) }
 {
     made.names.strict_kex || cause.is_strict_rekey()
-}
-
-/// The names behind a wrong guess.
-fn behind_guess(names: Names) -> Names
-    ensures { result ≡ behind_guess server_side names }
-{
-    Names {
-        ignore_guessed: false,
-        guessed_ignored: true,
-        ..names
-    }
 }

@@ -9,7 +9,7 @@ ghost use Rattle.ssh_wire.specs.Outside.{Rose};
 ghost use Rattle.ssh_wire.specs.declared.error.Error.TheVariants.{Kex, Memory};
 ghost use Rattle.ssh_kex.specs.Messages.{is_gex, newkeys, reply_message, value_message};
 ghost use Rattle.ssh_kex.specs.Parts.{IsSmall, KeepsAgreement, KeepsHosts, Setup};
-ghost use Rattle.ssh_kex.specs.Refusals.{value_in};
+ghost use Rattle.ssh_kex.specs.Fields.{value_in};
 ghost use Rattle.ssh_server_kex.specs.ServerRows.{AgreesOn, AnswersValue, CanAnswer, IsLongAnswer, PutsAtMostReply, RefusesText, RefusesValue};
 ghost use Rattle.ssh_kex.specs.Setting.{group_of};
 ghost use Rattle.ssh_kex.specs.Stepping.{Puts, PutsAll};
@@ -173,7 +173,7 @@ pub(crate) fn answer_value<A: Agreement, H: HostKeys, G, R: Rng>(
     exchange: &mut Exchange,
     payload: &[u8],
     output: &mut PacketWriter,
-) -> Result<(FinishedExchange, CipherPair), Error>
+) -> Result<(FinishedExchange, Box<CipherPair>), Error>
     requires can { CanAnswer config.now names.now exchange.old }
     requires short { length payload.now < 2 ^ 31 }
     ensures agreement { KeepsAgreement A.lawful A.obliging A.offered A.refusals A.calls parts.old.agreement
@@ -233,8 +233,9 @@ pub(crate) fn answer_value<A: Agreement, H: HostKeys, G, R: Rng>(
         exchange.server_ephemeral.as_slice(),
         signature.as_slice(),
     )?;
+    let ended = finish(alloc, &algorithm, cause, *names, hash, true)?;
     match send_reply(output, &mut parts.rng, reply.as_slice()) {
-        Ok(()) => Ok(finish(&algorithm, cause, *names, hash, true)),
+        Ok(()) => Ok(ended),
         Err(error) => Err(error),
     }
 }

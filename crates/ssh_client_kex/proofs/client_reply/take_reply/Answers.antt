@@ -1,11 +1,11 @@
-use Rattle.std.proofs.Common.{◌≡◌, true}
+use Rattle.std.proofs.Common.{◌≡◌, true, inl}
 use Rattle.ssh_wire.specs.Outside.{Rose}
 use Rattle.ssh_kex.specs.Parts.{Setup}
-use Rattle.ssh_client_kex.proofs.Replied.{refuses_signature, refuses_to_agree, reply_short, whole_reply}
+use Rattle.ssh_client_kex.proofs.Replied.{refuses_signature, reply_short, whole_reply}
 use Rattle.ssh_client_kex.proofs.client_reply.take_reply.Goals as goal
 
 pub returns-in-Err-clause-err : goal.returns-in-Err-clause-err
-returns-in-Err-clause-err g c = refuses_to_agree _ _ _ _ _ _ _ _ _ _ c.if-names.false c.in-Err.ensures.err
+returns-in-Err-clause-err g c = inl c.in-Err.ensures.err
 
 pub accept_reply-requires-clause-whole : goal.accept_reply-requires-clause-whole
 accept_reply-requires-clause-whole g c =
@@ -15,6 +15,6 @@ pub accept_reply-requires-clause-signature : goal.accept_reply-requires-clause-s
 accept_reply-requires-clause-signature g c = (reply_short _ _ _ _ _ _ _ c.requires.short c.in-Ok.ensures.ok).2
 
 pub returns-clause-err : goal.returns-clause-err
-returns-clause-err g c = refuses_signature _ _ _ _
+returns-clause-err g c = refuses_signature _ _ _
     (λ host hash signature. Rose (g.H.HostKeys.refused_verify c.args.hosts.now) (g.H.HostKeys.refused_verify c.accept_reply.new.hosts) × ((s : Setup) → g.H.HostKeys.obliging c.args.hosts.now s → g.H.HostKeys.accepts c.args.hosts.now host hash signature ≡ true → ⊥))
-    c.args.cause c.args.exchange c.args.names _ _ _ _ _ _ c.if-names.false c.in-Ok.ensures.ok c.accept_reply.ensures.err
+    c.args.cause c.args.exchange c.args.names _ _ _ _ _ _ c.in-Ok.ensures.ok c.accept_reply.ensures.err

@@ -1,6 +1,6 @@
 use Rattle.std.proofs.Common.{subst, inr}
 use Rattle.ssh_client_kex.specs.Reading.{ReadsGroup}
-use Rattle.ssh_kex.specs.Refusals.{group_in}
+use Rattle.ssh_kex.specs.Fields.{group_in}
 use Rattle.ssh_client_kex.proofs.Faults.{at_answer, no_prime, no_generator, group_behind, group_read}
 use Rattle.ssh_client_kex.proofs.fields.group_of.Goals as goal
 

@@ -1,6 +1,6 @@
 use Rattle.std.proofs.Common.{sym, ◌∙◌, ap}
 use Rattle.ssh_wire.specs.Fields.{answer_of}
-use Rattle.ssh_kex.specs.Refusals.{sizes_front}
+use Rattle.ssh_kex.specs.Fields.{sizes_front}
 use Rattle.ssh_server_kex.proofs.ServerRows.{behind, is_type, sizes_refused, sizes_trailing, request_is, sizes_there}
 use Rattle.ssh_server_kex.proofs.request.read_request.Goals as goal
 

@@ -2,17 +2,13 @@ use Rattle.std.proofs.Common.{◌∙◌, ap}
 use Rattle.ssh_server_kex.specs.ServerViews.{server_machine}
 use Rattle.ssh_kex.specs.declared.progress.KexProgress.TheVariants.{NeedsReply}
 use Rattle.ssh_server_kex.specs.declared.server_kex.ServerState.TheVariants as states
-use Rattle.ssh_server_kex.proofs.ServerSteps.{kept_answers, kept_refuses}
 use Rattle.ssh_server_kex.proofs.server_kex.take_value.Goals as goal
 
 pub returns-in-Ok-clause-ok : goal.returns-in-Ok-clause-ok
 returns-in-Ok-clause-ok g c =
-    kept_answers _ _ _ _ _ _ _ _ _ _ _ _ c.if-names.false (record {
+    record {
       exchange = c.answer_value.new.exchange;
       made = (c.in-Ok.made, c.in-Ok.cipher);
       answers = c.in-Ok.ensures.ok;
-      done = c.waits-in-Ok.ensures ∙ ap (NeedsReply (server_machine c.args.config.now c.args.cause c.answer_value.new.exchange (states.AwaitsNewkeys c.in-Ok.made c.in-Ok.cipher))) c.begins_again-is_strict.ensures;
-    })
-
-pub returns-clause-causes : goal.returns-clause-causes
-returns-clause-causes g c = kept_refuses _ _ _ _ _ _ _ c.if-names.false c.in-Err.ensures.causes
+      done = c.waits.ensures ∙ ap (NeedsReply (server_machine c.args.config.now c.args.cause c.answer_value.new.exchange (states.AwaitsNewkeys c.in-Ok.made c.in-Ok.cipher))) c.begins_again-is_strict.ensures;
+    }

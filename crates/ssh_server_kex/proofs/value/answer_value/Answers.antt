@@ -14,14 +14,14 @@ reply-requires-clause-host g c =
 
 pub returns-in-Ok-send_reply-clause-ok : goal.returns-in-Ok-send_reply-clause-ok
 returns-in-Ok-send_reply-clause-ok g c =
-    value_done _ _ _ _ c.args.config.now c.args.cause.now c.args.names.now c.args.exchange.now c.agree.new.exchange c.args.payload.now c.args.output.now c.send_reply.new.output c.finish.result
+    value_done _ _ _ _ c.args.config.now c.args.cause.now c.args.names.now c.args.exchange.now c.agree.new.exchange c.args.payload.now c.args.output.now c.send_reply.new.output c.in_ok-ended.ended
     c.in_ok-algorithm.algorithm _ c.in-Ok.value.now c.in_ok-exchange.field-0 c.as_slice.result.now c.compute_exchange_hash-hash.result c.in-Ok-sign.signature c.as_slice-2.result.now c.as_slice-3.result.now c.as_slice-4.result.now c.as_slice-5.result.now _
     c.is_gex-is_gex.ensures c.in-Ok.ensures.ok.0 (let e = c.in-Ok.ensures.short in let f = c.requires.short in omega (arith, e, f)) c.requires.can
     c.in_ok-algorithm.ensures.ok c.in_ok-exchange.ensures
     (λ v w m s l. (m s l).0) (λ v w m s l. (m s l).1)
     c.in-Some.ensures c.as_slice.ensures c.compute_exchange_hash-hash.ensures c.in-Ok-sign.ensures.values
     (signs_it g.H.HostKeys.makes (g.H.HostKeys.obliging c.args.parts.now.hosts) c.args.config.now c.args.names.now _ c.compute_exchange_hash-hash.result (judged c.in-Ok-sign.signature) c.in-Ok-sign.ensures.made c.in-Some.ensures)
-    c.finish.ensures.made c.finish.ensures.keys
+    c.in_ok-ended.ensures.made c.in_ok-ended.ensures.keys
     c.as_slice-2.ensures c.as_slice-3.ensures (let e = c.as_slice-4.ensures in let v = c.signature.view_is in cc) (c.as_slice-5.ensures.value ∙ c.in_ok-reply.ensures.ok) c.in-Ok-send_reply.ensures.puts
 
 pub returns-clause-causes : goal.returns-clause-causes

@@ -5,11 +5,15 @@ use Rattle.ssh_wire.specs.declared.side.Side.TheVariants.{Client}
 use Rattle.ssh_client_kex.specs.ClientViews.{client_stage, ClientHolds}
 use Rattle.ssh_kex.specs.Parts.{Setup}
 use Rattle.ssh_kex.specs.Stages.{Machine}
-use Rattle.ssh_client_kex.proofs.ClientAnswers.{group_progresses, reply_progresses, reply_refused}
+use Rattle.ssh_client_kex.proofs.ClientAnswers.{group_progresses, kept_group, reply_progresses, reply_refused, still_holds}
 use Rattle.ssh_client_kex.proofs.ClientRefusals.{group_refused, kexinit_refused}
 use Rattle.ssh_client_kex.proofs.ClientSteps.{kexinit_progresses}
 use Rattle.ssh_kex.proofs.Lemmas.{last_done, last_refused_if}
 use Rattle.ssh_client_kex.proofs.client_kex.ClientKex.step.Goals as goal
+
+pub waits-requires : goal.waits-requires
+waits-requires g c =
+    subst (ClientHolds c.self.inside.config.now c.self.inside.exchange) (sym c.behind_guess-state.ensures) (still_holds c.self.inside.config.now c.self.inside.exchange c.self.inside.state c.self.invariant)
 
 pub take_kexinit-requires-clause-short : goal.take_kexinit-requires-clause-short
 take_kexinit-requires-clause-short g c = subst (λ o. IfSome o (λ (i : Incoming). length i.payload.now < 2 ^ 31)) c.in-Some.is c.requires
@@ -54,19 +58,19 @@ returns-in-Created-clause-causes g c =
 pub returns-in-AwaitsGroup-clause-goes : goal.returns-in-AwaitsGroup-clause-goes
 returns-in-AwaitsGroup-clause-goes g c =
     rw (c.in-Some.is)
-    (group_progresses _ _ _ _ c.in-AwaitsGroup.names _ _ c.in-Some.incoming _ _ _ c.self.view_is c.in-AwaitsGroup.is
+    (group_progresses _ _ _ _ c.in-AwaitsGroup.names _ _ c.in-Some.incoming _ _ _ c.self.view_is c.in-AwaitsGroup.is (sym c.drops_guess.ensures ∙ c.if-drops_guess.false)
     ((subst (ClientHolds c.self.inside.config.now c.self.inside.exchange) c.in-AwaitsGroup.is c.self.invariant).2) c.take_group.ensures.ok)
 
 pub returns-in-AwaitsGroup-clause-causes : goal.returns-in-AwaitsGroup-clause-causes
 returns-in-AwaitsGroup-clause-causes g c =
-    rw (c.in-Some.is) (group_refused _ _ _ _ _ c.in-AwaitsGroup.names _ _ c.in-Some.incoming _ c.self.view_is c.in-AwaitsGroup.is c.take_group.ensures.err)
+    rw (c.in-Some.is) (group_refused _ _ _ _ _ c.in-AwaitsGroup.names _ _ c.in-Some.incoming _ c.self.view_is c.in-AwaitsGroup.is (kept_group c.in-AwaitsGroup.names _ c.in-AwaitsGroup.is (sym c.drops_guess.ensures ∙ c.if-drops_guess.false)) c.take_group.ensures.err)
 
 pub returns-in-AwaitsReply-clause-goes : goal.returns-in-AwaitsReply-clause-goes
 returns-in-AwaitsReply-clause-goes g c =
     rw (c.in-Some.is)
     (reply_progresses _ (λ k q l v z. (s : Setup) (public : List ℕ) → g.A.Agreement.lawful c.args.parts.now.agreement s → g.A.Agreement.client_makes k q l public → g.A.Agreement.agrees k q public v z)
     (λ k q l v z public h cm s law. h s public law (cm s law))
-    _ _ _ c.in-AwaitsReply.names c.in-AwaitsReply.algorithm _ _ c.in-Some.incoming _ _ _ c.self.view_is c.in-AwaitsReply.is
+    _ _ _ c.in-AwaitsReply.names c.in-AwaitsReply.algorithm _ _ c.in-Some.incoming _ _ _ c.self.view_is c.in-AwaitsReply.is (sym c.drops_guess.ensures ∙ c.if-drops_guess.false)
     (subst (λ o. IfSome o (λ (i : Incoming). length i.payload.now < 2 ^ 31)) c.in-Some.is c.requires)
     ((subst (ClientHolds c.self.inside.config.now c.self.inside.exchange) c.in-AwaitsReply.is c.self.invariant).1) c.take_reply.ensures.ok)
 
@@ -75,7 +79,7 @@ returns-in-AwaitsReply-clause-causes g c =
     rw (c.in-Some.is)
     (reply_refused _ _ (λ k q l v z. (s : Setup) (public : List ℕ) → g.A.Agreement.lawful c.args.parts.now.agreement s → g.A.Agreement.client_makes k q l public → g.A.Agreement.agrees k q public v z)
     (λ k q l v z public h cm s law. h s public law (cm s law))
-    _ _ _ c.in-AwaitsReply.names c.in-AwaitsReply.algorithm _ _ c.in-Some.incoming _ c.self.view_is c.in-AwaitsReply.is
+    _ _ _ c.in-AwaitsReply.names c.in-AwaitsReply.algorithm _ _ c.in-Some.incoming _ c.self.view_is c.in-AwaitsReply.is (sym c.drops_guess.ensures ∙ c.if-drops_guess.false)
     ((subst (ClientHolds c.self.inside.config.now c.self.inside.exchange) c.in-AwaitsReply.is c.self.invariant).1) c.take_reply.ensures.err)
 
 pub returns-in-AwaitsNewkeys-clause-goes : goal.returns-in-AwaitsNewkeys-clause-goes

@@ -7,8 +7,12 @@ use Rattle.ssh_kex.specs.Stepping.{says_of}
 use Rattle.ssh_kex.proofs.Lemmas.{last_refused_if}
 use Rattle.ssh_server_kex.proofs.ServerOpens.{ended, opening_progresses}
 use Rattle.ssh_server_kex.proofs.ServerRefusals.{opening_refused, request_refused, value_refused}
-use Rattle.ssh_server_kex.proofs.ServerSteps.{request_progresses, value_progresses, writes_front}
+use Rattle.ssh_server_kex.proofs.ServerSteps.{request_progresses, still_keeps, value_progresses, writes_front}
 use Rattle.ssh_server_kex.proofs.server_kex.ServerKex.step.Goals as goal
+
+pub waits-requires : goal.waits-requires
+waits-requires g c =
+    subst (ServerKeeps c.self.inside.config.now c.self.inside.exchange) (sym c.behind_guess-state.ensures) (still_keeps c.self.inside.config.now c.self.inside.exchange c.self.inside.state c.self.invariant)
 
 pub take_kexinit-requires-clause-short : goal.take_kexinit-requires-clause-short
 take_kexinit-requires-clause-short g c = subst (λ o. IfSome o (λ (i : Incoming). length i.payload.now < 2 ^ 31)) c.in-Some.is c.requires
@@ -40,23 +44,23 @@ pub returns-in-AwaitsRequest-clause-goes : goal.returns-in-AwaitsRequest-clause-
 returns-in-AwaitsRequest-clause-goes g c =
     rw (c.in-Some.is)
     (request_progresses _ c.self.inside.config.now c.self.inside.cause c.self.inside.exchange c.self.inside.state c.args.self c.in-AwaitsRequest.names c.in-Some.incoming c.args.output.now _ c.take_request.result
-    c.self.view_is c.in-AwaitsRequest.is c.take_request.ensures.ok)
+    c.self.view_is c.in-AwaitsRequest.is (sym c.drops_guess.ensures ∙ c.if-drops_guess.false) c.take_request.ensures.ok)
 
 pub returns-in-AwaitsRequest-clause-causes : goal.returns-in-AwaitsRequest-clause-causes
 returns-in-AwaitsRequest-clause-causes g c =
     rw (c.in-Some.is)
-    (request_refused _ _ c.self.inside.config.now c.self.inside.cause c.self.inside.exchange c.self.inside.state c.args.self c.in-AwaitsRequest.names c.in-Some.incoming c.take_request.result c.self.view_is c.in-AwaitsRequest.is c.take_request.ensures.causes)
+    (request_refused _ _ c.self.inside.config.now c.self.inside.cause c.self.inside.exchange c.self.inside.state c.args.self c.in-AwaitsRequest.names c.in-Some.incoming c.take_request.result c.self.view_is c.in-AwaitsRequest.is (sym c.drops_guess.ensures ∙ c.if-drops_guess.false) c.take_request.ensures.causes)
 
 pub returns-in-AwaitsValue-clause-goes : goal.returns-in-AwaitsValue-clause-goes
 returns-in-AwaitsValue-clause-goes g c =
     rw (c.in-Some.is)
     (value_progresses (λ config. says_of g.A.Agreement.lawful g.A.Agreement.offered g.A.Agreement.client_makes g.A.Agreement.server_makes g.A.Agreement.agrees g.H.HostKeys.lawful g.H.HostKeys.obliging g.H.HostKeys.accepts g.H.HostKeys.trusts g.H.HostKeys.makes g.G.GroupLookup.lawful g.G.GroupLookup.group config c.args.parts.now.agreement c.args.parts.now.hosts c.args.parts.now.groups)
-    c.self.inside.config.now c.self.inside.cause c.self.inside.exchange c.self.inside.state c.args.self c.in-AwaitsValue.names c.in-Some.incoming c.args.output.now _ c.take_value.result c.self.view_is c.in-AwaitsValue.is c.take_value.ensures.ok)
+    c.self.inside.config.now c.self.inside.cause c.self.inside.exchange c.self.inside.state c.args.self c.in-AwaitsValue.names c.in-Some.incoming c.args.output.now _ c.take_value.result c.self.view_is c.in-AwaitsValue.is (sym c.drops_guess.ensures ∙ c.if-drops_guess.false) c.take_value.ensures.ok)
 
 pub returns-in-AwaitsValue-clause-causes : goal.returns-in-AwaitsValue-clause-causes
 returns-in-AwaitsValue-clause-causes g c =
     rw (c.in-Some.is)
-    (value_refused _ _ c.self.inside.config.now c.self.inside.cause c.self.inside.exchange c.self.inside.state c.args.self c.in-AwaitsValue.names c.in-Some.incoming c.take_value.result c.self.view_is c.in-AwaitsValue.is c.take_value.ensures.causes)
+    (value_refused _ _ c.self.inside.config.now c.self.inside.cause c.self.inside.exchange c.self.inside.state c.args.self c.in-AwaitsValue.names c.in-Some.incoming c.take_value.result c.self.view_is c.in-AwaitsValue.is (sym c.drops_guess.ensures ∙ c.if-drops_guess.false) c.take_value.ensures.causes)
 
 pub returns-in-AwaitsValue-clause-front : goal.returns-in-AwaitsValue-clause-front
 returns-in-AwaitsValue-clause-front g c =
