@@ -67,9 +67,9 @@ pub record StageBounds (side : Side) (stage : Stage) : Type 0 where
 pub stage_bounds : (side : Side) (stage : Stage) → StageBounds side stage
 stage_bounds Client (Created own) = record { agreement = omega arith; hosts = omega arith; lookups = omega arith; agreement_once = omega arith; hosts_once = omega arith; lookups_once = omega arith }
 stage_bounds Server (Created own) = record { agreement = omega arith; hosts = omega arith; lookups = omega arith; agreement_once = omega arith; hosts_once = omega arith; lookups_once = omega arith }
-stage_bounds side (AwaitsGroup o) = record { agreement = omega arith; hosts = omega arith; lookups = omega arith; agreement_once = omega arith; hosts_once = omega arith; lookups_once = omega arith }
+stage_bounds side (AwaitsGroup o) = let a = at_most_one o.names.ignore_guessed in record { agreement = omega (arith, a); hosts = omega arith; lookups = omega arith; agreement_once = omega (arith, a); hosts_once = omega arith; lookups_once = omega arith }
 stage_bounds side (AwaitsReply o gex local public) = let a = at_most_one o.names.ignore_guessed in record { agreement = omega (arith, a); hosts = omega (arith, a); lookups = omega arith; agreement_once = omega (arith, a); hosts_once = omega (arith, a); lookups_once = omega arith }
-stage_bounds side (AwaitsRequest o) = record { agreement = omega arith; hosts = omega arith; lookups = omega arith; agreement_once = omega arith; hosts_once = omega arith; lookups_once = omega arith }
+stage_bounds side (AwaitsRequest o) = let a = at_most_one o.names.ignore_guessed in record { agreement = omega arith; hosts = omega arith; lookups = omega (arith, a); agreement_once = omega arith; hosts_once = omega arith; lookups_once = omega (arith, a) }
 stage_bounds side (AwaitsValue o gex) = let a = at_most_one o.names.ignore_guessed in record { agreement = omega (arith, a); hosts = omega (arith, a); lookups = omega arith; agreement_once = omega (arith, a); hosts_once = omega (arith, a); lookups_once = omega arith }
 stage_bounds side (AwaitsNewkeys exchange made host) = record { agreement = omega arith; hosts = omega arith; lookups = omega arith; agreement_once = omega arith; hosts_once = omega arith; lookups_once = omega arith }
 
@@ -80,9 +80,9 @@ none_once false e = cc
 -- of a wrong guess nothing is asked
 pub dropped_asks : (side : Side) (stage : Stage) (next : Option Stage) → drops_guess stage ≡ true → (asks_agreement side stage next ≡ 0) × (asks_hosts stage ≡ 0) × (asks_groups stage ≡ 0)
 dropped_asks side (Created own) next e = cc
-dropped_asks side (AwaitsGroup o) next e = cc
+dropped_asks side (AwaitsGroup o) next e = (none_once o.names.ignore_guessed e, refl, refl)
 dropped_asks side (AwaitsReply o gex local public) next e = (none_once o.names.ignore_guessed e, none_once o.names.ignore_guessed e, refl)
-dropped_asks side (AwaitsRequest o) next e = cc
+dropped_asks side (AwaitsRequest o) next e = (refl, refl, none_once o.names.ignore_guessed e)
 dropped_asks side (AwaitsValue o gex) next e = (none_once o.names.ignore_guessed e, none_once o.names.ignore_guessed e, refl)
 dropped_asks side (AwaitsNewkeys exchange made host) next e = cc
 

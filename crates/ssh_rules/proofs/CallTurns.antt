@@ -30,7 +30,7 @@ none_as text (PayloadDelivered i ∷ es) h = none_as text es h
 none_as text (PacketDropped i ∷ es) h = none_as text es h
 none_as text (ExchangeFinished i x ∷ es) h = none_as text es h
 
-heard_stays : (says : Says) (side : Side) (config : Config) (own_id : List ℕ) (es : List Event) (st st' : SideState) → HearsNone es → Steps says side config own_id st es st' → st'.heard ≡ st.heard
+pub heard_stays : (says : Says) (side : Side) (config : Config) (own_id : List ℕ) (es : List Event) (st st' : SideState) → HearsNone es → Steps says side config own_id st es st' → st'.heard ≡ st.heard
 heard_stays says side config own_id [] st st' n h = ap (λ (s : SideState). s.heard) h
 heard_stays says side config own_id (IdHeard id ∷ es) st st' n h = absurd n
 heard_stays says side config own_id (PayloadSubmitted p ∷ es) st st' n h = heard_stays says side config own_id es h.0 st' n h.2 ∙ ap (λ (s : SideState). s.heard) h.1.becomes
@@ -46,7 +46,7 @@ heard_stays says side config own_id (ExchangeFinished i x ∷ es) st st' n h = h
 cons_nil : {A : Type 0} (x : A) (xs : List A) → x ∷ xs ≡ [] → ⊥
 cons_nil x xs e = cc
 
-no_bytes : (side : Side) (at : Spot) (es : List Event) → handled es ≡ [] → read_bytes side at es ≡ []
+pub no_bytes : (side : Side) (at : Spot) (es : List Event) → handled es ≡ [] → read_bytes side at es ≡ []
 no_bytes side at [] e = refl
 no_bytes side at (IdHeard id ∷ es) e = no_bytes side at es e
 no_bytes side at (PayloadSubmitted p ∷ es) e = no_bytes side at es e

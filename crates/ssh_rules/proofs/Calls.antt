@@ -21,7 +21,7 @@ at_most_one false = omega arith
 -- what a row asks and what is left behind it is what was left
 pub asks_left : (says : Says) (s : Setting) (stage : Stage) (seqn : ℕ) (payload : List ℕ) (written : List (List ℕ)) (next : Stage) → Takes says s stage seqn payload written next → (asks_agreement s.side stage (Some next) + agreement_left s.side next ≤ agreement_left s.side stage) × (asks_hosts stage + hosts_left s.side next ≤ hosts_left s.side stage)
 asks_left says s (Created own) seqn payload written next h = opened says s _ s.side (is_gex h.names.kex) own written next h.opens
-asks_left says s (AwaitsGroup o) seqn payload written next h = subst (λ n. (1 + agreement_left s.side n ≤ 2) × (0 + hosts_left s.side n ≤ 2)) (sym h.leads.next_is) (omega arith, omega arith)
+asks_left says s (AwaitsGroup o) seqn payload written next h = let a = at_most_one o.names.ignore_guessed in subst (λ n. (once_unless o.names.ignore_guessed + agreement_left s.side n ≤ 2) × (0 + hosts_left s.side n ≤ 2)) (sym h.leads.next_is) (omega (arith, a), omega arith)
 asks_left says s (AwaitsReply o gex local public) seqn payload written next h = let a = at_most_one o.names.ignore_guessed in subst (λ n. (once_unless o.names.ignore_guessed + agreement_left s.side n ≤ 1) × (once_unless o.names.ignore_guessed + hosts_left s.side n ≤ 2)) (sym h.leads.next_is) (omega (arith, a), omega (arith, a))
 asks_left says s (AwaitsRequest o) seqn payload written next h = subst (λ n. (0 + agreement_left s.side n ≤ 1) × (0 + hosts_left s.side n ≤ 1)) (sym h.leads.next_is) (omega arith, omega arith)
 asks_left says s (AwaitsValue o gex) seqn payload written next h = let a = at_most_one o.names.ignore_guessed in subst (λ n. (once_unless o.names.ignore_guessed + agreement_left s.side n ≤ 1) × (once_unless o.names.ignore_guessed + hosts_left s.side n ≤ 1)) (sym h.leads.next_is) (omega (arith, a), omega (arith, a))
@@ -38,6 +38,6 @@ pub asks_lookups : (says : Says) (s : Setting) (stage : Stage) (seqn : ℕ) (pay
 asks_lookups says s (Created own) seqn payload written next h = let r = opened_lookups says s _ s.side (is_gex h.names.kex) own written next h.opens in omega (arith, r)
 asks_lookups says s (AwaitsGroup o) seqn payload written next h = subst (λ n. 0 + lookups_left s.side n ≤ 0) (sym h.leads.next_is) (omega arith)
 asks_lookups says s (AwaitsReply o gex local public) seqn payload written next h = subst (λ n. 0 + lookups_left s.side n ≤ 0) (sym h.leads.next_is) (omega arith)
-asks_lookups says s (AwaitsRequest o) seqn payload written next h = subst (λ n. 1 + lookups_left s.side n ≤ 1) (sym h.leads.next_is) (omega arith)
+asks_lookups says s (AwaitsRequest o) seqn payload written next h = let a = at_most_one o.names.ignore_guessed in subst (λ n. once_unless o.names.ignore_guessed + lookups_left s.side n ≤ 1) (sym h.leads.next_is) (omega (arith, a))
 asks_lookups says s (AwaitsValue o gex) seqn payload written next h = subst (λ n. 0 + lookups_left s.side n ≤ 0) (sym h.leads.next_is) (omega arith)
 asks_lookups says s (AwaitsNewkeys e x host) seqn payload written next h = absurd h

@@ -7,7 +7,6 @@ use Rattle.ssh_negotiate.specs.Laws.{IsWithin, side_answer, kept_strict}
 use Rattle.ssh_negotiate.specs.Reading.{names_read}
 use Rattle.ssh_negotiate.specs.declared.negotiation.Names.{Names}
 use Rattle.ssh_wire.specs.declared.error.AlgorithmKind.{AlgorithmKind}
-use Rattle.ssh_wire.specs.declared.side.Side.{Side}
 use Rattle.ssh_wire.specs.declared.side.Side.TheVariants.{Client, Server}
 use Rattle.ssh_kex.specs.Setting.{held_names, behind_guess}
 
@@ -36,5 +35,5 @@ told_one still c s (Err kind) n m p e f = cc
 pub one_names : (c s : Offers) (still : Bool) (k l : List ℕ) (n m : Names) → IsWithin c → IsWithin s → length k ≡ 16 → length l ≡ 16 → names_read Client c still (kexinit s k) ≡ Ok n → names_read Server s still (kexinit c l) ≡ Ok m → (n ≡ m) × (n.ignore_guessed ≡ false)
 one_names c s still k l n m wc ws hk hl e f = told_one still c s (chosen_names c s) n m (chosen_plain c s) (sym ((names_agree c s still k wc ws hk).0) ∙ e) (sym ((names_agree c s still l wc ws hl).1) ∙ f)
 
-pub held_plain : (side : Side) (n : Names) → n.ignore_guessed ≡ false → held_names side n ≡ n
-held_plain side n h = ap (λ b. if b then behind_guess side n else n) h
+pub held_plain : (n : Names) → n.ignore_guessed ≡ false → held_names n ≡ n
+held_plain n h = ap (λ b. if b then behind_guess n else n) h

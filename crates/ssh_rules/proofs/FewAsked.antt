@@ -74,7 +74,7 @@ record IsCount (side : Side) (to_come : Where → ℕ) (each : ℕ) : Type 0 whe
   pub silent : to_come Silent ≡ 0
   pub outside : to_come Outside ≡ 0
   pub first : (own : List ℕ) → to_come (Inside (Created own)) ≡ each
-  pub dropped : (stage : Stage) → to_come (Inside (guess_dropped side stage)) ≡ to_come (Inside stage)
+  pub dropped : (stage : Stage) → to_come (Inside (guess_dropped stage)) ≡ to_come (Inside stage)
   pub last : (exchange : Exchange) (x : FinishedExchange) (host : Option ServerHost) → to_come (Inside (AwaitsNewkeys exchange x host)) ≤ 1
   pub row : (stage next : Stage) → Falls side stage next → to_come (Inside stage) ≤ to_come (Inside next) + 1
 
@@ -126,7 +126,7 @@ event_falls side to_come each c says config own_id st (MessageTaken i) st' h =
     let t = times_none each (begun st' - begun st) (let d : begun st' - begun st ≡ 0 = omega (arith, n, o) in d) in
     omega (arith, w, k, a, b, t)
 event_falls side to_come each c says config own_id st (GuessDropped i) st' h =
-    let a : to_come st'.stands ≡ to_come (Inside (guess_dropped side h.stage)) = ap (λ (m : SideState). to_come m.stands) h.becomes in
+    let a : to_come st'.stands ≡ to_come (Inside (guess_dropped h.stage)) = ap (λ (m : SideState). to_come m.stands) h.becomes in
     let b : to_come st.stands ≡ to_come (Inside h.stage) = ap to_come h.inside in
     let d = c.dropped h.stage in
     let n : begun st' ≡ length st.records + 1 = ap begun h.becomes in
@@ -161,7 +161,7 @@ agreement_is side = record {
   silent = refl;
   outside = refl;
   first = λ own. (begun_first side own).0;
-  dropped = λ stage. (dropped_calls side side stage).0;
+  dropped = λ stage. (dropped_calls side stage).0;
   last = λ exchange x host. omega arith;
   row = λ stage next f. f.agreement;
 }
@@ -175,7 +175,7 @@ hosts_is side = record {
   silent = refl;
   outside = refl;
   first = λ own. (begun_first side own).1;
-  dropped = λ stage. (dropped_calls side side stage).1;
+  dropped = λ stage. (dropped_calls side stage).1;
   last = λ exchange x host. hosts_last side exchange x host;
   row = λ stage next f. f.hosts;
 }
@@ -185,7 +185,7 @@ lookups_is side = record {
   silent = refl;
   outside = refl;
   first = λ own. (begun_first side own).2;
-  dropped = λ stage. (dropped_calls side side stage).2;
+  dropped = λ stage. (dropped_calls side stage).2;
   last = λ exchange x host. omega arith;
   row = λ stage next f. f.lookups;
 }
@@ -207,7 +207,7 @@ input_few says old new n n' a = λ events h. few_asked says old.side old.config 
 
 -- ---- and the refused packet
 
-count_join : (a b : List Item) → kex_count (a ++ b) ≡ kex_count a + kex_count b
+pub count_join : (a b : List Item) → kex_count (a ++ b) ≡ kex_count a + kex_count b
 count_join [] b = omega arith
 count_join (i ∷ a) b = let r = count_join a b in omega (arith, r)
 

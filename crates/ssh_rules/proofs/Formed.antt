@@ -80,15 +80,15 @@ at_form side config kind host own o e f = subst (HasForm side config kind host) 
 
 -- ---- of an exchange whose record is made
 
-held_gex : (side : Side) (n : Names) → is_gex (held_names side n).kex ≡ is_gex n.kex
-held_gex side n = by n.ignore_guessed where
-  by : (b : Bool) → is_gex (let m : Names = if b then behind_guess side n else n in m).kex ≡ is_gex n.kex
+held_gex : (n : Names) → is_gex (held_names n).kex ≡ is_gex n.kex
+held_gex n = by n.ignore_guessed where
+  by : (b : Bool) → is_gex (let m : Names = if b then behind_guess n else n in m).kex ≡ is_gex n.kex
   by true = refl
   by false = refl
 
-held_shown : (config : Config) (n : Names) → presented config.host (held_names Server n).host_key_is_certificate (held_names Server n).key ≡ presented config.host n.host_key_is_certificate n.key
+held_shown : (config : Config) (n : Names) → presented config.host (held_names n).host_key_is_certificate (held_names n).key ≡ presented config.host n.host_key_is_certificate n.key
 held_shown config n = by n.ignore_guessed where
-  by : (b : Bool) → presented config.host (let m : Names = if b then behind_guess Server n else n in m).host_key_is_certificate (let m : Names = if b then behind_guess Server n else n in m).key ≡ presented config.host n.host_key_is_certificate n.key
+  by : (b : Bool) → presented config.host (let m : Names = if b then behind_guess n else n in m).host_key_is_certificate (let m : Names = if b then behind_guess n else n in m).key ≡ presented config.host n.host_key_is_certificate n.key
   by true = refl
   by false = refl
 
@@ -104,14 +104,14 @@ pub record MadeForm (side : Side) (config : Config) (strict : Bool) (own read : 
 made_has_form : (side : Side) (says : Says) (config : Config) (own_id : List ℕ) (heard : Option (List ℕ)) (before : List FinishedExchange) (own read : List (List ℕ)) (e : Exchange) (x : FinishedExchange) (h : Option ServerHost) → MadeBy side says (setting_at side config own_id heard before) own read e x h → MadeForm side config (still_strict before) own read
 made_has_form Client says config own_id heard before own read e x h m =
     let q = named_client says config own_id heard before own read e x h m in
-    let k : is_gex x.names.kex ≡ is_gex q.names.0.kex = ap (λ (n : Names). is_gex n.kex) q.names.2 ∙ held_gex Client q.names.0 in
+    let k : is_gex x.names.kex ≡ is_gex q.names.0.kex = ap (λ (n : Names). is_gex n.kex) q.names.2 ∙ held_gex q.names.0 in
     record {
       names = q.names.0;
       names_are = q.names.1;
       form = form_of Client config (is_gex q.names.0.kex) None own (made_form Client says (setting_at Client config own_id heard before) own read e x h (is_gex q.names.0.kex) k m) (λ s l. absurd (client_not_server s));
     }
 made_has_form Server says config own_id heard before own read e x h m =
-    let kind : is_gex m.read_names.kex ≡ is_some e.gex = sym (held_gex Server m.read_names) ∙ (ap (λ (n : Names). is_gex n.kex) (sym m.names_are) ∙ m.kind) in
+    let kind : is_gex m.read_names.kex ≡ is_some e.gex = sym (held_gex m.read_names) ∙ (ap (λ (n : Names). is_gex n.kex) (sym m.names_are) ∙ m.kind) in
     record {
       names = m.read_names;
       names_are = server_block says config own_id heard before own read e x h m;

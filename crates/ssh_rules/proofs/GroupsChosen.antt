@@ -7,10 +7,11 @@ use Rattle.ssh_wire.specs.declared.side.Side.TheVariants.{Client, Server}
 use Rattle.ssh_kex.specs.Messages.{is_gex}
 use Rattle.ssh_kex.specs.Setting.{Opened, Says, Setting}
 use Rattle.ssh_kex.specs.Stages.{AwaitsGroup, AwaitsNewkeys, AwaitsReply, AwaitsRequest, AwaitsValue, Created, OpensBy, Stage, Takes, guess_dropped, names_of}
-use Rattle.ssh_kex.specs.Stepping.{asks_groups}
+use Rattle.ssh_kex.specs.Stepping.{asks_groups, once_unless}
 use Rattle.ssh_kex.specs.declared.config.Config.{Config}
 use Rattle.ssh_kex.specs.declared.exchange.FinishedExchange.{FinishedExchange}
 use Rattle.ssh_rules.specs.Counting.{LookupsFrom, group_in, groups_in, request_due}
+use Rattle.ssh_rules.proofs.Calls.{at_most_one}
 use Rattle.ssh_rules.specs.Machine.{Answering, Asked, Cause, Event, ExchangeBegun, AnswerSent, ExchangeFinished, GuessDropped, IdHeard, Inside, MayBegin, MessageTaken, PacketDropped, PayloadDelivered, PayloadSent, PayloadSubmitted, ReadLimit, SideState, Start, Step, Steps, Where, WriteLimit, names_now, setting}
 
 pub groups_more : (a b : List FinishedExchange) → groups_in (a ++ b) ≡ groups_in a + groups_in b
@@ -36,25 +37,25 @@ pub taken_group : (says : Says) (s : Setting) (stage : Stage) (seqn : ℕ) (payl
 taken_group says s (Created own) seqn payload written next h = opened_group says s _ s.side (is_gex h.names.kex) own written next refl h.opens
 taken_group says s (AwaitsGroup o) seqn payload written next h = subst (λ n. GroupFrom (AwaitsGroup o) n 0) (sym h.leads.next_is) (omega arith)
 taken_group says s (AwaitsReply o gex local public) seqn payload written next h = subst (λ n. GroupFrom (AwaitsReply o gex local public) n 0) (sym h.leads.next_is) (omega arith)
-taken_group says s (AwaitsRequest o) seqn payload written next h = subst (λ n. GroupFrom (AwaitsRequest o) n 1) (sym h.leads.next_is) (omega arith)
+taken_group says s (AwaitsRequest o) seqn payload written next h = let a = at_most_one o.names.ignore_guessed in subst (λ n. GroupFrom (AwaitsRequest o) n (once_unless o.names.ignore_guessed)) (sym h.leads.next_is) (omega (arith, a))
 taken_group says s (AwaitsValue o gex) seqn payload written next h = subst (λ n. GroupFrom (AwaitsValue o gex) n 0) (sym h.leads.next_is) (omega arith)
 taken_group says s (AwaitsNewkeys exchange made host) seqn payload written next h = absurd h
 
 -- a wrong guess changes nothing of it
-pub dropped_group : (side : Side) (stage : Stage) → (request_due (Inside (guess_dropped side stage)) ≡ request_due (Inside stage)) × (group_in (names_of (guess_dropped side stage)) ≡ group_in (names_of stage))
-dropped_group side (Created own) = (refl, refl)
-dropped_group side (AwaitsGroup o) = (refl, refl)
-dropped_group side (AwaitsReply o gex local public) = (refl, refl)
-dropped_group side (AwaitsRequest o) = (refl, refl)
-dropped_group side (AwaitsValue o gex) = (refl, refl)
-dropped_group side (AwaitsNewkeys exchange made host) = (refl, refl)
+pub dropped_group : (stage : Stage) → (request_due (Inside (guess_dropped stage)) ≡ request_due (Inside stage)) × (group_in (names_of (guess_dropped stage)) ≡ group_in (names_of stage))
+dropped_group (Created own) = (refl, refl)
+dropped_group (AwaitsGroup o) = (refl, refl)
+dropped_group (AwaitsReply o gex local public) = (refl, refl)
+dropped_group (AwaitsRequest o) = (refl, refl)
+dropped_group (AwaitsValue o gex) = (refl, refl)
+dropped_group (AwaitsNewkeys exchange made host) = (refl, refl)
 
 -- a stage asks only for the request
 pub request_alone : (stage : Stage) → asks_groups stage ≤ request_due (Inside stage)
 request_alone (Created own) = omega arith
 request_alone (AwaitsGroup o) = omega arith
 request_alone (AwaitsReply o gex local public) = omega arith
-request_alone (AwaitsRequest o) = omega arith
+request_alone (AwaitsRequest o) = at_most_one o.names.ignore_guessed
 request_alone (AwaitsValue o gex) = omega arith
 request_alone (AwaitsNewkeys exchange made host) = omega arith
 
@@ -83,7 +84,7 @@ event_groups says side config own_id n st (MessageTaken i) st' h = subst (λ m. 
     )
 event_groups says side config own_id n st (GuessDropped i) st' h = subst (λ m. LookupsFrom st m n n) (sym h.becomes) (
     let z = inside_group st h.stage h.inside in
-    let d = dropped_group side h.stage in
+    let d = dropped_group h.stage in
     omega (arith, z.0, z.1, d.0, d.1)
     )
 event_groups says side config own_id n st (PayloadDelivered i) st' h = subst (λ m. LookupsFrom st m n n) (sym h.becomes) (omega arith)

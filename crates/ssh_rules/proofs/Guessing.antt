@@ -1,5 +1,5 @@
 -- The packets that a side drops as guesses are those that the definition of a guess names, whatever bytes it is fed.
-use Rattle.std.proofs.Common.{◌≡◌, ℕ, zero, suc, ◌<◌, List, [], ◌∷◌, ◌++◌, length, map, refl, sym, ◌∙◌, ap, subst, arith, Option, Some, None, Bool, true, false, if◌then◌else◌, ◌==◌, ◌&&◌, not, nat_le, inl, inr, Ok}
+use Rattle.std.proofs.Common.{◌≡◌, ℕ, ◌<◌, List, [], ◌∷◌, ◌++◌, length, map, refl, sym, ◌∙◌, ap, subst, arith, Option, Some, None, Bool, true, false, if◌then◌else◌, ◌==◌, ◌&&◌, not, nat_le, inl, inr, Ok}
 use Rattle.std.proofs.lemmas.Bool.Decides.{nat_tests}
 use Rattle.std.specs.Prelude.{Result}
 use Rattle.ssh_packet.specs.Sealing.{Item, IsAdmissible, sealed_packet, next_number}
@@ -22,7 +22,7 @@ use Rattle.ssh_kex.specs.Stages.{Stage, Created, AwaitsGroup, AwaitsReply, Await
 use Rattle.ssh_negotiate.specs.Causes.{was_strict}
 use Rattle.ssh_rules.specs.MessageTypes.{type_of, is_kex_type, is_payload_type}
 use Rattle.ssh_rules.specs.Wire.{carried_payloads}
-use Rattle.ssh_rules.specs.Guess.{Guess, BeforeKexinit, GuessAfter, NoneFollows, guess_of, is_guess, guess_next, guess_behind, ends_epoch, without_guesses, before_guess}
+use Rattle.ssh_rules.specs.Guess.{Guess, BeforeKexinit, GuessDue, NoneFollows, guess_of, is_guess, guess_next, guess_behind, ends_epoch, without_guesses}
 use Rattle.ssh_rules.specs.Machine.{Spot, spot_after, Where, Silent, Outside, Inside, SideState, setting, Cause, Event, IdHeard, PayloadSubmitted, ExchangeBegun, AnswerSent, PayloadSent, MessageTaken, GuessDropped, PayloadDelivered, PacketDropped, ExchangeFinished, Step, Steps}
 use Rattle.ssh_rules.specs.Log.{handled, kept_in, recorded, read_bytes, first_epoch}
 use Rattle.ssh_rules.specs.Attacked.{until_end}
@@ -35,19 +35,19 @@ use Rattle.ssh_rules.proofs.Ending.{LastIn}
 abbrev pub ReadsAlike : Side → Config → Type 0
 ReadsAlike side config = (b : Bool) (payload : List ℕ) (n : Names) → names_read side (offers_of side config) b payload ≡ Ok n → (m : Names) × (names_read side (offers_of side config) false payload ≡ Ok m) × (m.ignore_guessed ≡ n.ignore_guessed) × (m.kex ≡ n.kex)
 
-abbrev awaits : Bool → ℕ → Guess
-awaits true n = GuessAfter n
-awaits false n = NoneFollows
+abbrev pub awaits : Bool → Guess
+awaits true = GuessDue
+awaits false = NoneFollows
 
 -- what is known of the guess in each stage
 abbrev pub GuessAt : Where → Guess → Type 0
 GuessAt Silent g = g ≡ BeforeKexinit
 GuessAt Outside g = g ≡ BeforeKexinit
 GuessAt (Inside (Created own)) g = g ≡ BeforeKexinit
-GuessAt (Inside (AwaitsGroup o)) g = g ≡ awaits o.names.ignore_guessed 1
-GuessAt (Inside (AwaitsReply o group l p)) g = g ≡ awaits o.names.ignore_guessed 0
-GuessAt (Inside (AwaitsRequest o)) g = g ≡ awaits o.names.ignore_guessed 1
-GuessAt (Inside (AwaitsValue o group)) g = g ≡ awaits o.names.ignore_guessed 0
+GuessAt (Inside (AwaitsGroup o)) g = g ≡ awaits o.names.ignore_guessed
+GuessAt (Inside (AwaitsReply o group l p)) g = g ≡ awaits o.names.ignore_guessed
+GuessAt (Inside (AwaitsRequest o)) g = g ≡ awaits o.names.ignore_guessed
+GuessAt (Inside (AwaitsValue o group)) g = g ≡ awaits o.names.ignore_guessed
 GuessAt (Inside (AwaitsNewkeys exchange made host)) g = g ≡ NoneFollows
 
 at_guess : (next n0 : Stage) (g : Guess) → next ≡ n0 → GuessAt (Inside n0) g → GuessAt (Inside next) g
@@ -57,69 +57,65 @@ next_at : (side : Side) (config : Config) (g h : Guess) (i : Item) → g ≡ h �
 next_at side config g h i e = ap (λ x. guess_next side config x i) e
 
 -- behind a KEXINIT
-guess_read : (n m : Names) (r : Result Names ReadFault) (kind : Bool) → r ≡ Ok m → m.ignore_guessed ≡ n.ignore_guessed → m.kex ≡ n.kex → is_gex n.kex ≡ kind → guess_of r ≡ awaits n.ignore_guessed (if kind then 1 else 0)
-guess_read n m r kind e f g k = ap guess_of e ∙ (by_flag m.ignore_guessed f ∙ ap (λ b. awaits n.ignore_guessed (before_guess b)) (ap is_gex g ∙ k)) where
-  by_flag : (b : Bool) → b ≡ n.ignore_guessed → (if b then GuessAfter (before_guess (is_gex m.kex)) else NoneFollows) ≡ awaits n.ignore_guessed (before_guess (is_gex m.kex))
-  by_flag true e = ap (λ b. awaits b (before_guess (is_gex m.kex))) e
-  by_flag false e = ap (λ b. awaits b (before_guess (is_gex m.kex))) e
+guess_read : (n m : Names) (r : Result Names ReadFault) → r ≡ Ok m → m.ignore_guessed ≡ n.ignore_guessed → guess_of r ≡ awaits n.ignore_guessed
+guess_read n m r e f = ap guess_of e ∙ by_flag m.ignore_guessed f where
+  by_flag : (b : Bool) → b ≡ n.ignore_guessed → (if b then GuessDue else NoneFollows) ≡ awaits n.ignore_guessed
+  by_flag true e = ap awaits e
+  by_flag false e = ap awaits e
 
 fresh_next : (side : Side) (config : Config) (i : Item) → type_of i ≡ 20 → guess_next side config BeforeKexinit i ≡ guess_of (names_read side (offers_of side config) false i.payload)
 fresh_next side config i e = ap (λ t. if t == 20 then guess_of (names_read side (offers_of side config) false i.payload) else BeforeKexinit) e
 
-opens_guess : (says : Says) (s : Setting) (o : Opened) (side : Side) (kind : Bool) (written : List (List ℕ)) (next : Stage) (g : Guess) → g ≡ awaits o.names.ignore_guessed (if kind then 1 else 0) → stages.OpensBy side kind says s o written next → GuessAt (Inside next) g
+opens_guess : (says : Says) (s : Setting) (o : Opened) (side : Side) (kind : Bool) (written : List (List ℕ)) (next : Stage) (g : Guess) → g ≡ awaits o.names.ignore_guessed → stages.OpensBy side kind says s o written next → GuessAt (Inside next) g
 opens_guess says s o Client true written next g e h = at_guess next (AwaitsGroup o) g h.next_is e
 opens_guess says s o Client false written next g e h = at_guess next (AwaitsReply o None h.local h.public) g h.leads.next_is e
 opens_guess says s o Server true written next g e h = at_guess next (AwaitsRequest o) g h.next_is e
 opens_guess says s o Server false written next g e h = at_guess next (AwaitsValue o None) g h.next_is e
 
--- a message of an exchange that isn't NEWKEYS brings the guess nearer
-nearer : (side : Side) (config : Config) (i : Item) (b : Bool) → is_kex_type (type_of i) ≡ true → is_newkeys i ≡ false → guess_next side config (awaits b 1) i ≡ awaits b 0
-nearer side config i true k n = ap (λ x. if x then BeforeKexinit else if is_kex_type (type_of i) then GuessAfter 0 else GuessAfter 1) n ∙ ap (λ x. if x then GuessAfter 0 else GuessAfter 1) k
-nearer side config i false k n = ap (λ x. if x then BeforeKexinit else NoneFollows) n
-
 none_stays : (side : Side) (config : Config) (i : Item) → is_newkeys i ≡ false → guess_next side config NoneFollows i ≡ NoneFollows
 none_stays side config i n = ap (λ x. if x then BeforeKexinit else NoneFollows) n
+
+-- where none is dropped, none is due
+none_due : (b : Bool) (g : Guess) → b ≡ false → g ≡ awaits b → g ≡ NoneFollows
+none_due b g d at = at ∙ ap awaits d
 
 -- one row, and whether its packet is a guess
 takes_guess : (says : Says) (s : Setting) (side : Side) (config : Config) (stage : Stage) (seqn : ℕ) (i : Item) (written : List (List ℕ)) (next : Stage) (g : Guess) → s.side ≡ side → s.config ≡ config → ReadsAlike side config → drops_guess stage ≡ false → GuessAt (Inside stage) g → stages.Takes says s stage seqn i.payload written next → GuessAt (Inside next) (guess_next side config g i) × (is_guess g i ≡ false)
 takes_guess says s side config (Created k) seqn i written next g es ec alike d at h =
     let read : names_read side (offers_of side config) (was_strict s.cause) i.payload ≡ Ok h.names = ap (λ w. names_read w (offers_of w config) (was_strict s.cause) i.payload) (sym es) ∙ (ap (λ c. names_read s.side (offers_of s.side c) (was_strict s.cause) i.payload) (sym ec) ∙ h.reads.read) in
     let m = alike (was_strict s.cause) i.payload h.names read in
-    let gr = guess_read h.names m.0 (names_read side (offers_of side config) false i.payload) (is_gex h.names.kex) m.1 m.2 m.3 refl in
+    let gr = guess_read h.names m.0 (names_read side (offers_of side config) false i.payload) m.1 m.2 in
     (opens_guess says s (record { names = h.names; own_kexinit = k; peer_kexinit = i.payload }) s.side (is_gex h.names.kex) written next _ (next_at side config g BeforeKexinit i at ∙ (fresh_next side config i h.reads.is_kexinit ∙ gr)) h.opens, ap (λ x. is_guess x i) at)
 takes_guess says s side config (AwaitsGroup o) seqn i written next g es ec alike d at h =
     let k = takes_kex says s (AwaitsGroup o) seqn i.payload written next h in
-    (at_guess next (AwaitsReply o _ h.local h.public) _ h.leads.next_is (next_at side config g _ i at ∙ nearer side config i o.names.ignore_guessed k.0 k.1), ap (λ x. is_guess x i) at ∙ far o.names.ignore_guessed) where
-      far : (b : Bool) → is_guess (awaits b 1) i ≡ false
-      far true = refl
-      far false = refl
+    let none = none_due o.names.ignore_guessed g d at in
+    (at_guess next (AwaitsReply o _ h.local h.public) _ h.leads.next_is (next_at side config g NoneFollows i none ∙ (none_stays side config i k.1 ∙ sym (ap awaits d))), ap (λ x. is_guess x i) none)
 takes_guess says s side config (AwaitsReply o gr l p) seqn i written next g es ec alike d at h =
     let k = takes_kex says s (AwaitsReply o gr l p) seqn i.payload written next h in
-    let none : g ≡ NoneFollows = at ∙ ap (λ b. awaits b 0) d in
+    let none = none_due o.names.ignore_guessed g d at in
     (at_guess next (AwaitsNewkeys _ _ _) _ h.leads.next_is (next_at side config g NoneFollows i none ∙ none_stays side config i k.1), ap (λ x. is_guess x i) none)
 takes_guess says s side config (AwaitsRequest o) seqn i written next g es ec alike d at h =
     let k = takes_kex says s (AwaitsRequest o) seqn i.payload written next h in
-    (at_guess next (AwaitsValue o _) _ h.leads.next_is (next_at side config g _ i at ∙ nearer side config i o.names.ignore_guessed k.0 k.1), ap (λ x. is_guess x i) at ∙ far o.names.ignore_guessed) where
-      far : (b : Bool) → is_guess (awaits b 1) i ≡ false
-      far true = refl
-      far false = refl
+    let none = none_due o.names.ignore_guessed g d at in
+    (at_guess next (AwaitsValue o _) _ h.leads.next_is (next_at side config g NoneFollows i none ∙ (none_stays side config i k.1 ∙ sym (ap awaits d))), ap (λ x. is_guess x i) none)
 takes_guess says s side config (AwaitsValue o gr) seqn i written next g es ec alike d at h =
     let k = takes_kex says s (AwaitsValue o gr) seqn i.payload written next h in
-    let none : g ≡ NoneFollows = at ∙ ap (λ b. awaits b 0) d in
+    let none = none_due o.names.ignore_guessed g d at in
     (at_guess next (AwaitsNewkeys _ _ _) _ h.leads.next_is (next_at side config g NoneFollows i none ∙ none_stays side config i k.1), ap (λ x. is_guess x i) none)
 takes_guess says s side config (AwaitsNewkeys exchange x host) seqn i written next g es ec alike d at h = absurd h
 
 -- a dropped guess is one
-ignores_guess : (side : Side) (config : Config) (stage : Stage) (i : Item) (g : Guess) → drops_guess stage ≡ true → is_kex_type (type_of i) ≡ true → GuessAt (Inside stage) g → GuessAt (Inside (guess_dropped side stage)) (guess_next side config g i) × (is_guess g i ≡ true)
-ignores_guess side config (AwaitsReply o gr l p) i g d k at =
-    let now : g ≡ GuessAfter 0 = at ∙ ap (λ b. awaits b 0) d in
-    (next_at side config g (GuessAfter 0) i now ∙ ap (λ b. if b then NoneFollows else GuessAfter 0) k, ap (λ x. is_guess x i) now ∙ k)
-ignores_guess side config (AwaitsValue o gr) i g d k at =
-    let now : g ≡ GuessAfter 0 = at ∙ ap (λ b. awaits b 0) d in
-    (next_at side config g (GuessAfter 0) i now ∙ ap (λ b. if b then NoneFollows else GuessAfter 0) k, ap (λ x. is_guess x i) now ∙ k)
+is_due : (side : Side) (config : Config) (b : Bool) (i : Item) (g : Guess) → b ≡ true → is_kex_type (type_of i) ≡ true → g ≡ awaits b → (guess_next side config g i ≡ NoneFollows) × (is_guess g i ≡ true)
+is_due side config b i g d k at =
+    let now : g ≡ GuessDue = at ∙ ap awaits d in
+    (next_at side config g GuessDue i now ∙ ap (λ c. if c then NoneFollows else GuessDue) k, ap (λ x. is_guess x i) now ∙ k)
+
+ignores_guess : (side : Side) (config : Config) (stage : Stage) (i : Item) (g : Guess) → drops_guess stage ≡ true → is_kex_type (type_of i) ≡ true → GuessAt (Inside stage) g → GuessAt (Inside (guess_dropped stage)) (guess_next side config g i) × (is_guess g i ≡ true)
+ignores_guess side config (AwaitsGroup o) i g d k at = is_due side config o.names.ignore_guessed i g d k at
+ignores_guess side config (AwaitsReply o gr l p) i g d k at = is_due side config o.names.ignore_guessed i g d k at
+ignores_guess side config (AwaitsRequest o) i g d k at = is_due side config o.names.ignore_guessed i g d k at
+ignores_guess side config (AwaitsValue o gr) i g d k at = is_due side config o.names.ignore_guessed i g d k at
 ignores_guess side config (Created own) i g d k at = absurd (let e : true ≡ false = sym d in cc)
-ignores_guess side config (AwaitsGroup o) i g d k at = absurd (let e : true ≡ false = sym d in cc)
-ignores_guess side config (AwaitsRequest o) i g d k at = absurd (let e : true ≡ false = sym d in cc)
 ignores_guess side config (AwaitsNewkeys exchange x host) i g d k at = absurd (let e : true ≡ false = sym d in cc)
 
 pub not_kex_types : (t : ℕ) → is_kex_type t ≡ false → ((t == 20) ≡ false) × ((t == 21) ≡ false)
@@ -133,8 +129,7 @@ not_kex_types t h = (first t h, second t h) where
 -- any other packet changes nothing
 other_guess : (side : Side) (config : Config) (i : Item) (g : Guess) → is_kex_type (type_of i) ≡ false → (guess_next side config g i ≡ g) × (is_guess g i ≡ false)
 other_guess side config i BeforeKexinit k = (ap (λ b. if b then guess_of (names_read side (offers_of side config) false i.payload) else BeforeKexinit) (not_kex_types (type_of i) k).0, refl)
-other_guess side config i (GuessAfter zero) k = (ap (λ b. if b then NoneFollows else GuessAfter zero) k, k)
-other_guess side config i (GuessAfter (suc n)) k = (ap (λ b. if b then BeforeKexinit else if is_kex_type (type_of i) then GuessAfter n else GuessAfter (suc n)) (not_kex_types (type_of i) k).1 ∙ ap (λ b. if b then GuessAfter n else GuessAfter (suc n)) k, refl)
+other_guess side config i GuessDue k = (ap (λ b. if b then NoneFollows else GuessDue) k, k)
 other_guess side config i NoneFollows k = (ap (λ b. if b then BeforeKexinit else NoneFollows) (not_kex_types (type_of i) k).1, refl)
 
 pub finishes_guess : (says : Says) (side : Side) (config : Config) (stage : Stage) (i : Item) (x : FinishedExchange) (g : Guess) → GuessAt (Inside stage) g → LastIn says stage i.payload x → (guess_next side config g i ≡ BeforeKexinit) × (is_guess g i ≡ false) × (is_newkeys i ≡ true)
@@ -373,7 +368,7 @@ first_silent says side config own_id (ExchangeBegun cause i ∷ es) st st' n r h
 first_silent says side config own_id (AnswerSent i q ∷ es) st st' n r h = first_silent says side config own_id es h.0 st' (subst (λ (m : SideState). m.stands ≡ Outside → ⊥) (sym h.1.becomes) n) (ap (λ (m : SideState). m.records) h.1.becomes ∙ r) h.2
 first_silent says side config own_id (PayloadSent i ∷ es) st st' n r h = absurd (n h.1.outside)
 first_silent says side config own_id (MessageTaken i ∷ es) st st' n r h = one_silent i (first_epoch es) (kex_no_payload (type_of i) (takes_kex says (setting side config own_id st) h.1.stage (next_number st.reading.number) i.payload h.1.answers h.1.next h.1.takes).0) (first_silent says side config own_id es h.0 st' (λ e. absurd (let q : Inside h.1.next ≡ Outside = sym (ap (λ (m : SideState). m.stands) h.1.becomes) ∙ e in cc)) (ap (λ (m : SideState). m.records) h.1.becomes ∙ r) h.2)
-first_silent says side config own_id (GuessDropped i ∷ es) st st' n r h = one_silent i (first_epoch es) (kex_no_payload (type_of i) h.1.is_kex) (first_silent says side config own_id es h.0 st' (λ e. absurd (let q : Inside (guess_dropped side h.1.stage) ≡ Outside = sym (ap (λ (m : SideState). m.stands) h.1.becomes) ∙ e in cc)) (ap (λ (m : SideState). m.records) h.1.becomes ∙ r) h.2)
+first_silent says side config own_id (GuessDropped i ∷ es) st st' n r h = one_silent i (first_epoch es) (kex_no_payload (type_of i) h.1.is_kex) (first_silent says side config own_id es h.0 st' (λ e. absurd (let q : Inside (guess_dropped h.1.stage) ≡ Outside = sym (ap (λ (m : SideState). m.stands) h.1.becomes) ∙ e in cc)) (ap (λ (m : SideState). m.records) h.1.becomes ∙ r) h.2)
 first_silent says side config own_id (PayloadDelivered i ∷ es) st st' n r h = absurd (elim h.1.may [ inl e ↦ n e | inr f ↦ (let l : 0 < length st.records = f.1 in let z : length st.records ≡ 0 = ap length r in omega (arith, l, z)) ])
 first_silent says side config own_id (PacketDropped i ∷ es) st st' n r h = one_silent i (first_epoch es) (drop_no_payload (type_of i) h.1.idle) (first_silent says side config own_id es h.0 st' (subst (λ (m : SideState). m.stands ≡ Outside → ⊥) (sym h.1.becomes) n) (ap (λ (m : SideState). m.records) h.1.becomes ∙ r) h.2)
 first_silent says side config own_id (ExchangeFinished i x ∷ es) st st' n r h = one_silent i [] (ap (λ p. is_payload_type (message_type p)) (finishes_kex says (AwaitsNewkeys h.1.exchange x h.1.host) i.payload x (h.1.payload_is, refl, h.1.trusted))) refl

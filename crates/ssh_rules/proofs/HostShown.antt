@@ -91,7 +91,7 @@ shared_host says peer_says s p e x host stage own theirs m more read server c th
   by_kind g q = (let t = by_stage stage there g q in both t.0 t.1 t.2 t.3 g (t.0).gex q refl)
 
 by_client : (says : Says) (s : Setting) (own theirs : List (List ℕ)) (e : Exchange) (x : FinishedExchange) (h : Option ServerHost) → (m : MadeClient says s own theirs e x h) → Negotiated Client s.config s.cause e.client_kex_init e.server_kex_init m.names
-by_client says s own theirs e x h m = record { cookie = m.cookie; cookie_length = m.cookie_length; own_is = m.kexinit_is; read_names = m.read_names; read = m.read; held = λ p. m.names_are ∙ held_plain Client m.read_names p }
+by_client says s own theirs e x h m = record { cookie = m.cookie; cookie_length = m.cookie_length; own_is = m.kexinit_is; read_names = m.read_names; read = m.read; held = λ p. m.names_are ∙ held_plain m.read_names p }
 
 some_host : (a b : ServerHost) → Some a ≡ Some b → a ≡ b
 some_host a b e = cc

@@ -41,13 +41,13 @@ pub record ReadFirst (side : Side) (config : Config) (theirs : List (List ℕ)) 
   pub read : names_read side (offers_of side config) strict payload ≡ Ok read_names
   pub kex : read_names.kex ≡ n.kex
 
-held_kex : (side : Side) (read held : Names) → Holds side read held → read.kex ≡ held.kex
-held_kex side read held (inl e) = ap (λ (n : Names). n.kex) (sym e)
-held_kex side read held (inr h) = ap (λ (n : Names). n.kex) (sym h.1)
+held_kex : (read held : Names) → Holds read held → read.kex ≡ held.kex
+held_kex read held (inl e) = ap (λ (n : Names). n.kex) (sym e)
+held_kex read held (inr h) = ap (λ (n : Names). n.kex) (sym h.1)
 
-pub names_kex : (side : Side) (read held : Names) → held ≡ held_names side read → read.kex ≡ held.kex
-names_kex side read held e = sym (ap (λ (n : Names). n.kex) e ∙ by_flag read.ignore_guessed) where
-  by_flag : (b : Bool) → (let n : Names = if b then behind_guess side read else read in n).kex ≡ read.kex
+pub names_kex : (read held : Names) → held ≡ held_names read → read.kex ≡ held.kex
+names_kex read held e = sym (ap (λ (n : Names). n.kex) e ∙ by_flag read.ignore_guessed) where
+  by_flag : (b : Bool) → (let n : Names = if b then behind_guess read else read in n).kex ≡ read.kex
   by_flag true = refl
   by_flag false = refl
 
@@ -64,8 +64,8 @@ server_first t None (p ∷ more) e = (more, ap (λ q. q ∷ more) (let f : p ≡
 server_first t (Some g) (p ∷ more) e = (more, ap (λ q. q ∷ more) (let f : p ≡ t.server_kexinit = cc in f))
 
 made_first : (side : Side) (says : Says) (s : Setting) (own theirs : List (List ℕ)) (exchange : Exchange) (x : FinishedExchange) (host : Option ServerHost) → MadeBy side says s own (theirs ++ newkeys ∷ []) exchange x host → ReadFirst side s.config theirs x.names
-made_first Client says s own theirs exchange x host m = (let f = server_first (spoken exchange m.host m.signature) exchange.gex theirs m.theirs_is in record { strict = was_strict s.cause; payload = exchange.server_kex_init; more = f.0; read_names = m.read_names; first = f.1; read = m.read; kex = names_kex Client m.read_names m.names m.names_are ∙ ap (λ (y : FinishedExchange). y.names.kex) (sym m.made) })
-made_first Server says s own theirs exchange x host m = (let f = client_first (spoken exchange m.shown.blob m.signature) exchange.gex theirs m.theirs_is in record { strict = was_strict s.cause; payload = exchange.client_kex_init; more = f.0; read_names = m.read_names; first = f.1; read = m.read; kex = names_kex Server m.read_names m.names m.names_are ∙ ap (λ (y : FinishedExchange). y.names.kex) (sym m.made) })
+made_first Client says s own theirs exchange x host m = (let f = server_first (spoken exchange m.host m.signature) exchange.gex theirs m.theirs_is in record { strict = was_strict s.cause; payload = exchange.server_kex_init; more = f.0; read_names = m.read_names; first = f.1; read = m.read; kex = names_kex m.read_names m.names m.names_are ∙ ap (λ (y : FinishedExchange). y.names.kex) (sym m.made) })
+made_first Server says s own theirs exchange x host m = (let f = client_first (spoken exchange m.shown.blob m.signature) exchange.gex theirs m.theirs_is in record { strict = was_strict s.cause; payload = exchange.client_kex_init; more = f.0; read_names = m.read_names; first = f.1; read = m.read; kex = names_kex m.read_names m.names m.names_are ∙ ap (λ (y : FinishedExchange). y.names.kex) (sym m.made) })
 
 pub stage_first : (says : Says) (s : Setting) (stage : Stage) (own theirs : List (List ℕ)) (n : Names) → names_now (Inside stage) ≡ Some n → FitsStage says s stage own theirs → ReadFirst s.side s.config theirs n
 stage_first says s (Created k) own theirs n e f = absurd (let q : None ≡ Some n = e in cc)
@@ -74,20 +74,20 @@ stage_first says s (AwaitsGroup o) own theirs n e f = by_opened where
   is = (let q : Some o.names ≡ Some n = e in cc)
 
   by_opened : ReadFirst s.side s.config theirs n
-  by_opened = record { strict = was_strict s.cause; payload = o.peer_kexinit; more = []; read_names = f.opened.read_names; first = f.theirs_is; read = f.opened.read; kex = held_kex s.side f.opened.read_names o.names f.opened.held ∙ ap (λ (m : Names). m.kex) is }
-stage_first says s (AwaitsReply o None l p) own theirs n e f = record { strict = was_strict s.cause; payload = o.peer_kexinit; more = []; read_names = f.opened.read_names; first = f.theirs_is; read = f.opened.read; kex = held_kex s.side f.opened.read_names o.names f.opened.held ∙ ap (λ (m : Names). m.kex) is } where
+  by_opened = record { strict = was_strict s.cause; payload = o.peer_kexinit; more = []; read_names = f.opened.read_names; first = f.theirs_is; read = f.opened.read; kex = held_kex f.opened.read_names o.names f.opened.held ∙ ap (λ (m : Names). m.kex) is }
+stage_first says s (AwaitsReply o None l p) own theirs n e f = record { strict = was_strict s.cause; payload = o.peer_kexinit; more = []; read_names = f.opened.read_names; first = f.theirs_is; read = f.opened.read; kex = held_kex f.opened.read_names o.names f.opened.held ∙ ap (λ (m : Names). m.kex) is } where
   is : o.names ≡ n
   is = (let q : Some o.names ≡ Some n = e in cc)
-stage_first says s (AwaitsReply o (Some g) l p) own theirs n e f = record { strict = was_strict s.cause; payload = o.peer_kexinit; more = _; read_names = f.opened.read_names; first = f.theirs_is; read = f.opened.read; kex = held_kex s.side f.opened.read_names o.names f.opened.held ∙ ap (λ (m : Names). m.kex) is } where
+stage_first says s (AwaitsReply o (Some g) l p) own theirs n e f = record { strict = was_strict s.cause; payload = o.peer_kexinit; more = _; read_names = f.opened.read_names; first = f.theirs_is; read = f.opened.read; kex = held_kex f.opened.read_names o.names f.opened.held ∙ ap (λ (m : Names). m.kex) is } where
   is : o.names ≡ n
   is = (let q : Some o.names ≡ Some n = e in cc)
-stage_first says s (AwaitsRequest o) own theirs n e f = record { strict = was_strict s.cause; payload = o.peer_kexinit; more = []; read_names = f.opened.read_names; first = f.theirs_is; read = f.opened.read; kex = held_kex s.side f.opened.read_names o.names f.opened.held ∙ ap (λ (m : Names). m.kex) is } where
+stage_first says s (AwaitsRequest o) own theirs n e f = record { strict = was_strict s.cause; payload = o.peer_kexinit; more = []; read_names = f.opened.read_names; first = f.theirs_is; read = f.opened.read; kex = held_kex f.opened.read_names o.names f.opened.held ∙ ap (λ (m : Names). m.kex) is } where
   is : o.names ≡ n
   is = (let q : Some o.names ≡ Some n = e in cc)
-stage_first says s (AwaitsValue o None) own theirs n e f = record { strict = was_strict s.cause; payload = o.peer_kexinit; more = []; read_names = f.opened.read_names; first = f.theirs_is; read = f.opened.read; kex = held_kex s.side f.opened.read_names o.names f.opened.held ∙ ap (λ (m : Names). m.kex) is } where
+stage_first says s (AwaitsValue o None) own theirs n e f = record { strict = was_strict s.cause; payload = o.peer_kexinit; more = []; read_names = f.opened.read_names; first = f.theirs_is; read = f.opened.read; kex = held_kex f.opened.read_names o.names f.opened.held ∙ ap (λ (m : Names). m.kex) is } where
   is : o.names ≡ n
   is = (let q : Some o.names ≡ Some n = e in cc)
-stage_first says s (AwaitsValue o (Some g)) own theirs n e f = record { strict = was_strict s.cause; payload = o.peer_kexinit; more = _; read_names = f.opened.read_names; first = f.theirs_is; read = f.opened.read; kex = held_kex s.side f.opened.read_names o.names f.opened.held ∙ ap (λ (m : Names). m.kex) is } where
+stage_first says s (AwaitsValue o (Some g)) own theirs n e f = record { strict = was_strict s.cause; payload = o.peer_kexinit; more = _; read_names = f.opened.read_names; first = f.theirs_is; read = f.opened.read; kex = held_kex f.opened.read_names o.names f.opened.held ∙ ap (λ (m : Names). m.kex) is } where
   is : o.names ≡ n
   is = (let q : Some o.names ≡ Some n = e in cc)
 stage_first says s (AwaitsNewkeys exchange made host) own theirs n e f = subst (λ m. ReadFirst s.side s.config theirs m) (let q : Some made.names ≡ Some n = e in let r : made.names ≡ n = cc in r) (made_first s.side says s own theirs exchange made host f)

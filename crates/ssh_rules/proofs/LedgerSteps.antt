@@ -207,8 +207,8 @@ tidy_step says side config own_id st (MessageTaken i) st' t y h =
     with_tidy says side config own_id st (record (reads st i) { stands = Inside h.next; called = false; owed = h.answers }) st' (trace_after t (MessageTaken i)) h.becomes (fits_step says side config own_id st (MessageTaken i) st' t y.fits h) (owed_step says side config own_id st (MessageTaken i) st' y.owed h) (held_step says side config own_id st (MessageTaken i) st' y.held h) (takes_owes_kex says s h.stage (next_number st.reading.number) i.payload h.answers h.next h.takes)
     (before ∙ sym (takes_row says s h.stage (next_number st.reading.number) i.payload h.answers h.next h.takes).open_yet) (has_snoc t.theirs i.payload y.theirs_open ∙ k.1)
 tidy_step says side config own_id st (GuessDropped i) st' t y h =
-    let d = open_drops side h.stage st.owed h.drops in
-    with_tidy says side config own_id st (record (reads st i) { stands = Inside (Rattle.ssh_kex.specs.Stages.guess_dropped side h.stage) }) st' t h.becomes (fits_step says side config own_id st (GuessDropped i) st' t y.fits h) (owed_step says side config own_id st (GuessDropped i) st' y.owed h) (held_step says side config own_id st (GuessDropped i) st' y.held h) y.owed_kex
+    let d = open_drops h.stage st.owed h.drops in
+    with_tidy says side config own_id st (record (reads st i) { stands = Inside (Rattle.ssh_kex.specs.Stages.guess_dropped h.stage) }) st' t h.becomes (fits_step says side config own_id st (GuessDropped i) st' t y.fits h) (owed_step says side config own_id st (GuessDropped i) st' y.owed h) (held_step says side config own_id st (GuessDropped i) st' y.held h) y.owed_kex
     (y.own_ended ∙ (ap (λ w. ended w st.owed) h.inside ∙ (d.0 ∙ sym d.1))) y.theirs_open
 tidy_step says side config own_id st (PayloadDelivered i) st' t y h = with_tidy says side config own_id st _ st' t h.becomes (fits_step says side config own_id st (PayloadDelivered i) st' t y.fits h) (owed_step says side config own_id st (PayloadDelivered i) st' y.owed h) (held_step says side config own_id st (PayloadDelivered i) st' y.held h) y.owed_kex y.own_ended y.theirs_open
 tidy_step says side config own_id st (PacketDropped i) st' t y h = with_tidy says side config own_id st _ st' t h.becomes (fits_step says side config own_id st (PacketDropped i) st' t y.fits h) (owed_step says side config own_id st (PacketDropped i) st' y.owed h) (held_step says side config own_id st (PacketDropped i) st' y.held h) y.owed_kex y.own_ended y.theirs_open

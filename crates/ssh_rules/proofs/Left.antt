@@ -40,13 +40,13 @@ finishes_left says (AwaitsReply o g l p) payload x h = absurd h
 finishes_left says (AwaitsRequest o) payload x h = absurd h
 finishes_left says (AwaitsValue o g) payload x h = absurd h
 
-dropped_left : (side : Side) (stage : Stage) → to_come (Inside (guess_dropped side stage)) ≡ to_come (Inside stage)
-dropped_left side (Created own) = refl
-dropped_left side (AwaitsGroup o) = refl
-dropped_left side (AwaitsReply o g l p) = refl
-dropped_left side (AwaitsRequest o) = refl
-dropped_left side (AwaitsValue o g) = refl
-dropped_left side (AwaitsNewkeys exchange made host) = refl
+dropped_left : (stage : Stage) → to_come (Inside (guess_dropped stage)) ≡ to_come (Inside stage)
+dropped_left (Created own) = refl
+dropped_left (AwaitsGroup o) = refl
+dropped_left (AwaitsReply o g l p) = refl
+dropped_left (AwaitsRequest o) = refl
+dropped_left (AwaitsValue o g) = refl
+dropped_left (AwaitsNewkeys exchange made host) = refl
 
 pub may_open : (config : Config) (st : SideState) (cause : Cause) → MayBegin config st cause → (open_count st.stands ≡ 0) × (to_come st.stands ≡ 0)
 may_open config st Start h = (ap open_count h.0, ap to_come h.0)
@@ -99,7 +99,7 @@ left_step says side config own_id bound st (MessageTaken i) st' h b =
 left_step says side config own_id bound st (GuessDropped i) st' h b =
     let e = ap open_count h.inside in
     let f = ap to_come h.inside in
-    let d = dropped_left side h.stage in
+    let d = dropped_left h.stage in
     subst (λ (m : SideState). left bound m + 0 ≤ left bound st + 0) (sym h.becomes) (omega (arith, e, f, d))
 left_step says side config own_id bound st (PayloadDelivered i) st' h b = subst (λ (m : SideState). left bound m + 0 ≤ left bound st + 0) (sym h.becomes) (omega arith)
 left_step says side config own_id bound st (PacketDropped i) st' h b = subst (λ (m : SideState). left bound m + 0 ≤ left bound st + 0) (sym h.becomes) (omega arith)

@@ -54,3 +54,7 @@ pub use Rattle.ssh_rules.proofs.Numbers.{few_run}
 pub use Rattle.ssh_rules.proofs.Moved.{same_mark}
 pub use Rattle.ssh_rules.proofs.AskedLinks.{AskedFew, FewAt, IsSoFar, RefusedHere, asked_few, begun_of, few_at, kinds_of, so_far_settled, times_up}
 pub use Rattle.ssh_rules.proofs.Came.{came}
+pub use Rattle.ssh_rules.proofs.Kept.{asking_kept, kept_line, piece_asking_kept, piece_kept, takes_kept}
+pub use Rattle.ssh_rules.proofs.AttackTrace.{Lifts, end_lifted, one_more, trace_lifted}
+pub use Rattle.ssh_rules.proofs.AttackParts.{attack_report}
+pub use Rattle.ssh_rules.proofs.AttackedLinks.{answers_weaker, first_end}

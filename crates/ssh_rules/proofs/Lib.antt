@@ -78,6 +78,7 @@ pub mod Asking
 pub mod FewAsked
 pub mod LinkFew
 pub mod LinkIs
+pub mod Kept
 pub mod KindRead
 pub mod RunHandled
 pub mod RunPrompt
@@ -102,4 +103,16 @@ pub mod SettleEnds
 pub mod Owed
 pub mod AskedLinks
 pub mod Came
+pub mod FedLines
+pub mod AllOpened
+pub mod FedSides
+pub mod FedReports
+pub mod AttackedRuns
+pub mod AttackedLinks
+pub mod SeenSides
+pub mod RefusedNow
+pub mod AcceptedNow
+pub mod AttackAnswers
+pub mod AttackParts
+pub mod AttackTrace
 pub mod Lemmas

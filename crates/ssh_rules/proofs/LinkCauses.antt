@@ -18,7 +18,8 @@ use Rattle.ssh_negotiate.specs.declared.kex.Name.{Name as KexName}
 use Rattle.ssh_negotiate.specs.declared.negotiation.Names.{Names}
 use Rattle.ssh_kex.specs.Messages.{is_gex}
 use Rattle.ssh_kex.specs.Parts.{Setup}
-use Rattle.ssh_kex.specs.Refusals.{Denies, IsCreated, IsInside, IsOutOfRange, IsOutside, PartDenies, RefusesMessage, SignatureDenied, SigningDenied, kexinit_read}
+use Rattle.ssh_kex.specs.Refusals.{Denies, IsCreated, IsOutOfRange, PartDenies, RefusesMessage, SignatureDenied, SigningDenied, kexinit_read}
+use Rattle.ssh_kex.specs.Fields.{IsInside, IsOutside}
 use Rattle.ssh_kex.specs.Setting.{Says, Setting, offers_of}
 use Rattle.ssh_kex.specs.Stages.{AwaitsGroup, AwaitsNewkeys, AwaitsReply, AwaitsRequest, AwaitsValue, Created, Stage, names_of}
 use Rattle.ssh_kex.specs.declared.config.Config.{Config}

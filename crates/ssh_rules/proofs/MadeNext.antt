@@ -41,16 +41,16 @@ pub record Negotiated (side : Side) (config : Config) (cause : KexCause) (own pe
 not_both : true ≡ false → ⊥
 not_both e = cc
 
-holds_plain : (side : Side) (read held : Names) → Holds side read held → read.ignore_guessed ≡ false → held ≡ read
-holds_plain side read held (inl e) f = e
-holds_plain side read held (inr e) f = absurd (not_both (sym e.0 ∙ f))
+holds_plain : (read held : Names) → Holds read held → read.ignore_guessed ≡ false → held ≡ read
+holds_plain read held (inl e) f = e
+holds_plain read held (inr e) f = absurd (not_both (sym e.0 ∙ f))
 
 pub by_opened : (says : Says) (s : Setting) (o : Opened) (side : Side) → s.side ≡ side → OpenedBy says s o → Negotiated side s.config s.cause o.own_kexinit o.peer_kexinit o.names
 by_opened says s o side e b = subst (λ w. Negotiated w s.config s.cause o.own_kexinit o.peer_kexinit o.names) e
-    (record { cookie = b.cookie; cookie_length = b.cookie_length; own_is = b.own; read_names = b.read_names; read = b.read; held = holds_plain s.side b.read_names o.names b.held })
+    (record { cookie = b.cookie; cookie_length = b.cookie_length; own_is = b.own; read_names = b.read_names; read = b.read; held = holds_plain b.read_names o.names b.held })
 
 pub by_server : (says : Says) (s : Setting) (own theirs : List (List ℕ)) (e : Exchange) (x : FinishedExchange) (h : Option ServerHost) → (m : MadeServer says s own theirs e x h) → Negotiated Server s.config s.cause e.server_kex_init e.client_kex_init m.names
-by_server says s own theirs e x h m = record { cookie = m.cookie; cookie_length = m.cookie_length; own_is = m.kexinit_is; read_names = m.read_names; read = m.read; held = λ p. m.names_are ∙ held_plain Server m.read_names p }
+by_server says s own theirs e x h m = record { cookie = m.cookie; cookie_length = m.cookie_length; own_is = m.kexinit_is; read_names = m.read_names; read = m.read; held = λ p. m.names_are ∙ held_plain m.read_names p }
 
 -- both hold the same names
 pub both_hold : (c s : Config) (cause : KexCause) (k l : List ℕ) (n m : Names) → IsWithin (offers_of Client c) → IsWithin (offers_of Server s) → Negotiated Client c cause k l n → Negotiated Server s cause l k m → n ≡ m

@@ -114,7 +114,7 @@ is_made_of client server client_makes server_makes agrees cc sc before a b d e x
     let plain = follows_none Client (offers_of Client cc) (offers_of Server sc) still ms.cookie mc.read_names ms.cookie_length ws read in
     let x_names : x.names ≡ mc.names = ap (λ (z : FinishedExchange). z.names) mc.made in
     let y_names : y.names ≡ ms.names = ap (λ (z : FinishedExchange). z.names) ms.made in
-    let names : x.names ≡ mc.read_names = x_names ∙ (mc.names_are ∙ held_plain Client mc.read_names plain) in
+    let names : x.names ≡ mc.read_names = x_names ∙ (mc.names_are ∙ held_plain mc.read_names plain) in
     let kind : is_gex x.names.kex ≡ is_some d.gex = ap (λ (n : Names). is_gex n.kex) x_names ∙ mc.kind in
     let server_names : ms.names ≡ x.names = sym y_names ∙ ap (λ (z : FinishedExchange). z.names) (sym both.0) in
     record {

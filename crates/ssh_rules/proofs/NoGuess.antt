@@ -113,19 +113,19 @@ FollowsNone side config peer = (b : Bool) (cookie : List ℕ) (n : Names) → le
 differ : true ≡ false → ⊥
 differ e = cc
 
-held_follows : (side : Side) (read held : Names) → Holds side read held → held.ignore_guessed ≡ true → read.ignore_guessed ≡ true
-held_follows side read held (inl e) d = ap (λ (n : Names). n.ignore_guessed) (sym e) ∙ d
-held_follows side read held (inr e) d = e.0
+held_follows : (read held : Names) → Holds read held → held.ignore_guessed ≡ true → read.ignore_guessed ≡ true
+held_follows read held (inl e) d = ap (λ (n : Names). n.ignore_guessed) (sym e) ∙ d
+held_follows read held (inr e) d = e.0
 
 -- a stage that drops a guess has read a KEXINIT which says that one follows
 drops_read : (says : Says) (s : Setting) (stage : Stage) (own theirs : List (List ℕ)) → drops_guess stage ≡ true → FitsStage says s stage own theirs → (b : Bool) × (k : List ℕ) × (ms : List (List ℕ)) × (n : Names) × (theirs ≡ k ∷ ms) × (names_read s.side (offers_of s.side s.config) b k ≡ Ok n) × (n.ignore_guessed ≡ true)
-drops_read says s (AwaitsReply o None l p) own theirs d f = (was_strict s.cause, o.peer_kexinit, [], f.opened.read_names, f.theirs_is, f.opened.read, held_follows s.side f.opened.read_names o.names f.opened.held d)
-drops_read says s (AwaitsReply o (Some g) l p) own theirs d f = (was_strict s.cause, o.peer_kexinit, _, f.opened.read_names, f.theirs_is, f.opened.read, held_follows s.side f.opened.read_names o.names f.opened.held d)
-drops_read says s (AwaitsValue o None) own theirs d f = (was_strict s.cause, o.peer_kexinit, [], f.opened.read_names, f.theirs_is, f.opened.read, held_follows s.side f.opened.read_names o.names f.opened.held d)
-drops_read says s (AwaitsValue o (Some g)) own theirs d f = (was_strict s.cause, o.peer_kexinit, _, f.opened.read_names, f.theirs_is, f.opened.read, held_follows s.side f.opened.read_names o.names f.opened.held d)
+drops_read says s (AwaitsReply o None l p) own theirs d f = (was_strict s.cause, o.peer_kexinit, [], f.opened.read_names, f.theirs_is, f.opened.read, held_follows f.opened.read_names o.names f.opened.held d)
+drops_read says s (AwaitsReply o (Some g) l p) own theirs d f = (was_strict s.cause, o.peer_kexinit, _, f.opened.read_names, f.theirs_is, f.opened.read, held_follows f.opened.read_names o.names f.opened.held d)
+drops_read says s (AwaitsValue o None) own theirs d f = (was_strict s.cause, o.peer_kexinit, [], f.opened.read_names, f.theirs_is, f.opened.read, held_follows f.opened.read_names o.names f.opened.held d)
+drops_read says s (AwaitsValue o (Some g)) own theirs d f = (was_strict s.cause, o.peer_kexinit, _, f.opened.read_names, f.theirs_is, f.opened.read, held_follows f.opened.read_names o.names f.opened.held d)
 drops_read says s (Created k) own theirs d f = absurd (let e : true ≡ false = sym d in cc)
-drops_read says s (AwaitsGroup o) own theirs d f = absurd (let e : true ≡ false = sym d in cc)
-drops_read says s (AwaitsRequest o) own theirs d f = absurd (let e : true ≡ false = sym d in cc)
+drops_read says s (AwaitsGroup o) own theirs d f = (was_strict s.cause, o.peer_kexinit, [], f.opened.read_names, f.theirs_is, f.opened.read, held_follows f.opened.read_names o.names f.opened.held d)
+drops_read says s (AwaitsRequest o) own theirs d f = (was_strict s.cause, o.peer_kexinit, [], f.opened.read_names, f.theirs_is, f.opened.read, held_follows f.opened.read_names o.names f.opened.held d)
 drops_read says s (AwaitsNewkeys exchange x host) own theirs d f = absurd (let e : true ≡ false = sym d in cc)
 
 -- So a side that has handled a front of what an honest peer wrote drops no guess next.

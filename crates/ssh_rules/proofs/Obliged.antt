@@ -22,7 +22,8 @@ use Rattle.ssh_negotiate.specs.declared.preferred.HostCertificate.{HostCertifica
 use Rattle.ssh_negotiate.specs.declared.preferred.HostKey.{HostKey}
 use Rattle.ssh_kex.specs.Messages.{IsCanonical, Presented, by_certificate, by_holder, by_key, group_message, host_with, is_gex, presented, reply_message, value_message}
 use Rattle.ssh_kex.specs.Parts.{IsSmall}
-use Rattle.ssh_kex.specs.Refusals.{Denies, IsInside, IsOutOfRange, IsOutside, IsTooLong, IsUnoffered, PartDenies, ReplyFront, SignatureDenied, SigningDenied, fields, group_in, kexinit_read, reply_front, sizes_in, value_in}
+use Rattle.ssh_kex.specs.Refusals.{Denies, IsOutOfRange, IsTooLong, IsUnoffered, PartDenies, SignatureDenied, SigningDenied, kexinit_read}
+use Rattle.ssh_kex.specs.Fields.{IsInside, IsOutside, ReplyFront, fields, group_in, reply_front, sizes_in, value_in}
 use Rattle.ssh_kex.specs.Setting.{Says, Setting, Opened, exchange_by, exchange_of, group_of, made_of, offers_of}
 use Rattle.ssh_kex.specs.Signature.{judged}
 use Rattle.ssh_kex.specs.Stages.{Stage, Created, AwaitsGroup, AwaitsReply, AwaitsRequest, AwaitsValue, AwaitsNewkeys}
@@ -296,7 +297,7 @@ at_most : (limit n : ℕ) → nat_lt limit n ≡ false → n ≤ limit
 at_most limit n h = grind (arith, nat_tests)
 
 -- what a server presents is no longer than the blobs of its configuration
-presented_short : (config : Config) (certificate : Bool) (algorithm : Algorithm) (shown : Presented) → some_blob_long config ≡ false → presented config.host certificate algorithm ≡ Some shown → length shown.blob ≤ longest_blob
+pub presented_short : (config : Config) (certificate : Bool) (algorithm : Algorithm) (shown : Presented) → some_blob_long config ≡ false → presented config.host certificate algorithm ≡ Some shown → length shown.blob ≤ longest_blob
 unfolding presented
 presented_short config false algorithm shown n e = by (find (λ (k : HostKey). fits k.algorithm algorithm) config.host.keys) refl e where
   by : (o : Option HostKey) → find (λ (k : HostKey). fits k.algorithm algorithm) config.host.keys ≡ o → by_key o ≡ Some shown → length shown.blob ≤ longest_blob
@@ -327,7 +328,7 @@ group_length g = let a = length-append (mpint g.prime) (mpint g.generator) in le
 string_length : (v : List ℕ) → length (string v) ≡ length v + 4
 string_length v = let a = length-append (u32be (length v)) v in omega (arith, a)
 
-reply_length : (kind : Bool) (h v s : List ℕ) → length (reply_message kind h v s) ≡ length h + (length v + length s) + 13
+pub reply_length : (kind : Bool) (h v s : List ℕ) → length (reply_message kind h v s) ≡ length h + (length v + length s) + 13
 reply_length kind h v s = by kind where
   body : length (string h ++ (string v ++ string s)) ≡ length h + (length v + length s) + 12
   body = let a = length-append (string h) (string v ++ string s) in let b = length-append (string v) (string s) in let x = string_length h in let y = string_length v in let z = string_length s in omega (arith, a, b, x, y, z)

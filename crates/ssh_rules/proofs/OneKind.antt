@@ -45,8 +45,8 @@ whole_server t None theirs e = (_, e)
 whole_server t (Some g) theirs e = (_, e)
 
 pub record_first : (side : Side) (says : Says) (s : Setting) (own theirs : List (List ℕ)) (exchange : Exchange) (x : FinishedExchange) (host : Option ServerHost) → MadeBy side says s own theirs exchange x host → ReadFirst side s.config theirs x.names
-record_first Client says s own theirs exchange x host m = (let f = whole_server (spoken exchange m.host m.signature) exchange.gex theirs m.theirs_is in record { strict = was_strict s.cause; payload = exchange.server_kex_init; more = f.0; read_names = m.read_names; first = f.1; read = m.read; kex = names_kex Client m.read_names m.names m.names_are ∙ ap (λ (y : FinishedExchange). y.names.kex) (sym m.made) })
-record_first Server says s own theirs exchange x host m = (let f = whole_client (spoken exchange m.shown.blob m.signature) exchange.gex theirs m.theirs_is in record { strict = was_strict s.cause; payload = exchange.client_kex_init; more = f.0; read_names = m.read_names; first = f.1; read = m.read; kex = names_kex Server m.read_names m.names m.names_are ∙ ap (λ (y : FinishedExchange). y.names.kex) (sym m.made) })
+record_first Client says s own theirs exchange x host m = (let f = whole_server (spoken exchange m.host m.signature) exchange.gex theirs m.theirs_is in record { strict = was_strict s.cause; payload = exchange.server_kex_init; more = f.0; read_names = m.read_names; first = f.1; read = m.read; kex = names_kex m.read_names m.names m.names_are ∙ ap (λ (y : FinishedExchange). y.names.kex) (sym m.made) })
+record_first Server says s own theirs exchange x host m = (let f = whole_client (spoken exchange m.shown.blob m.signature) exchange.gex theirs m.theirs_is in record { strict = was_strict s.cause; payload = exchange.client_kex_init; more = f.0; read_names = m.read_names; first = f.1; read = m.read; kex = names_kex m.read_names m.names m.names_are ∙ ap (λ (y : FinishedExchange). y.names.kex) (sym m.made) })
 
 pub of_kind : (t : Talkers) (side : Side) (kind : Bool) (log plog : List Event) (h peer : LinkEnd) → HasSizes (t.config (other_side side)) → ReadsKind side (t.config side) (t.config (other_side side)) kind → RunsInLink t side log h → RunsInLink t (other_side side) plog peer → HasFront (wrote plog) (handled log) → IsOfKind kind h.state
 of_kind t side kind log plog h peer sizes reads r p front = record {

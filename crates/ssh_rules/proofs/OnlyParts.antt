@@ -17,7 +17,8 @@ use Rattle.ssh_negotiate.specs.Laws.{IsWithin, kept_strict, side_answer}
 use Rattle.ssh_negotiate.specs.Reading.{KexinitFault, Encoding, Inconsistent, names_read}
 use Rattle.ssh_negotiate.specs.declared.negotiation.Names.{Names}
 use Rattle.ssh_kex.specs.Messages.{is_gex, group_message, reply_message, value_message}
-use Rattle.ssh_kex.specs.Refusals.{Denies, IsBadlyEncoded, IsCreated, IsLate, IsOutOfRange, IsTooLong, IsUnoffered, PartDenies, RefusesMessage, ReplyFront, SignatureDenied, SigningDenied, awaited, fields, group_in, kexinit_read, reply_front, sizes_in, value_in}
+use Rattle.ssh_kex.specs.Refusals.{Denies, IsBadlyEncoded, IsCreated, IsLate, IsOutOfRange, IsTooLong, IsUnoffered, PartDenies, RefusesMessage, SignatureDenied, SigningDenied, awaited, kexinit_read}
+use Rattle.ssh_kex.specs.Fields.{ReplyFront, fields, group_in, reply_front, sizes_in, value_in}
 use Rattle.ssh_kex.specs.Setting.{Says, Setting, offers_of}
 use Rattle.ssh_kex.specs.Stages.{Stage, Created, AwaitsGroup, AwaitsReply, AwaitsRequest, AwaitsValue, AwaitsNewkeys, IsFirst}
 use Rattle.ssh_kex.specs.declared.config.Config.{Config}

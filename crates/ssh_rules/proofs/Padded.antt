@@ -45,7 +45,7 @@ written_padded says side config own_id (MessageTaken i ∷ es) st st' w k h =
     same_padded side es st.stands (Inside h.1.next) st.owed h.1.answers st.writing (ap (λ v. ended v st.owed) h.1.inside ∙ open_takes says (setting side config own_id st) h.1.stage (next_number st.reading.number) i.payload h.1.answers h.1.next st.owed h.1.takes) ((takes_row says (setting side config own_id st) h.1.stage (next_number st.reading.number) i.payload h.1.answers h.1.next h.1.takes).open_yet) next
 written_padded says side config own_id (GuessDropped i ∷ es) st st' w k h =
     let next = subst (PaddedRest side es) h.1.becomes (written_padded says side config own_id es h.0 st' (owed_step says side config own_id st (GuessDropped i) h.0 w h.1) (held_step says side config own_id st (GuessDropped i) h.0 k h.1) h.2) in
-    same_padded side es st.stands (Inside (guess_dropped side h.1.stage)) st.owed st.owed st.writing (ap (λ v. ended v st.owed) h.1.inside ∙ (open_drops side h.1.stage st.owed h.1.drops).0) ((open_drops side h.1.stage st.owed h.1.drops).1) next
+    same_padded side es st.stands (Inside (guess_dropped h.1.stage)) st.owed st.owed st.writing (ap (λ v. ended v st.owed) h.1.inside ∙ (open_drops h.1.stage st.owed h.1.drops).0) ((open_drops h.1.stage st.owed h.1.drops).1) next
 written_padded says side config own_id (PayloadDelivered i ∷ es) st st' w k h = subst (PaddedRest side es) h.1.becomes (written_padded says side config own_id es h.0 st' (owed_step says side config own_id st (PayloadDelivered i) h.0 w h.1) (held_step says side config own_id st (PayloadDelivered i) h.0 k h.1) h.2)
 written_padded says side config own_id (PacketDropped i ∷ es) st st' w k h = subst (PaddedRest side es) h.1.becomes (written_padded says side config own_id es h.0 st' (owed_step says side config own_id st (PacketDropped i) h.0 w h.1) (held_step says side config own_id st (PacketDropped i) h.0 k h.1) h.2)
 written_padded says side config own_id (ExchangeFinished i x ∷ es) st st' w k h =

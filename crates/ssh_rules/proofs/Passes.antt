@@ -12,8 +12,8 @@ use Rattle.ssh_kex.specs.Messages.{is_gex, newkeys, value_message, reply_message
 use Rattle.ssh_wire.specs.Sides.{other_side}
 use Rattle.ssh_kex.specs.Setting.{Says, Setting}
 use Rattle.ssh_kex.specs.Stages.{Stage, Created, AwaitsGroup, AwaitsReply, AwaitsRequest, AwaitsValue, AwaitsNewkeys}
-use Rattle.ssh_rules.specs.MessageTypes.{type_of}
-use Rattle.ssh_rules.specs.Machine.{Inside, names_now, OrderBy, guesses, is_violation}
+use Rattle.ssh_rules.specs.MessageTypes.{type_of, is_violation}
+use Rattle.ssh_rules.specs.Machine.{Inside, names_now, OrderBy, guesses}
 use Rattle.ssh_kex.specs.declared.exchange.Exchange.{Exchange}
 use Rattle.ssh_rules.specs.Made.{MadeBy}
 use Rattle.ssh_rules.proofs.StageFits.{FitsStage}

@@ -107,7 +107,7 @@ owed_step says side config own_id st (ExchangeBegun cause i) st' w h = subst (λ
 owed_step says side config own_id st (AnswerSent i resets) st' w h = subst (λ (m : SideState). OwedOk m.stands m.owed) (sym h.becomes) (owed_tail st.stands i.payload h.more (subst (OwedOk st.stands) h.owes w))
 owed_step says side config own_id st (PayloadSent i) st' w h = subst (λ (m : SideState). OwedOk m.stands m.owed) (sym h.becomes) w
 owed_step says side config own_id st (MessageTaken i) st' w h = subst (λ (m : SideState). OwedOk m.stands m.owed) (sym h.becomes) ((takes_row says (setting side config own_id st) h.stage (next_number st.reading.number) i.payload h.answers h.next h.takes).owed)
-owed_step says side config own_id st (GuessDropped i) st' w h = subst (λ (m : SideState). OwedOk m.stands m.owed) (sym h.becomes) (subst (OwedOk (Inside (guess_dropped side h.stage))) (sym h.owes) (owed_none (Inside (guess_dropped side h.stage))))
+owed_step says side config own_id st (GuessDropped i) st' w h = subst (λ (m : SideState). OwedOk m.stands m.owed) (sym h.becomes) (subst (OwedOk (Inside (guess_dropped h.stage))) (sym h.owes) (owed_none (Inside (guess_dropped h.stage))))
 owed_step says side config own_id st (PayloadDelivered i) st' w h = subst (λ (m : SideState). OwedOk m.stands m.owed) (sym h.becomes) w
 owed_step says side config own_id st (PacketDropped i) st' w h = subst (λ (m : SideState). OwedOk m.stands m.owed) (sym h.becomes) w
 owed_step says side config own_id st (ExchangeFinished i x) st' w h = subst (λ (m : SideState). OwedOk m.stands m.owed) (sym h.becomes) (subst (OwedOk Outside) (sym h.owes) tt)
@@ -131,13 +131,13 @@ open_takes says s (AwaitsRequest o) seqn payload written next owed h = refl
 open_takes says s (AwaitsValue o g) seqn payload written next owed h = refl
 open_takes says s (AwaitsNewkeys exchange x host) seqn payload written next owed h = absurd h
 
-pub open_drops : (side : Side) (stage : Stage) (owed : List (List ℕ)) → drops_guess stage ≡ true → (ended (Inside stage) owed ≡ false) × (ended (Inside (guess_dropped side stage)) owed ≡ false)
-open_drops side (Created k) owed h = (refl, refl)
-open_drops side (AwaitsGroup o) owed h = (refl, refl)
-open_drops side (AwaitsReply o g l p) owed h = (refl, refl)
-open_drops side (AwaitsRequest o) owed h = (refl, refl)
-open_drops side (AwaitsValue o g) owed h = (refl, refl)
-open_drops side (AwaitsNewkeys exchange x host) owed h = cc
+pub open_drops : (stage : Stage) (owed : List (List ℕ)) → drops_guess stage ≡ true → (ended (Inside stage) owed ≡ false) × (ended (Inside (guess_dropped stage)) owed ≡ false)
+open_drops (Created k) owed h = (refl, refl)
+open_drops (AwaitsGroup o) owed h = (refl, refl)
+open_drops (AwaitsReply o g l p) owed h = (refl, refl)
+open_drops (AwaitsRequest o) owed h = (refl, refl)
+open_drops (AwaitsValue o g) owed h = (refl, refl)
+open_drops (AwaitsNewkeys exchange x host) owed h = cc
 
 pub open_may : (config : Config) (st : SideState) (cause : Cause) → MayBegin config st cause → ended st.stands st.owed ≡ false
 open_may config st Start h = ap (λ w. ended w st.owed) h.0
@@ -291,7 +291,7 @@ written_reads says side config own_id (MessageTaken i ∷ es) st st' w k h =
     same_place side es st.stands (Inside h.1.next) st.owed h.1.answers st.writing (ap (λ v. ended v st.owed) h.1.inside ∙ open_takes says (setting side config own_id st) h.1.stage (next_number st.reading.number) i.payload h.1.answers h.1.next st.owed h.1.takes) ((takes_row says (setting side config own_id st) h.1.stage (next_number st.reading.number) i.payload h.1.answers h.1.next h.1.takes).open_yet) next
 written_reads says side config own_id (GuessDropped i ∷ es) st st' w k h =
     let next = subst (ReadsRest side es) h.1.becomes (written_reads says side config own_id es h.0 st' (owed_step says side config own_id st (GuessDropped i) h.0 w h.1) (held_step says side config own_id st (GuessDropped i) h.0 k h.1) h.2) in
-    same_place side es st.stands (Inside (guess_dropped side h.1.stage)) st.owed st.owed st.writing (ap (λ v. ended v st.owed) h.1.inside ∙ (open_drops side h.1.stage st.owed h.1.drops).0) ((open_drops side h.1.stage st.owed h.1.drops).1) next
+    same_place side es st.stands (Inside (guess_dropped h.1.stage)) st.owed st.owed st.writing (ap (λ v. ended v st.owed) h.1.inside ∙ (open_drops h.1.stage st.owed h.1.drops).0) ((open_drops h.1.stage st.owed h.1.drops).1) next
 written_reads says side config own_id (PayloadDelivered i ∷ es) st st' w k h = subst (ReadsRest side es) h.1.becomes (written_reads says side config own_id es h.0 st' (owed_step says side config own_id st (PayloadDelivered i) h.0 w h.1) (held_step says side config own_id st (PayloadDelivered i) h.0 k h.1) h.2)
 written_reads says side config own_id (PacketDropped i ∷ es) st st' w k h = subst (ReadsRest side es) h.1.becomes (written_reads says side config own_id es h.0 st' (owed_step says side config own_id st (PacketDropped i) h.0 w h.1) (held_step says side config own_id st (PacketDropped i) h.0 k h.1) h.2)
 written_reads says side config own_id (ExchangeFinished i x ∷ es) st st' w k h =

@@ -3,7 +3,7 @@ use Rattle.std.proofs.Common.{◌≡◌, ℕ, ◌-◌, ◌<◌, ◌^◌, List, [
 use Rattle.ssh_wire.proofs.Lemmas.{mpint_again, string_again, u32_again}
 use Rattle.ssh_wire.specs.Fields.{◌>>=◌, mpint_at, string_at, u32_at}
 use Rattle.ssh_wire.specs.Forms.{magnitude, mpint, string, u32be}
-use Rattle.ssh_kex.specs.Refusals.{at_end, group_in, reply_front, sizes_front, sizes_in, value_in}
+use Rattle.ssh_kex.specs.Fields.{at_end, group_in, reply_front, sizes_front, sizes_in, value_in}
 use Rattle.ssh_kex.specs.declared.group.DhGroup.{DhGroup}
 use Rattle.ssh_kex.specs.declared.group.GexParams.{GexParams}
 

@@ -27,7 +27,7 @@ use Rattle.ssh_rules.specs.Machine.{cause_of}
 use Rattle.ssh_rules.specs.Made.{MadeClient, MadeServer, IsRecorded}
 use Rattle.ssh_rules.specs.ExchangeMessages.{groups}
 
-strict_is : (before : List FinishedExchange) → was_strict (cause_of before) ≡ still_strict before
+pub strict_is : (before : List FinishedExchange) → was_strict (cause_of before) ≡ still_strict before
 strict_is [] = refl
 strict_is (x ∷ xs) = refl
 

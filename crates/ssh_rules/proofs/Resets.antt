@@ -15,9 +15,9 @@ use Rattle.ssh_rules.specs.Machine.{Inside, strict_now}
 use Rattle.ssh_rules.specs.Made.{MadeBy}
 use Rattle.ssh_negotiate.proofs.Lemmas.{read_flags}
 
-held_strict : (side : Side) (n : Names) → (held_names side n).strict_kex ≡ n.strict_kex
-held_strict side n = by n.ignore_guessed where
-  by : (b : Bool) → (if b then behind_guess side n else n).strict_kex ≡ n.strict_kex
+held_strict : (n : Names) → (held_names n).strict_kex ≡ n.strict_kex
+held_strict n = by n.ignore_guessed where
+  by : (b : Bool) → (if b then behind_guess n else n).strict_kex ≡ n.strict_kex
   by true = refl
   by false = refl
 
@@ -27,8 +27,8 @@ or_same false true h = sym (h refl)
 or_same false false h = refl
 
 made_strict : (side : Side) (says : Says) (s : Setting) (own theirs : List (List ℕ)) (exchange : Exchange) (x : FinishedExchange) (host : Option ServerHost) → MadeBy side says s own theirs exchange x host → was_strict s.cause ≡ true → x.names.strict_kex ≡ true
-made_strict Client says s own theirs exchange x host m w = ap (λ (y : FinishedExchange). y.names.strict_kex) m.made ∙ (ap (λ (n : Names). n.strict_kex) m.names_are ∙ (held_strict Client m.read_names ∙ (read_flags Client (offers_of Client s.config) (was_strict s.cause) exchange.server_kex_init m.read_names m.read).strict w))
-made_strict Server says s own theirs exchange x host m w = ap (λ (y : FinishedExchange). y.names.strict_kex) m.made ∙ (ap (λ (n : Names). n.strict_kex) m.names_are ∙ (held_strict Server m.read_names ∙ (read_flags Server (offers_of Server s.config) (was_strict s.cause) exchange.client_kex_init m.read_names m.read).strict w))
+made_strict Client says s own theirs exchange x host m w = ap (λ (y : FinishedExchange). y.names.strict_kex) m.made ∙ (ap (λ (n : Names). n.strict_kex) m.names_are ∙ (held_strict m.read_names ∙ (read_flags Client (offers_of Client s.config) (was_strict s.cause) exchange.server_kex_init m.read_names m.read).strict w))
+made_strict Server says s own theirs exchange x host m w = ap (λ (y : FinishedExchange). y.names.strict_kex) m.made ∙ (ap (λ (n : Names). n.strict_kex) m.names_are ∙ (held_strict m.read_names ∙ (read_flags Server (offers_of Server s.config) (was_strict s.cause) exchange.client_kex_init m.read_names m.read).strict w))
 
 pub resets_is : (says : Says) (s : Setting) (stage : Stage) (own theirs : List (List ℕ)) → FitsStage says s stage own theirs → resets s.cause stage ≡ strict_now (Inside stage)
 resets_is says s (Created k) own theirs f = refl

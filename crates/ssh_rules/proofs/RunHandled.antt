@@ -23,7 +23,7 @@ use Rattle.ssh_rules.proofs.Guessing.{GuessAt, ReadsAlike, guess_step, guess_sno
 use Rattle.std.proofs.Common.{append_assoc}
 
 -- bytes behind change nothing of what is read
-reads_by_more : (E : List Item → Item → Bool) (before : List Item) (at : Option Place) (items : List Item) (bytes x rest : List ℕ) → ReadsBy E before at items bytes x → ReadsBy E before at items (bytes ++ rest) (x ++ rest)
+pub reads_by_more : (E : List Item → Item → Bool) (before : List Item) (at : Option Place) (items : List Item) (bytes x rest : List ℕ) → ReadsBy E before at items bytes x → ReadsBy E before at items (bytes ++ rest) (x ++ rest)
 reads_by_more E before at [] bytes x rest h = ap (λ q. q ++ rest) h
 reads_by_more E before None (i ∷ items) bytes x rest h = absurd h
 reads_by_more E before (Some at) (i ∷ items) bytes x rest h = (h.0 ++ rest, h.1, ap (λ q. q ++ rest) h.2 ∙ append_assoc _ h.0 rest, reads_by_more E (before ++ i ∷ []) (place_by (E before i) at i) items h.0 x rest h.3)
@@ -80,7 +80,7 @@ behind_handled says side config own_id (ExchangeFinished i x ∷ es) before st s
 pub handled_place : (says : Says) (side : Side) (config : Config) (own_id : List ℕ) (log : List Event) (st : SideState) → Steps says side config own_id first_state log st → place_behind_by (ends_epoch side config) [] (Some (first_place (map (outgoing (other_side side)) (recorded log)))) (handled log) ≡ Some (place_of st.reading [])
 handled_place says side config own_id log st h = behind_handled says side config own_id log [] first_state st (reads_alike side config) refl h
 
-handled_by : (says : Says) (side : Side) (config : Config) (own_id : List ℕ) (log : List Event) (st : SideState) (bytes rest : List ℕ) → Steps says side config own_id first_state log st → bytes ≡ read_bytes side first_state.reading log ++ rest → ReadsBy (ends_epoch side config) [] (Some (first_place (map (outgoing (other_side side)) (recorded log)))) (handled log) bytes rest
+pub handled_by : (says : Says) (side : Side) (config : Config) (own_id : List ℕ) (log : List Event) (st : SideState) (bytes rest : List ℕ) → Steps says side config own_id first_state log st → bytes ≡ read_bytes side first_state.reading log ++ rest → ReadsBy (ends_epoch side config) [] (Some (first_place (map (outgoing (other_side side)) (recorded log)))) (handled log) bytes rest
 handled_by says side config own_id log st bytes rest h e = subst (λ b. ReadsBy (ends_epoch side config) [] (Some (first_place (map (outgoing (other_side side)) (recorded log)))) (handled log) b rest) (sym e)
     (reads_by_more (ends_epoch side config) [] _ (handled log) (read_bytes side first_state.reading log) [] rest (read_by_guesses says side config own_id log [] first_state st (reads_alike side config) refl h).0)
 

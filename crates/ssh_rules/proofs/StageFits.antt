@@ -36,8 +36,8 @@ trace_after t (PayloadDelivered i) = t
 trace_after t (PacketDropped i) = t
 
 -- the names that a stage holds: those that were read, or those behind a dropped guess
-abbrev pub Holds : Side → Names → Names → Type 0
-Holds side read held = (held ≡ read) ⊎ ((read.ignore_guessed ≡ true) × (held ≡ behind_guess side read))
+abbrev pub Holds : Names → Names → Type 0
+Holds read held = (held ≡ read) ⊎ ((read.ignore_guessed ≡ true) × (held ≡ behind_guess read))
 
 pub record OpenedBy (says : Says) (s : Setting) (o : Opened) : Type 0 where
   pub cookie : List ℕ
@@ -45,7 +45,7 @@ pub record OpenedBy (says : Says) (s : Setting) (o : Opened) : Type 0 where
   pub own : o.own_kexinit ≡ kexinit (offers_of s.side s.config) cookie
   pub read_names : Names
   pub read : names_read s.side (offers_of s.side s.config) (was_strict s.cause) o.peer_kexinit ≡ Ok read_names
-  pub held : Holds s.side read_names o.names
+  pub held : Holds read_names o.names
   pub offered : says.offers o.names.kex
 
 -- own messages with those that are still owed, and the other's

@@ -33,16 +33,16 @@ one_more a b x y e f = ap (λ t. t ++ x ∷ []) e ∙ ap (λ z. b ++ z ∷ []) f
 
 -- ---- names behind a guess
 
-held_by : (side : Side) (read held : Names) → Holds side read held → held.ignore_guessed ≡ false → held ≡ held_names side read
-held_by side read held (inl e) f = e ∙ sym (ap (λ b. if b then behind_guess side read else read) (sym (ap (λ (n : Names). n.ignore_guessed) e) ∙ f))
-held_by side read held (inr e) f = e.1 ∙ sym (ap (λ b. if b then behind_guess side read else read) e.0)
+held_by : (read held : Names) → Holds read held → held.ignore_guessed ≡ false → held ≡ held_names read
+held_by read held (inl e) f = e ∙ sym (ap (λ b. if b then behind_guess read else read) (sym (ap (λ (n : Names). n.ignore_guessed) e) ∙ f))
+held_by read held (inr e) f = e.1 ∙ sym (ap (λ b. if b then behind_guess read else read) e.0)
 
 not_both : true ≡ false → ⊥
 not_both e = cc
 
-holds_dropped : (side : Side) (read held : Names) → Holds side read held → held.ignore_guessed ≡ true → Holds side read (behind_guess side held)
-holds_dropped side read held (inl e) i = inr (sym (ap (λ (n : Names). n.ignore_guessed) e) ∙ i, ap (behind_guess side) e)
-holds_dropped side read held (inr e) i = absurd (not_both (sym i ∙ ap (λ (n : Names). n.ignore_guessed) e.1))
+holds_dropped : (read held : Names) → Holds read held → held.ignore_guessed ≡ true → Holds read (behind_guess held)
+holds_dropped read held (inl e) i = inr (sym (ap (λ (n : Names). n.ignore_guessed) e) ∙ i, ap behind_guess e)
+holds_dropped read held (inr e) i = absurd (not_both (sym i ∙ ap (λ (n : Names). n.ignore_guessed) e.1))
 
 -- ---- rows
 
@@ -77,7 +77,7 @@ client_made says s o gex local public payload written next own theirs kept f h =
       read_names = f.opened.read_names;
       read = ap (λ w. names_read w (offers_of w s.config) (was_strict s.cause) o.peer_kexinit) (sym f.client) ∙ f.opened.read;
       names = o.names;
-      names_are = held_by s.side f.opened.read_names o.names f.opened.held kept ∙ ap (λ w. held_names w f.opened.read_names) f.client;
+      names_are = held_by f.opened.read_names o.names f.opened.held kept;
       offered = f.opened.offered;
       kind = f.kind;
       group = f.group;
@@ -108,7 +108,7 @@ server_made says s o gex payload written next own theirs kept f h =
       read_names = f.opened.read_names;
       read = ap (λ w. names_read w (offers_of w s.config) (was_strict s.cause) o.peer_kexinit) (sym f.server) ∙ f.opened.read;
       names = o.names;
-      names_are = held_by s.side f.opened.read_names o.names f.opened.held kept ∙ ap (λ w. held_names w f.opened.read_names) f.server;
+      names_are = held_by f.opened.read_names o.names f.opened.held kept;
       offered = f.opened.offered;
       kind = f.kind;
       finds = f.finds;
@@ -159,16 +159,16 @@ same_setting Server config own_id st st' h r =
     ap (λ a. let s : Setting = record { side = Server; config = config; client_id = id_or_none a; server_id = own_id; cause = cause_of st.records } in s) (sym h)
     ∙ ap (λ b. let s : Setting = record { side = Server; config = config; client_id = id_or_none st'.heard; server_id = own_id; cause = cause_of b } in s) (sym r)
 
-without_opened : (says : Says) (s : Setting) (side : Side) (o : Opened) → s.side ≡ side → OpenedBy says s o → o.names.ignore_guessed ≡ true → OpenedBy says s (without_guess side o)
-without_opened says s side o e k i = subst (λ w. OpenedBy says s (without_guess w o)) e (record { cookie = k.cookie; cookie_length = k.cookie_length; own = k.own; read_names = k.read_names; read = k.read; held = holds_dropped s.side k.read_names o.names k.held i; offered = k.offered })
+without_opened : (says : Says) (s : Setting) (o : Opened) → OpenedBy says s o → o.names.ignore_guessed ≡ true → OpenedBy says s (without_guess o)
+without_opened says s o k i = record { cookie = k.cookie; cookie_length = k.cookie_length; own = k.own; read_names = k.read_names; read = k.read; held = holds_dropped k.read_names o.names k.held i; offered = k.offered }
 
-fits_dropped : (says : Says) (s : Setting) (side : Side) (stage : Stage) (own theirs : List (List ℕ)) → s.side ≡ side → drops_guess stage ≡ true → FitsStage says s stage own theirs → FitsStage says s (guess_dropped side stage) own theirs
-fits_dropped says s side (Created k) own theirs e d f = f
-fits_dropped says s side (AwaitsGroup o) own theirs e d f = f
-fits_dropped says s side (AwaitsReply o gex local public) own theirs e d f = record { opened = without_opened says s side o e f.opened d; client = f.client; kind = f.kind; own_is = f.own_is; theirs_is = f.theirs_is; makes = f.makes; short = f.short; group = f.group; short_group = f.short_group }
-fits_dropped says s side (AwaitsRequest o) own theirs e d f = f
-fits_dropped says s side (AwaitsValue o gex) own theirs e d f = record { opened = without_opened says s side o e f.opened d; server = f.server; kind = f.kind; own_is = f.own_is; theirs_is = f.theirs_is; finds = f.finds; short_group = f.short_group }
-fits_dropped says s side (AwaitsNewkeys e x host) own theirs side_is d f = f
+fits_dropped : (says : Says) (s : Setting) (stage : Stage) (own theirs : List (List ℕ)) → drops_guess stage ≡ true → FitsStage says s stage own theirs → FitsStage says s (guess_dropped stage) own theirs
+fits_dropped says s (Created k) own theirs d f = f
+fits_dropped says s (AwaitsGroup o) own theirs d f = record { opened = without_opened says s o f.opened d; client = f.client; kind = f.kind; own_is = f.own_is; theirs_is = f.theirs_is }
+fits_dropped says s (AwaitsReply o gex local public) own theirs d f = record { opened = without_opened says s o f.opened d; client = f.client; kind = f.kind; own_is = f.own_is; theirs_is = f.theirs_is; makes = f.makes; short = f.short; group = f.group; short_group = f.short_group }
+fits_dropped says s (AwaitsRequest o) own theirs d f = record { opened = without_opened says s o f.opened d; server = f.server; kind = f.kind; own_is = f.own_is; theirs_is = f.theirs_is }
+fits_dropped says s (AwaitsValue o gex) own theirs d f = record { opened = without_opened says s o f.opened d; server = f.server; kind = f.kind; own_is = f.own_is; theirs_is = f.theirs_is; finds = f.finds; short_group = f.short_group }
+fits_dropped says s (AwaitsNewkeys e x host) own theirs d f = f
 
 pub setting_side : (side : Side) (config : Config) (own_id : List ℕ) (st : SideState) → (setting side config own_id st).side ≡ side
 setting_side Client config own_id st = refl
@@ -208,9 +208,9 @@ fits_step says side config own_id st (MessageTaken i) st' t f h =
     (fits_takes says (setting side config own_id st) h.stage (next_number st.reading.number) i.payload h.answers h.next t.own t.theirs h.kept (at_stage says side config own_id st t h.stage h.inside h.owes f) h.takes))
 fits_step says side config own_id st (GuessDropped i) st' t f h =
     subst (λ m. Fits says side config own_id m t) (sym h.becomes)
-    (fits_at says side config own_id st (record (reads st i) { stands = Inside (guess_dropped side h.stage) }) t refl refl
-    (subst (λ o. FitsStage says (setting side config own_id st) (guess_dropped side h.stage) o t.theirs) (sym (ap (λ o. t.own ++ o) h.owes ∙ append-nil t.own))
-    (fits_dropped says (setting side config own_id st) side h.stage t.own t.theirs (setting_side side config own_id st) h.drops (at_stage says side config own_id st t h.stage h.inside h.owes f))))
+    (fits_at says side config own_id st (record (reads st i) { stands = Inside (guess_dropped h.stage) }) t refl refl
+    (subst (λ o. FitsStage says (setting side config own_id st) (guess_dropped h.stage) o t.theirs) (sym (ap (λ o. t.own ++ o) h.owes ∙ append-nil t.own))
+    (fits_dropped says (setting side config own_id st) h.stage t.own t.theirs h.drops (at_stage says side config own_id st t h.stage h.inside h.owes f))))
 fits_step says side config own_id st (PayloadDelivered i) st' t f h = subst (λ m. Fits says side config own_id m t) (sym h.becomes) (fits_at says side config own_id st _ t refl refl f)
 fits_step says side config own_id st (PacketDropped i) st' t f h = subst (λ m. Fits says side config own_id m t) (sym h.becomes) (fits_at says side config own_id st _ t refl refl f)
 fits_step says side config own_id st (ExchangeFinished i x) st' t f h = subst (λ m. Fits says side config own_id m no_trace) (sym h.becomes) (record { own_is = h.owes; theirs_is = refl })

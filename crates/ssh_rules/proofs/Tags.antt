@@ -20,7 +20,7 @@ use Rattle.ssh_negotiate.proofs.Lemmas.{read_flags, follows_none}
 use Rattle.ssh_kex.specs.Setting.{behind_guess}
 use Rattle.ssh_rules.specs.MessageTypes.{type_of, is_kex_type, is_payload_type, order}
 use Rattle.ssh_rules.specs.Wire.{carried_payloads, HasFront, InBlocks, exchange_block, HasForm, IsWire}
-use Rattle.ssh_rules.specs.Guess.{Guess, BeforeKexinit, GuessAfter, NoneFollows, guess_of, is_guess, guess_next, guess_behind, ends_epoch, LegalOrder}
+use Rattle.ssh_rules.specs.Guess.{Guess, BeforeKexinit, GuessDue, NoneFollows, guess_of, is_guess, guess_next, guess_behind, ends_epoch, LegalOrder}
 use Rattle.ssh_rules.specs.Handled.{Ending, AllRead, AtFault, AtPacket, Handled}
 use Rattle.ssh_packet.specs.Stream.{by_type}
 use Rattle.ssh_rules.specs.Attacked.{until_end, IsNamed, IsStrict, CarriesPrefix, known_names, read_names, IsOrdered}
@@ -51,8 +51,7 @@ calm_no g i (inr e) = ap (λ q. is_guess q i) e
 -- only the payload is looked at
 next_alike : (side : Side) (config : Config) (g : Guess) (i j : Item) → i.payload ≡ j.payload → guess_next side config g i ≡ guess_next side config g j
 next_alike side config BeforeKexinit i j e = ap (λ p. if message_type p == 20 then guess_of (names_read side (offers_of side config) false p) else BeforeKexinit) e
-next_alike side config (GuessAfter zero) i j e = ap (λ p. if is_kex_type (message_type p) then NoneFollows else GuessAfter zero) e
-next_alike side config (GuessAfter (suc n)) i j e = ap (λ p. if message_type p == 21 then BeforeKexinit else if is_kex_type (message_type p) then GuessAfter n else GuessAfter (suc n)) e
+next_alike side config GuessDue i j e = ap (λ p. if is_kex_type (message_type p) then NoneFollows else GuessDue) e
 next_alike side config NoneFollows i j e = ap (λ p. if message_type p == 21 then BeforeKexinit else NoneFollows) e
 
 calm_next : (side : Side) (config : Config) (g : Guess) (i : Item) → ((type_of i == 20) ≡ true → guess_of (names_read side (offers_of side config) false i.payload) ≡ NoneFollows) → Calm g → Calm (guess_next side config g i)
@@ -91,13 +90,9 @@ end_calm : (side : Side) (config : Config) (g : Guess) (i : Item) → (is_newkey
 end_calm side config BeforeKexinit i h = inl (ap (λ b. if b then guess_of (names_read side (offers_of side config) false i.payload) else BeforeKexinit) (not_kexinit (type_of i) h)) where
   not_kexinit : (t : ℕ) → ((t == 21) && not false) ≡ true → (t == 20) ≡ false
   not_kexinit t h = grind (arith, nat_tests)
-end_calm side config (GuessAfter zero) i h = absurd (no (type_of i) h) where
+end_calm side config GuessDue i h = absurd (no (type_of i) h) where
   no : (t : ℕ) → ((t == 21) && not (is_kex_type t)) ≡ true → ⊥
   no t h = grind (arith, nat_tests)
-end_calm side config (GuessAfter (suc n)) i h = inl (ap (λ b. if b then BeforeKexinit else if is_kex_type (type_of i) then GuessAfter n else GuessAfter (suc n)) (left (is_newkeys i) h)) where
-  left : (b : Bool) → (b && not false) ≡ true → b ≡ true
-  left true h = refl
-  left false h = h
 end_calm side config NoneFollows i h = inl (ap (λ b. if b then BeforeKexinit else NoneFollows) (left (is_newkeys i) h)) where
   left : (b : Bool) → (b && not false) ≡ true → b ≡ true
   left true h = refl
@@ -126,9 +121,9 @@ known_ok side config b (Some payload) n e = (payload, by (names_read side (offer
   by (Ok m) e = (let q : Some m ≡ Some n = e in cc)
   by (Err f) e = absurd (let q : None ≡ Some n = e in cc)
 
-held_strict : (side : Side) (n : Names) → (held_names side n).strict_kex ≡ n.strict_kex
-held_strict side n = by n.ignore_guessed where
-  by : (b : Bool) → (if b then behind_guess side n else n).strict_kex ≡ n.strict_kex
+held_strict : (n : Names) → (held_names n).strict_kex ≡ n.strict_kex
+held_strict n = by n.ignore_guessed where
+  by : (b : Bool) → (if b then behind_guess n else n).strict_kex ≡ n.strict_kex
   by true = refl
   by false = refl
 
@@ -144,7 +139,7 @@ strict_each side config read y xs named s zero x e = (let q : Some y ≡ Some x 
 strict_each side config read y xs named s (suc k) x e =
     let n = (named (suc k) x e).names in
     let p = known_ok side config y.names.strict_kex (slice_get (read (suc k)) 0) n.0 n.1 in
-    ap (λ (z : Names). z.strict_kex) n.2 ∙ held_strict side n.0 ∙ (read_flags side (offers_of side config) y.names.strict_kex p.0 n.0 p.1).strict s
+    ap (λ (z : Names). z.strict_kex) n.2 ∙ held_strict n.0 ∙ (read_flags side (offers_of side config) y.names.strict_kex p.0 n.0 p.1).strict s
 
 all_strict : (s : Side) (xs : List FinishedExchange) → ((k : ℕ) (x : FinishedExchange) → slice_get xs k ≡ Some x → x.names.strict_kex ≡ true) → AllStrict (map (outgoing s) xs)
 all_strict s [] h = tt
@@ -176,7 +171,7 @@ calm_head side writer config peer p ms good h =
   where
     by : (r : Result Names KexinitFault) → ((n : Names) → r ≡ Ok n → n.ignore_guessed ≡ false) → guess_of r ≡ NoneFollows
     by (Err e) f = refl
-    by (Ok n) f = ap (λ b. if b then GuessAfter (Rattle.ssh_rules.specs.Guess.before_guess (Rattle.ssh_kex.specs.Messages.is_gex n.kex)) else NoneFollows) (f n refl)
+    by (Ok n) f = ap (λ b. if b then GuessDue else NoneFollows) (f n refl)
 
 -- what is still due in a block: NEWKEYS stands last, and there is no KEXINIT
 abbrev Due : List ℕ → Type 0
@@ -340,5 +335,5 @@ ordered_run says side config own_id log st al un h = by (recorded log) refl wher
 
   by : (xs : List FinishedExchange) → recorded log ≡ xs → IsOrdered side config xs (handled log)
   by [] e = tt
-  by (x ∷ xs) e = λ s l. subst (λ items. LegalOrder side (is_gex x.names.kex) (map type_of items)) (sym same)
+  by (x ∷ xs) e = λ s l. subst (λ items. LegalOrder side (is_gex x.names.kex) x.names.guessed_ignored (map type_of items)) (sym same)
       (legal_order says side config own_id log st x un h (ap (λ ys. slice_get ys 0) e) s (subst (λ items. length items < 2 ^ 32) same l))

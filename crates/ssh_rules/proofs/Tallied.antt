@@ -93,13 +93,13 @@ finishes_read says (AwaitsReply o g l p) payload x h = absurd h
 finishes_read says (AwaitsRequest o) payload x h = absurd h
 finishes_read says (AwaitsValue o g) payload x h = absurd h
 
-dropped_read : (side : Side) (stage : Stage) → read_open (Inside (guess_dropped side stage)) ≡ read_open (Inside stage)
-dropped_read side (Created own) = refl
-dropped_read side (AwaitsGroup o) = refl
-dropped_read side (AwaitsReply o g l p) = refl
-dropped_read side (AwaitsRequest o) = refl
-dropped_read side (AwaitsValue o g) = refl
-dropped_read side (AwaitsNewkeys exchange made host) = refl
+dropped_read : (stage : Stage) → read_open (Inside (guess_dropped stage)) ≡ read_open (Inside stage)
+dropped_read (Created own) = refl
+dropped_read (AwaitsGroup o) = refl
+dropped_read (AwaitsReply o g l p) = refl
+dropped_read (AwaitsRequest o) = refl
+dropped_read (AwaitsValue o g) = refl
+dropped_read (AwaitsNewkeys exchange made host) = refl
 
 payload_other : (i : Item) → is_payload_type (type_of i) ≡ true → (type_of i == 20) ≡ false
 payload_other i h = by_type (type_of i) h where
@@ -224,11 +224,11 @@ tally_step says side config own_id w r st (MessageTaken i) st' t y q h =
     })
 tally_step says side config own_id w r st (GuessDropped i) st' t y q h =
     let o : open_count st.stands ≡ 1 = ap open_count h.inside in
-    let d = open_drops side h.stage st.owed h.drops in
+    let d = open_drops h.stage st.owed h.drops in
     at_tally w r _ st' h.becomes (record {
       owed = q.owed;
       own = omega (arith, q.own, o);
-      theirs = q.theirs ∙ ap (λ n. length st.records + n) (ap read_open h.inside ∙ sym (dropped_read side h.stage));
+      theirs = q.theirs ∙ ap (λ n. length st.records + n) (ap read_open h.inside ∙ sym (dropped_read h.stage));
       some = λ e. absurd (in_out _ e);
       unheard = λ e. absurd (in_silent h.stage (sym h.inside ∙ q.unheard e));
       closed = λ e. absurd (differ (sym d.1 ∙ e));

@@ -52,16 +52,6 @@ accepted_of side (Submit s payload ∷ steps) (Err e ∷ answers) = accepted_of 
 accepted_of side (Feed s bytes ∷ steps) (answer ∷ answers) = accepted_of side steps answers
 accepted_of side (Rekey s ∷ steps) (answer ∷ answers) = accepted_of side steps answers
 
--- whether a feed of the side was refused
-abbrev pub was_refused : Side → List AttackStep → List (Result (Unit {0}) Error) → Bool
-was_refused side [] answers = false
-was_refused side (step ∷ steps) [] = false
-was_refused side (Feed s bytes ∷ steps) (Err e ∷ answers) =
-    if same_side s side then true else was_refused side steps answers
-was_refused side (Feed s bytes ∷ steps) (Ok u ∷ answers) = was_refused side steps answers
-was_refused side (Submit s payload ∷ steps) (answer ∷ answers) = was_refused side steps answers
-was_refused side (Rekey s ∷ steps) (answer ∷ answers) = was_refused side steps answers
-
 -- what the first refused feed of the side was answered
 abbrev pub first_refusal : Side → List AttackStep → List (Result (Unit {0}) Error) → Option Error
 first_refusal side [] answers = None
@@ -113,6 +103,23 @@ ends_asked so_far side (Feed s bytes ∷ steps) (answer ∷ answers) =
 ends_asked so_far side (Submit s payload ∷ steps) (answer ∷ answers) =
     ends_asked (if same_side s side then false else so_far) side steps answers
 
+-- What a side was handed in a run: the bytes that it was fed, the payloads that were accepted, what its first refused
+-- feed was answered, and whether its last step is a rekey that was answered Ok.
+pub record Handed : Type 0 where
+  pub fed : List ℕ
+  pub accepted : List (List ℕ)
+  pub refusal : Option Error
+  pub asked : Bool
+
+-- by the steps and their answers
+abbrev pub handed_to : Side → List AttackStep → List (Result (Unit {0}) Error) → Handed
+handed_to side steps answers = record {
+  fed = fed_to side steps;
+  accepted = accepted_of side steps answers;
+  refusal = first_refusal side steps answers;
+  asked = ends_asked false side steps answers;
+}
+
 -- ---- exchanges
 
 -- in exchange 1 nothing is strict yet
@@ -159,7 +166,7 @@ server_id_of Server own other = own
 pub record IsNamed (side : Side) (config : Config) (before : List FinishedExchange) (read : List (List ℕ))
     (x : FinishedExchange) : Type 0 where
   pub names : (n : Names) × (block_names side config (still_strict before) read ≡ Some n)
-      × (x.names ≡ held_names side n)
+      × (x.names ≡ held_names n)
   pub session : x.session_id ≡ first_hash before x.hash
 
 -- Its hash and keys are those of the two ids, of what stands in both blocks, and of one secret that is agreed.
@@ -194,36 +201,35 @@ pub record IsPrompt (side : Side) (config : Config) (kind : Bool) (accepted : Li
   pub begins : asked ≡ true → epochs_ended read < max 1 (kexinits own)
 
 -- A side of an attacked run. `lawful` says that its agreement and its lookup are.
-pub record IsAttackedSide (agrees : Secrets) (lawful : Type 0) (accepts : Accepting) (trusts : Trusting) (side : Side) (config : Config) (steps : List AttackStep)
-    (answers : List (Result (Unit {0}) Error)) (r : SideReport) : Type 0 where
+pub record IsAttackedSide (agrees : Secrets) (lawful : Type 0) (accepts : Accepting) (trusts : Trusting) (side : Side) (config : Config) (handed : Handed) (r : SideReport) : Type 0 where
   -- the packets handled, the own ones, and those handled without dropped guesses
   pub handled : List Item
   pub own : List Item
   pub ending : Ending
   pub kept : List Item
   pub kept_is : kept ≡ without_guesses side config BeforeKexinit handled
-  pub taken : r.taken ≡ length (fed_to side steps)
+  pub taken : r.taken ≡ length handed.fed
   pub reads : Handled side config r.exchanges
-      (packets_in (heard_in side (fed_to side steps)) (fed_to side steps)) handled ending
-  pub ended : EndsAsAnswered (first_refusal side steps answers) (heard_in side (fed_to side steps)) ending
+      (packets_in (heard_in side handed.fed) handed.fed) handled ending
+  pub ended : EndsAsAnswered handed.refusal (heard_in side handed.fed) ending
   pub delivered : r.delivered ≡ carried_payloads handled
   pub wire : IsWire side config
       (λ k. kind_in (block_names side config (still_strict (take k r.exchanges)) (exchange_block k kept)))
       (λ k. host_in side config (block_names side config (still_strict (take k r.exchanges)) (exchange_block k kept)))
-      (accepted_of side steps answers) r.exchanges r.wire own
+      handed.accepted r.exchanges r.wire own
   pub recorded : length r.exchanges ≡ epochs_ended kept
   pub named : (k : ℕ) (x : FinishedExchange) → slice_get r.exchanges k ≡ Some x
       → IsNamed side config (take k r.exchanges) (exchange_block k kept) x
   pub keyed : lawful → (k : ℕ) (x : FinishedExchange) → slice_get r.exchanges k ≡ Some x → (heard : List ℕ)
-      × (id_text_in (heard_in side (fed_to side steps)) ≡ Some heard)
+      × (id_text_in (heard_in side handed.fed) ≡ Some heard)
       × IsKeyed agrees side config heard (exchange_block k own) (exchange_block k kept) x
   pub signed : side ≡ Client → (k : ℕ) (x : FinishedExchange) → slice_get r.exchanges k ≡ Some x
       → IsSigned accepts trusts (exchange_block k kept) x
-  pub prompt : was_refused side steps answers ≡ false
+  pub prompt : handed.refusal ≡ None
       → IsPrompt side config (kind_in
       (block_names side config (still_strict r.exchanges) (exchange_block (kexinits own - 1) kept)))
-      (accepted_of side steps answers) own kept (is_some (id_text_in (heard_in side (fed_to side steps))))
-      (ends_asked false side steps answers)
+      handed.accepted own kept (is_some (id_text_in (heard_in side handed.fed)))
+      handed.asked
 
 -- ---- the order of the first exchange, and what strict exchanges carry
 
@@ -238,7 +244,7 @@ abbrev pub IsOrdered : Side → Config → List FinishedExchange → List Item �
 IsOrdered side config [] handled = Unit {0}
 IsOrdered side config (x ∷ xs) handled =
     x.names.strict_kex ≡ true → length (until_end (ends_epoch side config) [] handled) < 2 ^ 32
-    → LegalOrder side (is_gex x.names.kex) (map type_of (until_end (ends_epoch side config) [] handled))
+    → LegalOrder side (is_gex x.names.kex) x.names.guessed_ignored (map type_of (until_end (ends_epoch side config) [] handled))
 
 -- the first exchange was strict
 abbrev pub IsStrict : List FinishedExchange → Type 0
@@ -262,10 +268,10 @@ CarriesPrefix reader config rx wx handled own delivered submitted =
 pub record IsAttackedLink (agrees : Secrets) (client_lawful server_lawful : Type 0) (accepts : Accepting) (trusts : Trusting) (client server : Config) (steps : List AttackStep)
     (report : AttackReport) : Type 0 where
   pub each_answered : length report.answers ≡ length steps
-  pub of_client : IsAttackedSide agrees client_lawful accepts trusts Client client steps report.answers
-      report.client
-  pub of_server : IsAttackedSide agrees server_lawful accepts trusts Server server steps report.answers
-      report.server
+  pub of_client : IsAttackedSide agrees client_lawful accepts trusts Client client
+      (handed_to Client steps report.answers) report.client
+  pub of_server : IsAttackedSide agrees server_lawful accepts trusts Server server
+      (handed_to Server steps report.answers) report.server
   pub client_ordered : IsOrdered Client client report.client.exchanges of_client.handled
   pub server_ordered : IsOrdered Server server report.server.exchanges of_server.handled
   pub to_client : CarriesPrefix Client client report.client.exchanges report.server.exchanges of_client.handled
@@ -332,20 +338,21 @@ submit_answers t payload = if t.failed then Err errors.Disconnect else submit_an
 abbrev pub rekey_answers : FedSide → Result (Unit {0}) Error
 rekey_answers t = if t.failed then Err errors.Disconnect else Ok tt
 
--- Every answer has its cause.
-abbrev pub AreAnswers : (refuses : Side → List Item → Item → Error → Type 0) → (client server : FedSide)
-    → List AttackStep → List (Result (Unit {0}) Error) → Type 0
-AreAnswers refuses c s [] answers = answers ≡ []
-AreAnswers refuses c s (step ∷ steps) [] = ⊥
-AreAnswers refuses c s (Submit Client p ∷ steps) (a ∷ answers) =
-    (a ≡ submit_answers c p) × AreAnswers refuses c s steps answers
-AreAnswers refuses c s (Submit Server p ∷ steps) (a ∷ answers) =
-    (a ≡ submit_answers s p) × AreAnswers refuses c s steps answers
-AreAnswers refuses c s (Rekey Client ∷ steps) (a ∷ answers) =
-    (a ≡ rekey_answers c) × AreAnswers refuses c s steps answers
-AreAnswers refuses c s (Rekey Server ∷ steps) (a ∷ answers) =
-    (a ≡ rekey_answers s) × AreAnswers refuses c s steps answers
-AreAnswers refuses c s (Feed Client bytes ∷ steps) (a ∷ answers) = AnswersFeed (refuses Client) Client c bytes a
-    × AreAnswers refuses (feeds c bytes a) s steps answers
-AreAnswers refuses c s (Feed Server bytes ∷ steps) (a ∷ answers) = AnswersFeed (refuses Server) Server s bytes a
-    × AreAnswers refuses c (feeds s bytes a) steps answers
+-- by whether the step is the side's
+abbrev pub IfOwn : Bool → Type 0 → Type 0
+IfOwn true A = A
+IfOwn false A = Unit {0}
+
+-- Every answer to a step of the side has its cause.
+abbrev pub AreAnswers : (refuses : List Item → Item → Error → Type 0) → Side → FedSide → List AttackStep
+    → List (Result (Unit {0}) Error) → Type 0
+AreAnswers refuses side t [] [] = Unit {0}
+AreAnswers refuses side t [] (a ∷ answers) = ⊥
+AreAnswers refuses side t (step ∷ steps) [] = ⊥
+AreAnswers refuses side t (Submit s p ∷ steps) (a ∷ answers) =
+    IfOwn (same_side s side) (a ≡ submit_answers t p) × AreAnswers refuses side t steps answers
+AreAnswers refuses side t (Rekey s ∷ steps) (a ∷ answers) =
+    IfOwn (same_side s side) (a ≡ rekey_answers t) × AreAnswers refuses side t steps answers
+AreAnswers refuses side t (Feed s bytes ∷ steps) (a ∷ answers) =
+    IfOwn (same_side s side) (AnswersFeed refuses side t bytes a)
+    × AreAnswers refuses side (if same_side s side then feeds t bytes a else t) steps answers

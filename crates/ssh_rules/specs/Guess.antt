@@ -1,36 +1,31 @@
 -- Where a wrong guess of the peer stands among the packets that a side reads, and the order of epoch 0.
-use Rattle.std.specs.Prelude.{◌≡◌, ℕ, zero, suc, List, [], ◌∷◌, Bool, true, false, not, ◌&&◌, ◌==◌, Result, Ok, Err, if◌then◌else◌, ◌⊎◌}
+use Rattle.std.specs.Prelude.{◌≡◌, ℕ, List, [], ◌∷◌, Bool, true, false, not, ◌&&◌, ◌==◌, Result, Ok, Err, if◌then◌else◌, ◌⊎◌}
 use Rattle.ssh_packet.specs.Sealing.{Item}
 use Rattle.ssh_packet.specs.Stream.{is_newkeys}
+use Rattle.ssh_wire.specs.Sides.{other_side}
 use Rattle.ssh_wire.specs.declared.side.Side.{Side}
 use Rattle.ssh_wire.specs.declared.side.Side.TheVariants.{Client, Server}
 use Rattle.ssh_negotiate.specs.declared.negotiation.Names.{Names}
 use Rattle.ssh_kex.specs.declared.config.Config.{Config}
-use Rattle.ssh_kex.specs.Messages.{is_gex}
 use Rattle.ssh_negotiate.specs.Reading.{KexinitFault, names_read}
 use Rattle.ssh_rules.specs.MessageTypes.{type_of, is_kex_type, order}
 use Rattle.ssh_kex.specs.Setting.{offers_of}
 
--- Where a guess stands (RFC 4253 section 7): before the KEXINIT of an exchange; behind it, with so many messages of the
--- exchange before the guess; with none to come.
+-- Where a guess stands (RFC 4253 section 7): before the KEXINIT of an exchange; behind it, where the next message of the
+-- exchange is the guess; with none to come.
 pub data Guess : Type 0 where
   BeforeKexinit : Guess
-  GuessAfter : (more : ℕ) → Guess
+  GuessDue : Guess
   NoneFollows : Guess
-
--- The one place of how many messages stand between the KEXINIT and the guess (none at all, with the later rules).
-abbrev pub before_guess : Bool → ℕ
-before_guess kind = if kind then 1 else 0
 
 -- what the names of a KEXINIT say of a guess to come
 abbrev pub guess_of : Result Names KexinitFault → Guess
 guess_of (Err e) = NoneFollows
-guess_of (Ok n) = if n.ignore_guessed then GuessAfter (before_guess (is_gex n.kex)) else NoneFollows
+guess_of (Ok n) = if n.ignore_guessed then GuessDue else NoneFollows
 
 -- whether a packet is the guess that is dropped
 abbrev pub is_guess : Guess → Item → Bool
-is_guess (GuessAfter zero) i = is_kex_type (type_of i)
-is_guess (GuessAfter (suc n)) i = false
+is_guess GuessDue i = is_kex_type (type_of i)
 is_guess BeforeKexinit i = false
 is_guess NoneFollows i = false
 
@@ -38,9 +33,7 @@ is_guess NoneFollows i = false
 abbrev pub guess_next : Side → Config → Guess → Item → Guess
 guess_next side config BeforeKexinit i =
     if type_of i == 20 then guess_of (names_read side (offers_of side config) false i.payload) else BeforeKexinit
-guess_next side config (GuessAfter zero) i = if is_kex_type (type_of i) then NoneFollows else GuessAfter zero
-guess_next side config (GuessAfter (suc n)) i =
-    if is_newkeys i then BeforeKexinit else if is_kex_type (type_of i) then GuessAfter n else GuessAfter (suc n)
+guess_next side config GuessDue i = if is_kex_type (type_of i) then NoneFollows else GuessDue
 guess_next side config NoneFollows i = if is_newkeys i then BeforeKexinit else NoneFollows
 
 -- and behind some packets
@@ -59,11 +52,18 @@ without_guesses side config g (i ∷ items) =
     if is_guess g i then without_guesses side config (guess_next side config g i) items
     else i ∷ without_guesses side config (guess_next side config g i) items
 
--- What a side may have read in epoch 0 under strict key exchange: its messages in order, and where a guess was wrong one
--- message more at its place.
-abbrev pub LegalOrder : Side → Bool → List ℕ → Type 0
-LegalOrder Client kind types = types ≡ order Server kind
-LegalOrder Server false types =
-    (types ≡ order Client false) ⊎ ((g : ℕ) × ((g ≡ 30) ⊎ (g ≡ 34)) × (types ≡ 20 ∷ g ∷ 30 ∷ 21 ∷ []))
-LegalOrder Server true types =
-    (types ≡ order Client true) ⊎ ((g : ℕ) × ((g ≡ 32) ⊎ (g ≡ 21)) × (types ≡ 20 ∷ 34 ∷ g ∷ 32 ∷ 21 ∷ []))
+-- the types that a guess may have under strict key exchange: those that may come behind a KEXINIT
+abbrev pub MayGuess : Side → ℕ → Type 0
+MayGuess Client g = g ≡ 31
+MayGuess Server g = (g ≡ 30) ⊎ (g ≡ 34)
+
+-- one type more, behind the first
+abbrev pub behind_first : ℕ → List ℕ → List ℕ
+behind_first g [] = []
+behind_first g (t ∷ types) = t ∷ g ∷ types
+
+-- What a side has read in epoch 0 under strict key exchange, by whether it dropped a guess: the other's messages in order,
+-- and with a guess one message more behind the KEXINIT.
+abbrev pub LegalOrder : Side → (kind dropped : Bool) → List ℕ → Type 0
+LegalOrder side kind false types = types ≡ order (other_side side) kind
+LegalOrder side kind true types = (g : ℕ) × MayGuess side g × (types ≡ behind_first g (order (other_side side) kind))

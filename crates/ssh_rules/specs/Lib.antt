@@ -14,6 +14,7 @@ pub mod Run
 pub mod Fresh
 pub mod Turns
 pub mod Placed
+pub mod Polling
 pub mod Handled
 pub mod Parts
 pub mod Headline
@@ -28,3 +29,6 @@ pub mod Refusing
 pub mod Asking
 pub mod RefusedTurn
 pub mod LinkCauses
+pub mod Attacking
+pub mod AttackCauses
+pub mod AttackLaws

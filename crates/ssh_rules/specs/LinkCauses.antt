@@ -12,7 +12,8 @@ use Rattle.ssh_negotiate.specs.Laws.{own_list, peer_list}
 use Rattle.ssh_negotiate.specs.declared.kex.Name.{Name as KexName}
 use Rattle.ssh_negotiate.specs.declared.negotiation.Names.{Names}
 use Rattle.ssh_kex.specs.Parts.{Setup}
-use Rattle.ssh_kex.specs.Refusals.{Denies, IsOutside}
+use Rattle.ssh_kex.specs.Refusals.{Denies}
+use Rattle.ssh_kex.specs.Fields.{IsOutside}
 use Rattle.ssh_kex.specs.Setting.{Says, offers_of}
 use Rattle.ssh_kex.specs.declared.config.Config.{Config}
 use Rattle.ssh_kex.specs.declared.exchange.ServerHost.{ServerHost}

@@ -7,7 +7,6 @@ use Rattle.ssh_negotiate.specs.declared.negotiation.Names.{Names}
 use Rattle.ssh_packet.specs.Sealing.{Item, Sealing, Clear, IsAdmissible, IsPadded, moved_on, next_number}
 use Rattle.ssh_packet.specs.Stream.{Opening, kept_number, is_newkeys, message_type}
 use Rattle.ssh_packet.specs.Writing.{count_after}
-use Rattle.ssh_wire.specs.Orders.{client_orders, server_orders, violates}
 use Rattle.ssh_wire.specs.Sides.{other_side}
 use Rattle.ssh_wire.specs.declared.side.Side.{Side}
 use Rattle.ssh_wire.specs.declared.side.Side.TheVariants.{Client, Server}
@@ -20,7 +19,7 @@ use Rattle.ssh_kex.specs.declared.config.Config.{Config}
 use Rattle.ssh_kex.specs.declared.exchange.Exchange.{Exchange}
 use Rattle.ssh_kex.specs.declared.exchange.FinishedExchange.{FinishedExchange}
 use Rattle.ssh_kex.specs.declared.exchange.ServerHost.{ServerHost}
-use Rattle.ssh_rules.specs.MessageTypes.{type_of, is_kex_type, is_payload_type}
+use Rattle.ssh_rules.specs.MessageTypes.{type_of, is_kex_type, is_payload_type, is_violation}
 
 -- what a direction is sealed under, and its next number
 pub record Spot : Type 0 where
@@ -160,16 +159,7 @@ pub record IsSendable (st : SideState) (i : Item) : Type 0 where
   pub admissible : IsAdmissible st.writing.sealing i
   pub padded : IsPadded st.writing.sealing i
 
--- the orders in which a side may send its messages
-abbrev pub orders_of : Side → List (List ℕ)
-orders_of Client = client_orders
-orders_of Server = server_orders
-
--- some order of a side's messages reaches the place, and none has the type there
-abbrev pub is_violation : Side → ℕ → ℕ → Bool
-is_violation side t place = violates (orders_of side) t place
-
--- how many packets a dropped guess counts
+-- how many guesses were dropped in an exchange of these names
 abbrev pub guesses : Names → ℕ
 guesses n = if n.guessed_ignored then 1 else 0
 
@@ -255,7 +245,7 @@ pub record IgnoresGuess (side : Side) (st : SideState) (i : Item) (st' : SideSta
   pub is_kex : is_kex_type (type_of i) ≡ true
   pub admissible : IsAdmissible st.reading.sealing i
   pub ordered : InOrder side st i
-  pub becomes : st' ≡ record (reads st i) { stands = Inside (guess_dropped side stage) }
+  pub becomes : st' ≡ record (reads st i) { stands = Inside (guess_dropped stage) }
 
 -- the other's NEWKEYS: the exchange is recorded, and both directions go on under its keys (RFC 4253 section 7.3)
 pub record FinishesExchange (says : Says) (side : Side) (st : SideState) (i : Item) (x : FinishedExchange)

@@ -49,7 +49,7 @@ pub record MadeClient (says : Says) (s : Setting) (own theirs : List (List ℕ))
   pub read_names : Names
   pub read : names_read Client (offers_of Client s.config) (was_strict s.cause) e.server_kex_init ≡ Ok read_names
   pub names : Names
-  pub names_are : names ≡ held_names Client read_names
+  pub names_are : names ≡ held_names read_names
   pub offered : says.offers names.kex
   pub kind : is_gex names.kex ≡ is_some e.gex
   pub group : IfSome e.gex (IsOwnGroup s.config.gex)
@@ -77,7 +77,7 @@ pub record MadeServer (says : Says) (s : Setting) (own theirs : List (List ℕ))
   pub read_names : Names
   pub read : names_read Server (offers_of Server s.config) (was_strict s.cause) e.client_kex_init ≡ Ok read_names
   pub names : Names
-  pub names_are : names ≡ held_names Server read_names
+  pub names_are : names ≡ held_names read_names
   pub offered : says.offers names.kex
   pub kind : is_gex names.kex ≡ is_some e.gex
   pub finds : IfSome e.gex (λ (g : GexChosen). says.finds g.params g.group)

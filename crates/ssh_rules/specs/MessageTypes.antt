@@ -2,7 +2,7 @@
 use Rattle.std.specs.Prelude.{ℕ, ◌||◌, ◌&&◌, nat_le, Bool, true, false, List, [], ◌∷◌}
 use Rattle.ssh_packet.specs.Sealing.{Item}
 use Rattle.ssh_packet.specs.Stream.{message_type}
-use Rattle.ssh_wire.specs.Orders.{is_kex}
+use Rattle.ssh_wire.specs.Orders.{client_orders, is_kex, server_orders, violates}
 use Rattle.ssh_wire.specs.declared.side.Side.{Side}
 use Rattle.ssh_wire.specs.declared.side.Side.TheVariants.{Client, Server}
 
@@ -24,3 +24,12 @@ order Client false = 20 ∷ 30 ∷ 21 ∷ []
 order Client true = 20 ∷ 34 ∷ 32 ∷ 21 ∷ []
 order Server false = 20 ∷ 31 ∷ 21 ∷ []
 order Server true = 20 ∷ 31 ∷ 33 ∷ 21 ∷ []
+
+-- the orders in which a side may send its messages
+abbrev pub orders_of : Side → List (List ℕ)
+orders_of Client = client_orders
+orders_of Server = server_orders
+
+-- some order of a side's messages reaches the place, and none has the type there
+abbrev pub is_violation : Side → ℕ → ℕ → Bool
+is_violation side t place = violates (orders_of side) t place

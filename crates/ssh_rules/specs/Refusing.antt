@@ -1,5 +1,5 @@
 -- Why one side refuses a packet that stands next.
-use Rattle.std.specs.Prelude.{◌≡◌, ℕ, ◌-◌, ◌&&◌, nat_le, Bool, true, false, List, [], Some, ◌⊎◌}
+use Rattle.std.specs.Prelude.{◌++◌, ◌≡◌, ℕ, ◌-◌, ◌&&◌, nat_le, Bool, true, false, List, [], Some, ◌⊎◌}
 use Rattle.ssh_packet.specs.Errors.{error_of, open_error}
 use Rattle.ssh_packet.specs.Sealing.{Item, next_number}
 use Rattle.ssh_wire.specs.Lines.{id_text}
@@ -18,9 +18,11 @@ use Rattle.ssh_kex.specs.declared.config.Config.{Config}
 use Rattle.ssh_kex.specs.declared.exchange.Exchange.{Exchange}
 use Rattle.ssh_kex.specs.declared.exchange.FinishedExchange.{FinishedExchange}
 use Rattle.ssh_kex.specs.declared.exchange.ServerHost.{ServerHost}
-use Rattle.ssh_rules.specs.Machine.{InOrder, Inside, MayDeliver, Outside, SideState, guesses, is_violation, names_now, setting}
-use Rattle.ssh_rules.specs.MessageTypes.{is_kex_type, is_payload_type, type_of}
+use Rattle.ssh_rules.specs.Machine.{InOrder, Inside, MayDeliver, Outside, SideState, guesses, names_now, setting}
+use Rattle.ssh_rules.specs.MessageTypes.{is_kex_type, is_payload_type, type_of, is_violation}
 use Rattle.ssh_rules.specs.Refused.{LooksIn}
+use Rattle.ssh_rules.specs.Asking.{AsksAtMost, PartCalls, kex_count, packet_of}
+use Rattle.ssh_rules.specs.Log.{handled}
 use Rattle.ssh_rules.specs.Standing.{OfFault, OfMemory, OfPacket, OfVersion, RefusalCause, RefusesInput, Standing}
 
 -- What it means that host keys don't trust a host: their count of refusals rose, and they aren't obliging, or the host is
@@ -96,3 +98,10 @@ pub record RefusesPiece (says : Says) (denies : Denies) (untrusted : ServerHost 
   pub cause : RefusalCause
   pub refuses : RefusesInput says old piece cause new
   pub answers : AnswersCause says denies untrusted old.side old.config cause refuses.at error
+
+-- The same, and how often the parts were asked for it: each once at most for each message of an exchange that was handled,
+-- the refused one included.
+pub record RefusesPieceAsking (says : Says) (denies : Denies) (untrusted : ServerHost → Type 0) (old : Standing) (piece : List ℕ)
+    (error : Error) (new : Standing) (calls calls' : PartCalls) : Type 0 where
+  pub refused : RefusesPiece says denies untrusted old piece error new
+  pub few : AsksAtMost (kex_count (handled refused.refuses.events ++ packet_of refused.cause)) calls calls'

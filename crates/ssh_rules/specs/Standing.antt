@@ -1,5 +1,5 @@
 -- A transport, as contracts see it, and what its calls do.
-use Rattle.std.specs.Prelude.{◌≡◌, ℕ, ◌<◌, Bool, true, false, List, [], ◌∷◌, ◌++◌, length, drop, ◌⊎◌}
+use Rattle.std.specs.Prelude.{◌≡◌, ℕ, ◌-◌, ◌<◌, Bool, true, false, List, [], ◌∷◌, ◌++◌, length, drop, min, ◌⊎◌}
 use Rattle.ssh_wire.specs.Lines as lines
 use Rattle.ssh_wire.specs.Lines.{IdFound, id_of, id_line, id_text}
 use Rattle.ssh_wire.specs.Reading.{IdReading, Waiting, Heard, Failed, still_allowed, reading_left}
@@ -39,6 +39,30 @@ unfinished_by Failed waiting = []
 -- what is kept of the input
 abbrev pub unfinished : Standing → List ℕ
 unfinished t = unfinished_by t.line t.waiting
+
+-- ---- input that is kept before anything is made of it
+
+abbrev pub line_with : IdReading → List ℕ → IdReading
+line_with (Waiting bytes others) more = Waiting (bytes ++ more) others
+line_with (Heard text) more = Heard text
+line_with Failed more = Failed
+
+abbrev pub waiting_with : IdReading → (waiting more : List ℕ) → List ℕ
+waiting_with (Waiting bytes others) waiting more = waiting
+waiting_with (Heard text) waiting more = waiting ++ more
+waiting_with Failed waiting more = waiting
+
+-- more bytes are kept of the input
+abbrev pub with_input : Standing → List ℕ → Standing
+with_input t more = record t { line = line_with t.line more; waiting = waiting_with t.line t.waiting more }
+
+-- the most that is kept of the input: the longest packet with its tag
+abbrev pub most_unfinished : ℕ
+most_unfinished = 262245
+
+-- how many of n bytes there is room for
+abbrev pub input_room : Standing → ℕ → ℕ
+input_room t n = min n (most_unfinished - length (unfinished t))
 
 -- a new transport: it has written its id line
 abbrev pub IsNew : Side → Config → Standing → Type 0

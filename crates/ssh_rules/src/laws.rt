@@ -2,14 +2,25 @@
 
 ghost use Rattle.ssh_kex.specs.Parts.{KeepsAgreement, KeepsGroups, KeepsHosts};
 ghost use Rattle.ssh_kex.specs.Stepping.{denies_of, says_of};
+ghost use Rattle.ssh_rules.specs.AttackLaws.{SameDelivered};
 ghost use Rattle.ssh_rules.specs.Laws.{RecordsAgree};
 ghost use Rattle.ssh_rules.specs.LinkCauses.{AnyRefusals, NoneRefusedInLink, RefusalsHaveCauses, rises_of};
 ghost use Rattle.ssh_rules.specs.Refused.{HostTrusted, NothingRefused, PartsRefuseAlone};
 ghost use Rattle.ssh_rules.specs.RefusedTurn.{OnlyMessagesRefused};
 ghost use Rattle.ssh_rules.specs.Refusing.{untrusted_of};
 ghost use Rattle.ssh_rules.specs.RunLaws.{EachRun, HonestLink, KeyedRun, NoViolation, RestedRun, SignedRun};
+ghost use Rattle.ssh_rules.specs.Valid.{HasSizes};
 
-use ssh_kex::{Agreement, GroupLookup, HostKeys};
+use ssh_kex::{Agreement, Config, GroupLookup, HostKeys};
+
+/// The sizes of a configuration's groups are below 2^32, as their type says.
+pub fn sizes_are_u32(config: &Config)
+    ensures { HasSizes config.now }
+{
+    let _least = config.gex.min_group_size;
+    let _wanted = config.gex.preferred_group_size;
+    let _most = config.gex.max_group_size;
+}
 
 /// From the same messages both sides of a link make the same record, where the agreements of both and the server's
 /// lookup are lawful.
@@ -127,4 +138,10 @@ pub fn any_refusals<A: Agreement, H: HostKeys, G: GroupLookup>()
         H.refused_verify G.obliging G.refusals)
         (untrusted_of H.obliging H.trusts H.refused_check)
         (rises_of A.refusals H.refused_sign H.refused_verify H.refused_check G.refusals) }
+{}
+
+/// What a side of an attacked run delivers is told by the bytes that it was fed and the exchanges that it recorded, however
+/// the bytes are cut, where no packet that it could open was refused.
+pub fn same_delivered<A: Agreement, H: HostKeys>()
+    ensures { SameDelivered A.lawful A.agrees H.accepts H.trusts }
 {}

@@ -7,5 +7,5 @@ pub mod link;
 pub use crate::laws::{
     any_refusals, each_run, honest_link, host_trusted, keyed_run, no_violation,
     none_refused_in_link, nothing_refused, only_messages_refused, parts_refuse_alone,
-    records_agree, refusals_have_causes, rested_run, signed_run,
+    records_agree, refusals_have_causes, rested_run, same_delivered, signed_run, sizes_are_u32,
 };
