@@ -173,7 +173,7 @@ answered_taken says side config own s stage (AwaitsReply o gex local public) seq
 answered_taken says side config own s stage (AwaitsRequest o) seqn payload written st w w' reset e f r t h = answered_still says side config own st written w w' reset r e h
 answered_taken says side config own s stage (AwaitsValue o gex) seqn payload written st w w' reset e f r t h = answered_still says side config own st written w w' reset r e h
 answered_taken says side config own s stage (AwaitsNewkeys exchange made host) seqn payload written st w w' reset e f r t h =
-    answered_by says side config own st written w w' reset (e ∙ sym (r ∙ or_same made.names.strict_kex (was_strict s.cause) f.0)) (ends_in_newkeys says s stage seqn payload written exchange made host t) h
+    answered_by says side config own st written w w' reset (e ∙ sym (r ∙ or_same made.names.strict_kex (was_strict s.cause) f)) (ends_in_newkeys says s stage seqn payload written exchange made host t) h
 
 -- ---- the flags of the names
 
@@ -186,21 +186,17 @@ opens_flagged says Server false s o written next h f = subst (λ (x : Stage). Is
 pub taken_flagged : (says : Says) (s : Setting) (stage next : Stage) (seqn : ℕ) (payload : List ℕ) (written : List (List ℕ)) → Takes says s stage seqn payload written next → IsFlagged s (names_of stage) → IsFlagged s (names_of next)
 taken_flagged says s (Created own) next seqn payload written h f =
     let k = read_flags s.side (offers_of s.side s.config) (was_strict s.cause) payload h.names h.reads.read in
-    opens_flagged says s.side (is_gex h.names.kex) s _ written next h.opens ((λ w. k.strict w), λ c. k.unmarked)
+    opens_flagged says s.side (is_gex h.names.kex) s _ written next h.opens (λ w. k.strict w)
 taken_flagged says s (AwaitsGroup o) next seqn payload written h f = subst (λ (x : Stage). IsFlagged s (names_of x)) (sym h.leads.next_is) f
 taken_flagged says s (AwaitsReply o gex local public) next seqn payload written h f = subst (λ (x : Stage). IsFlagged s (names_of x)) (sym h.leads.next_is) f
 taken_flagged says s (AwaitsRequest o) next seqn payload written h f = subst (λ (x : Stage). IsFlagged s (names_of x)) (sym h.leads.next_is) f
 taken_flagged says s (AwaitsValue o gex) next seqn payload written h f = subst (λ (x : Stage). IsFlagged s (names_of x)) (sym h.leads.next_is) f
 taken_flagged says s (AwaitsNewkeys x m k) next seqn payload written h f = absurd h
 
-client_unmarked : (side : Side) → side ≡ Client → Rattle.ssh_kex.specs.Setting.marks_guess side ≡ false
-client_unmarked Client e = refl
-client_unmarked Server e = cc
-
-pub dropped_flagged : (s : Setting) (stage : Stage) → IsFlagged s (names_of stage) → IsFlagged s (names_of (guess_dropped s.side stage))
+pub dropped_flagged : (s : Setting) (stage : Stage) → IsFlagged s (names_of stage) → IsFlagged s (names_of (guess_dropped stage))
 dropped_flagged s (Created own) f = f
 dropped_flagged s (AwaitsGroup o) f = f
-dropped_flagged s (AwaitsReply o gex local public) f = (f.0, λ c. client_unmarked s.side c)
+dropped_flagged s (AwaitsReply o gex local public) f = f
 dropped_flagged s (AwaitsRequest o) f = f
-dropped_flagged s (AwaitsValue o gex) f = (f.0, λ c. client_unmarked s.side c)
+dropped_flagged s (AwaitsValue o gex) f = f
 dropped_flagged s (AwaitsNewkeys x m k) f = f

@@ -55,8 +55,8 @@ pub record StepCalls (side : Side) (stage : Stage) (next : Option Stage) (n n' :
 taken_asks : (says : Says) (m : Machine) (i : Incoming) (old new : Writer) (kex : Machine) (reset : Bool) (n n' : PartCalls) → DropsGuess m old kex reset new ⊎ TakesOne says m i old kex reset new → StepCalls m.setting.side m.stage (Some kex.stage) n n' → MoveAsks m.setting.side m.stage (Inside kex.stage) n n'
 taken_asks says m i old new kex reset n n' (inl d) c =
     let z = dropped_asks m.setting.side m.stage (Some kex.stage) d.drops in
-    let k = dropped_calls m.setting.side m.setting.side m.stage in
-    let e : kex.stage ≡ Rattle.ssh_kex.specs.Stages.guess_dropped m.setting.side m.stage = ap (λ (x : Machine). x.stage) d.kex_is in
+    let k = dropped_calls m.setting.side m.stage in
+    let e : kex.stage ≡ Rattle.ssh_kex.specs.Stages.guess_dropped m.stage = ap (λ (x : Machine). x.stage) d.kex_is in
     let a = ap (λ (x : Stage). agreement_left m.setting.side x) e in
     let h = ap (λ (x : Stage). hosts_left m.setting.side x) e in
     let l = ap (λ (x : Stage). lookups_left m.setting.side x) e in
@@ -295,8 +295,8 @@ moved_groups says s1 s' m i Done h =
     elim h.does [
       | inl d ↦ (
           let z = dropped_asks m.setting.side m.stage (Some (h.next).stage) d.drops in
-          let k = dropped_group m.setting.side m.stage in
-          let e : (h.next).stage ≡ Rattle.ssh_kex.specs.Stages.guess_dropped m.setting.side m.stage = ap (λ (x : Machine). x.stage) d.kex_is in
+          let k = dropped_group m.stage in
+          let e : (h.next).stage ≡ Rattle.ssh_kex.specs.Stages.guess_dropped m.stage = ap (λ (x : Machine). x.stage) d.kex_is in
           let a = ap (λ (x : Stage). request_due (Inside x)) e in
           let b = ap (λ (x : Stage). group_in (names_of x)) e in
           omega (arith, due, chosen, z.2, k.0, k.1, a, b)

@@ -1,5 +1,5 @@
 -- What is refused by parts that were asked before is refused by those that they were.
-use Rattle.std.proofs.Common.{◌≡◌, ℕ, ◌≤◌, Bool, true, List, Option, Some, None, ap, ◌∙◌, arith, inl, inr}
+use Rattle.std.proofs.Common.{◌≡◌, ℕ, ◌≤◌, refl, false, [], ◌∷◌, Bool, true, List, Option, Some, None, ap, ◌∙◌, arith, inl, inr}
 use Rattle.ssh_negotiate.specs.declared.kex.Name as kexes
 use Rattle.ssh_wire.specs.Lines.{id_text}
 use Rattle.ssh_wire.specs.Outside.{Rose}
@@ -16,9 +16,10 @@ use Rattle.ssh_kex.specs.declared.config.Config.{Config}
 use Rattle.ssh_kex.specs.declared.exchange.ServerHost.{ServerHost}
 use Rattle.ssh_kex.specs.declared.group.DhGroup.{DhGroup}
 use Rattle.ssh_kex.specs.declared.group.GexParams.{GexParams}
-use Rattle.ssh_rules.specs.Machine.{SideState}
-use Rattle.ssh_rules.specs.Refusing.{AnswersCause, RefusesPacket, RefusesPiece, untrusted_of}
-use Rattle.ssh_rules.specs.Standing.{OfFault, OfMemory, OfPacket, OfVersion, RefusalCause, RefusesInput, Standing}
+use Rattle.ssh_rules.specs.Machine.{Asked, Event, ExchangeBegun, SideState}
+use Rattle.ssh_rules.specs.Refusing.{AnswersCause, RefusesPacket, RefusesPiece, RefusesPieceAsking, untrusted_of}
+use Rattle.ssh_rules.specs.Asking.{PartCalls}
+use Rattle.ssh_rules.specs.Standing.{Acts, OfFault, OfMemory, OfPacket, OfVersion, RefusalCause, RefusesInput, Rekeyed, RekeyedFrom, Standing, Submitted, TakesInput, is_outside}
 use Rattle.ssh_transport.proofs.Weaker.{Weaker, kept_weaker, steps_weaker}
 
 -- what the first say and deny the second do too
@@ -182,3 +183,54 @@ piece_still a b d e u v w z old piece error new r = record {
 } where
   f : RefusesInput a old piece r.cause new
   f = r.refuses
+
+-- with how often the parts were asked
+pub asking_still : (a b : Says) (d e : Denies) (u v : ServerHost → Type 0) → Denying a b d e → ((host : ServerHost) → u host → v host) → (old : Standing) (piece : List ℕ) (error : Error) (new : Standing) (n n' : PartCalls) → RefusesPieceAsking a d u old piece error new n n' → RefusesPieceAsking b e v old piece error new n n'
+unfolding piece_still
+asking_still a b d e u v w z old piece error new n n' h = record { refused = piece_still a b d e u v w z old piece error new h.refused; few = h.few }
+
+-- what acts as later parts say acts as earlier ones say
+acts_still : (a b : Says) → Weaker a b → (old : Standing) (events : List Event) (new : Standing) → Acts a old events new → Acts b old events new
+acts_still a b w old events new h = record {
+  side = h.side;
+  config = h.config;
+  steps = steps_weaker a b w old.side old.config (id_text old.config.id) events old.state new.state h.steps;
+  output = h.output;
+  delivered = h.delivered;
+  quiet = h.quiet;
+  live = h.live;
+}
+
+pub submitted_still : (a b : Says) → Weaker a b → (old : Standing) (payload : List ℕ) (new : Standing) → Submitted a old payload new → Submitted b old payload new
+submitted_still a b w old payload new h = record {
+  events = h.events;
+  acts = acts_still a b w old h.events new h.acts;
+  one = h.one;
+  none_read = h.none_read;
+  unasked = h.unasked;
+  silent = h.silent;
+  line = h.line;
+  waiting = h.waiting;
+}
+
+pub rekeyed_still : (a b : Says) → Weaker a b → (old new : Standing) → Rekeyed a old new → Rekeyed b old new
+rekeyed_still a b w old new h = by (is_outside old.state.stands) h where
+  by : (outside : Bool) → RekeyedFrom outside a old new → RekeyedFrom outside b old new
+  by true k = record { item = k.item; acts = acts_still a b w old (ExchangeBegun Asked k.item ∷ []) new k.acts; line = k.line; waiting = k.waiting }
+  by false k = k
+
+-- and of a piece that is taken
+pub input_still : (a b : Says) → Weaker a b → (old : Standing) (piece : List ℕ) (new : Standing) → (i : TakesInput a old piece new) → (j : TakesInput b old piece new) × (j.events ≡ i.events)
+input_still a b w old piece new i = (
+  record {
+    events = i.events;
+    acts = acts_still a b w old i.events new i.acts;
+    input = i.input;
+    behind = i.behind;
+    line = i.line;
+    read = i.read;
+    part = i.part;
+    small = i.small;
+  },
+  refl,
+)

@@ -1,12 +1,16 @@
 -- A piece that is refused, as contracts see it.
-use Rattle.std.proofs.Common.{◌≡◌, ℕ, List, [], ◌++◌, drop, Some, Result, Ok, Err, IfErr, OnErr, OnOk, refl, sym, ap, ◌∙◌, subst, append_assoc, append-nil, ◌⊎◌, inl, inr}
+use Rattle.std.proofs.Common.{◌≡◌, ℕ, List, [], ◌++◌, take, drop, Result, Ok, Err, IfErr, OnErr, OnOk, refl, sym, ap, ◌∙◌, subst, append_assoc, append-nil, ◌⊎◌, inl, inr}
+use Rattle.std.proofs.lemmas.List.{take-append-drop}
 use Rattle.std.specs.Borrow.{Bor}
 use Rattle.ssh_wire.specs.Lines as lines
 use Rattle.ssh_wire.specs.Lines.{IdFound, id_of, id_text}
 use Rattle.ssh_wire.specs.Reading.{IdReading, Waiting, Heard, Failed, Decides, Feeds, still_allowed}
 use Rattle.ssh_wire.specs.declared.error.Error.{Error}
 use Rattle.ssh_wire.specs.declared.error.Error.TheVariants as errors
+use Rattle.ssh_wire.specs.declared.read_id.IdProgress.TheVariants as progress
 use Rattle.ssh_wire.specs.declared.side.Side.{Side}
+use Rattle.ssh_wire.proofs.Lemmas.{fed_more}
+use Rattle.ssh_packet.specs.Reading.{Reader}
 use Rattle.ssh_kex.specs.Refusals.{Denies}
 use Rattle.ssh_kex.specs.Setting.{Says}
 use Rattle.ssh_kex.specs.declared.config.Config.{Config}
@@ -14,25 +18,24 @@ use Rattle.ssh_kex.specs.declared.exchange.ServerHost.{ServerHost}
 use Rattle.ssh_rules.specs.Asking.{AsksUntil, AsksWithin, PartCalls, RefusesAsking}
 use Rattle.ssh_rules.specs.Log.{delivered_in, read_bytes, sent_bytes}
 use Rattle.ssh_rules.specs.Machine.{Event, SideState, Steps}
-use Rattle.ssh_rules.specs.Refusing.{AnswersCause, RefusesPiece}
+use Rattle.ssh_rules.specs.Refusing.{AnswersCause, RefusesPiece, RefusesPieceAsking}
 use Rattle.ssh_rules.specs.Standing.{HearsBy, IsIdleBefore, IsNoId, OfFault, OfMemory, OfPacket, OfVersion, ReadsLineFrom, RefusalCause, Standing, lets_pass}
-use Rattle.ssh_rules.proofs.Lemmas.{begun_steps, delivered_more, read_join, refused_few, sent_join, steps_join}
+use Rattle.ssh_rules.proofs.Lemmas.{asking_kept, begun_steps, delivered_more, piece_asking_kept, piece_kept, read_join, refused_few, sent_join, steps_join}
 use Rattle.ssh_transport.specs.Asking.{AsksBetween, AsksTo}
 use Rattle.ssh_transport.specs.Handling.{IsHeard}
-use Rattle.ssh_transport.specs.Hearing.{HearsLine}
 use Rattle.ssh_transport.specs.Kept.{IsLive}
 use Rattle.ssh_transport.specs.Saying.{IsFixed, nothing_said}
-use Rattle.ssh_transport.specs.States.{reading_of, standing_of, state_at}
-use Rattle.ssh_transport.specs.Stopping.{Fails, FailsHearing, HearsNot, IsAsBefore, Stops}
+use Rattle.ssh_transport.specs.States.{bare_of, emptied, reading_of, standing_of, state_at}
+use Rattle.ssh_transport.specs.Stopping.{Fails, HearsNot, HearsNothing, IsAsBefore, Stops}
 use Rattle.ssh_transport.specs.Submitting.{Breaks}
 use Rattle.ssh_transport.specs.Taking.{Hears}
 use Rattle.ssh_transport.specs.declared.connection.Connection.{Connection}
 use Rattle.ssh_transport.specs.declared.session.Session.{Session}
 use Rattle.ssh_transport.proofs.Answering.{spot_of}
-use Rattle.ssh_transport.proofs.Heard.{hears_some}
 use Rattle.ssh_transport.proofs.Inputs.{line_more}
+use Rattle.ssh_transport.proofs.Kept.{emptied_same, live_emptied}
 use Rattle.ssh_transport.proofs.Saying.{unread_steps}
-use Rattle.ssh_transport.proofs.Stopping.{Later, stops_memory}
+use Rattle.ssh_transport.proofs.Stopping.{Later}
 use Rattle.ssh_transport.proofs.Taking.{input_more}
 
 -- ---- no version line
@@ -103,6 +106,27 @@ fails_hearing says denies untrusted asked c c' piece error still live h d = by h
     by (inl l) = fails_unheard says denies untrusted asked c c' piece error l.0 still live h.0 d l.1
     by (inr e) = fails_begin says denies untrusted asked c c' piece error still h.0 d e
 
+-- with more behind the line that is none
+no_more : (s s' : Session) (piece more : List ℕ) (error : Error) → HearsNot s piece error s' → HearsNot s (piece ++ more) error s'
+no_more s s' piece more error h = (h.0, by h.1)
+  where
+    refused : Err error ≡ Ok progress.NotYet → ⊥
+    refused e = cc
+
+    by : ((line : IdReading) × Feeds (lets_pass s.side) s.line piece (Err error) line) ⊎ (error ≡ errors.Memory) → ((line : IdReading) × Feeds (lets_pass s.side) s.line (piece ++ more) (Err error) line) ⊎ (error ≡ errors.Memory)
+    by (inl l) = inl (l.0, fed_more (lets_pass s.side) s.line l.0 piece more (Err error) refused l.1)
+    by (inr e) = inr e
+
+fails_unread : (says : Says) (denies : Denies) (untrusted : ServerHost → Type 0) (asked : RefusalCause → SideState → Type 0) (c c' : Connection) (piece more : List ℕ) (error : Error) → Still c asked → IsLive c → HearsNothing c piece error c' → Fails says denies untrusted asked c (piece ++ more) error c'
+fails_unread says denies untrusted asked c c' piece more error still live h = fails_hearing says denies untrusted asked c c' (piece ++ more) error still live (no_more c.session c'.session piece more error h.not) h.delivered
+
+-- of a piece of which a front was kept before
+pub fails_kept : (says : Says) (denies : Denies) (untrusted : ServerHost → Type 0) (asked : RefusalCause → SideState → Type 0) (c c1 c' : Connection) (piece handed : List ℕ) (n spent : ℕ) → c1 ≡ record c { reader = c1.reader } → c1.reader ≡ record c.reader { waiting = c.reader.waiting ++ take n piece; handed = handed; spent = spent } → (error : Error) → Still (emptied c) asked → IsLive c → HearsNothing (emptied c1) c1.reader.waiting error c' → Fails says denies untrusted asked (emptied c) (c.reader.waiting ++ piece) error c'
+fails_kept says denies untrusted asked c c1 c' piece handed n spent e f error still live h =
+    subst (λ (b : List ℕ). Fails says denies untrusted asked (emptied c) b error c') (ap (λ (r : Reader). r.waiting ++ drop n piece) f ∙ append_assoc c.reader.waiting (take n piece) (drop n piece) ∙ ap (λ (b : List ℕ). c.reader.waiting ++ b) (take-append-drop n piece))
+    (fails_unread says denies untrusted asked (emptied c) c' c1.reader.waiting (drop n piece) error still (live_emptied c live)
+    (subst (λ (x : Connection). HearsNothing x c1.reader.waiting error c') (emptied_same c c1 (c.reader.waiting ++ take n piece) handed spent e f) h))
+
 -- ---- behind the line
 
 hears_cause : (cause : RefusalCause) (t : Standing) (piece : List ℕ) (events : List Event) (line : IdReading) (behind : List ℕ) → (cause ≡ OfVersion → ⊥) → ReadsLineFrom t.side t.line t.waiting piece events line behind → HearsBy cause t piece events line behind
@@ -126,7 +150,7 @@ fails_behind says denies untrusted asked later c mid c' piece error a h i k = re
   done = subst (λ (x : Bor Config). IsIdleBefore k.cause x.now k.state) h.config k.done;
   line = mid.session.line;
   behind = mid.reader.waiting;
-  heard = hears_cause k.cause (standing_of c) piece (h.events ++ k.events) mid.session.line mid.reader.waiting k.line (line_more c.session.side c.session.line c.reader.waiting piece h.events k.events mid.session.line mid.reader.waiting k.silent (inl i) h.line);
+  heard = hears_cause k.cause (bare_of c) piece (h.events ++ k.events) mid.session.line mid.reader.waiting k.line (line_more c.session.side c.session.line c.reader.waiting piece h.events k.events mid.session.line mid.reader.waiting k.silent (inl i) h.line);
   left = k.left;
   read = k.bytes ∙ ap (λ (x : Side). read_bytes x (reading_of mid) k.events ++ k.left) h.side
       ∙ ap (λ (b : List ℕ). b ++ k.left) (sym (read_join says c.session.side c.session.config.now (id_text c.session.config.now.id) h.events k.events (state_at c.session (reading_of c) c.reader.count) (state_at mid.session (reading_of mid) mid.reader.count) first
@@ -142,21 +166,9 @@ fails_behind says denies untrusted asked later c mid c' piece error a h i k = re
   moved = subst (λ (x : Side). Steps says x c.session.config.now (id_text c.session.config.now.id) (state_at mid.session (reading_of mid) mid.reader.count) k.events k.state) h.side
       (subst (λ (b : Bor Config). Steps says mid.session.side b.now (id_text b.now.id) (state_at mid.session (reading_of mid) mid.reader.count) k.events k.state) h.config k.steps)
 
--- memory is wanting for what stands behind the line
-pub fails_push : (says : Says) (denies : Denies) (untrusted : ServerHost → Type 0) (asked : RefusalCause → SideState → Type 0) (c c' : Connection) (s' : Session) (used : ℕ) (piece : List ℕ) (error : Error) → Still c asked → IsLive c → HearsLine c.session piece (Some used) s' → IsHeard s'.line → c'.session ≡ s' → c'.delivered.items ≡ c.delivered.items → error ≡ errors.Memory → Fails says denies untrusted asked c piece error c'
-fails_push says denies untrusted asked c c' s' used piece error still live h i e d m = fails_behind says denies untrusted asked asked c (record c { session = s'; reader = record c.reader { waiting = c.reader.waiting ++ drop used piece } }) c' piece error (λ cause at b x. x) heard i
-    (stops_memory says denies untrusted asked (record c { session = s'; reader = record c.reader { waiting = c.reader.waiting ++ drop used piece } }) c' error m (ap (λ (x : Session). x.writer.output) e) d (ap (λ (x : Session). x.finished.items) e) (still OfMemory heard.events _ heard.steps))
-  where
-    heard : Hears c piece (record c { session = s'; reader = record c.reader { waiting = c.reader.waiting ++ drop used piece } })
-    heard = hears_some c s' used piece (record c.reader { waiting = c.reader.waiting ++ drop used piece }) live h refl
-
-pub fails_heard : (says : Says) (denies : Denies) (untrusted : ServerHost → Type 0) (asked : RefusalCause → SideState → Type 0) (c c' : Connection) (piece : List ℕ) (error : Error) → Still c asked → IsLive c → FailsHearing c piece error c' → Fails says denies untrusted asked c piece error c'
-fails_heard says denies untrusted asked c c' piece error still live (inl h) = fails_hearing says denies untrusted asked c c' piece error still live h.not h.delivered
-fails_heard says denies untrusted asked c c' piece error still live (inr h) = fails_push says denies untrusted asked c c' c'.session h.used piece error still live h.heard h.line refl h.delivered h.error_is
-
 -- ---- as contracts see it
 
-refuses_piece : (says : Says) (denies : Denies) (untrusted : ServerHost → Type 0) (asked : RefusalCause → SideState → Type 0) (c mid c' : Connection) (piece : List ℕ) (error : Error) → IsFixed c.session mid.session → Breaks (standing_of mid) (standing_of c') → IsAsBefore mid.session c'.session → Fails says denies untrusted asked c piece error mid → RefusesPiece says denies untrusted (standing_of c) piece error (standing_of c')
+refuses_piece : (says : Says) (denies : Denies) (untrusted : ServerHost → Type 0) (asked : RefusalCause → SideState → Type 0) (c mid c' : Connection) (piece : List ℕ) (error : Error) → IsFixed c.session mid.session → Breaks (standing_of mid) (standing_of c') → IsAsBefore mid.session c'.session → Fails says denies untrusted asked c piece error mid → RefusesPiece says denies untrusted (bare_of c) piece error (standing_of c')
 refuses_piece says denies untrusted asked c mid c' piece error x b r f = record {
   cause = f.cause;
   refuses = record {
@@ -182,30 +194,57 @@ refuses_piece says denies untrusted asked c mid c' piece error x b r f = record 
   answers = f.why;
 }
 
-pub refused_answer : (says : Says) (denies : Denies) (untrusted : ServerHost → Type 0) (asked : RefusalCause → SideState → Type 0) (c mid c' : Connection) (piece : List ℕ) (answer done : Result (Unit {0}) Error) → done ≡ answer → IsFixed c.session mid.session → OnErr answer (Breaks (standing_of mid) (standing_of c')) → OnErr answer (IsAsBefore mid.session c'.session) → IfErr answer (λ e. Fails says denies untrusted asked c piece e mid) → IfErr done (λ e. RefusesPiece says denies untrusted (standing_of c) piece e (standing_of c'))
-refused_answer says denies untrusted asked c mid c' piece (Ok u) done d x b r f = subst (λ (y : Result (Unit {0}) Error). IfErr y (λ e. RefusesPiece says denies untrusted (standing_of c) piece e (standing_of c'))) (sym d) tt
-refused_answer says denies untrusted asked c mid c' piece (Err e) done d x b r f = subst (λ (y : Result (Unit {0}) Error). IfErr y (λ e. RefusesPiece says denies untrusted (standing_of c) piece e (standing_of c'))) (sym d) (refuses_piece says denies untrusted asked c mid c' piece e x b r f)
+-- the piece behind what was kept
+piece_refused : (says : Says) (denies : Denies) (untrusted : ServerHost → Type 0) (asked : RefusalCause → SideState → Type 0) (c mid c' : Connection) (piece : List ℕ) (error : Error) → IsFixed c.session mid.session → Breaks (standing_of mid) (standing_of c') → IsAsBefore mid.session c'.session → Fails says denies untrusted asked (emptied c) (c.reader.waiting ++ piece) error mid → RefusesPiece says denies untrusted (standing_of c) piece error (standing_of c')
+piece_refused says denies untrusted asked c mid c' piece error x b r f = piece_kept says denies untrusted (bare_of (emptied c)) (standing_of c') c.reader.waiting piece error (refuses_piece says denies untrusted asked (emptied c) mid c' (c.reader.waiting ++ piece) error x b r f)
+
+pub refused_answer : {T : Type 0} (says : Says) (denies : Denies) (untrusted : ServerHost → Type 0) (asked : RefusalCause → SideState → Type 0) (c mid c' : Connection) (piece : List ℕ) (answer done : Result T Error) → done ≡ answer → IsFixed c.session mid.session → OnErr answer (Breaks (standing_of mid) (standing_of c')) → OnErr answer (IsAsBefore mid.session c'.session) → IfErr answer (λ e. Fails says denies untrusted asked (emptied c) (c.reader.waiting ++ piece) e mid) → IfErr done (λ e. RefusesPiece says denies untrusted (standing_of c) piece e (standing_of c'))
+refused_answer {T} says denies untrusted asked c mid c' piece (Ok u) done d x b r f = subst (λ (y : Result T Error). IfErr y (λ e. RefusesPiece says denies untrusted (standing_of c) piece e (standing_of c'))) (sym d) tt
+refused_answer {T} says denies untrusted asked c mid c' piece (Err e) done d x b r f = subst (λ (y : Result T Error). IfErr y (λ e. RefusesPiece says denies untrusted (standing_of c) piece e (standing_of c'))) (sym d) (piece_refused says denies untrusted asked c mid c' piece e x b r f)
+
+-- where nothing is behind it
+pub fails_alone : {T : Type 0} (says : Says) (denies : Denies) (untrusted : ServerHost → Type 0) (asked : RefusalCause → SideState → Type 0) (c c' : Connection) (bytes : List ℕ) (answer : Result T Error) → IfErr answer (λ e. Fails says denies untrusted asked c bytes e c') → IfErr answer (λ e. Fails says denies untrusted asked c (bytes ++ []) e c')
+fails_alone {T} says denies untrusted asked c c' bytes answer h = subst (λ (b : List ℕ). IfErr answer (λ e. Fails says denies untrusted asked c b e c')) (sym (append-nil bytes)) h
 
 pub fails_read : (says : Config → Says) (denies : Denies) (untrusted : ServerHost → Type 0) (asked later : RefusalCause → SideState → Type 0) (c mid c' : Connection) (piece : List ℕ) (error : Error) → Later mid later asked → Hears c piece mid → IsHeard mid.session.line → Stops (says mid.session.config.now) denies untrusted later mid error c' → Fails (says c.session.config.now) denies untrusted asked c piece error c'
 fails_read says denies untrusted asked later c mid c' piece error a h i k = fails_behind (says c.session.config.now) denies untrusted asked later c mid c' piece error a h i (subst (λ (b : Bor Config). Stops (says b.now) denies untrusted later mid error c') h.config k)
 
 -- and how often the parts were asked
-asking_piece : (says : Says) (denies : Denies) (untrusted : ServerHost → Type 0) (n n' : PartCalls) (c mid c' : Connection) (piece : List ℕ) (error : Error) → IsFixed c.session mid.session → Breaks (standing_of mid) (standing_of c') → IsAsBefore mid.session c'.session → Fails says denies untrusted (AsksTo c.session n n') c piece error mid → RefusesAsking says (standing_of c) piece (standing_of c') n n'
+asking_piece : (says : Says) (denies : Denies) (untrusted : ServerHost → Type 0) (n n' : PartCalls) (c mid c' : Connection) (piece : List ℕ) (error : Error) → IsFixed c.session mid.session → Breaks (standing_of mid) (standing_of c') → IsAsBefore mid.session c'.session → Fails says denies untrusted (AsksTo c.session n n') c piece error mid → RefusesAsking says (bare_of c) piece (standing_of c') n n'
 unfolding refuses_piece
 asking_piece says denies untrusted n n' c mid c' piece error x b r f = record {
   cause = f.cause;
   refuses = (refuses_piece says denies untrusted (AsksTo c.session n n') c mid c' piece error x b r f).refuses;
   asks = until;
-  few = refused_few says c.session.side c.session.config.now (id_text c.session.config.now.id) f.events f.cause (standing_of c).state f.state n n' f.steps until;
+  few = refused_few says c.session.side c.session.config.now (id_text c.session.config.now.id) f.events f.cause (bare_of c).state f.state n n' f.steps until;
 } where
-  until : AsksUntil c.session.side f.cause (standing_of c).state f.state n n'
+  until : AsksUntil c.session.side f.cause (bare_of c).state f.state n n'
   until = record { mid = (f.asks).mid; before = record { agreement = ((f.asks).before).agreement; hosts = ((f.asks).before).hosts; lookups = ((f.asks).before).lookups; groups = ((f.asks).before).groups }; last = (f.asks).last }
 
-pub asked_answer : (says : Says) (denies : Denies) (untrusted : ServerHost → Type 0) (n n' : PartCalls) (c mid c' : Connection) (piece : List ℕ) (answer done : Result (Unit {0}) Error) → done ≡ answer → IsFixed c.session mid.session → OnErr answer (Breaks (standing_of mid) (standing_of c')) → OnErr answer (IsAsBefore mid.session c'.session) → IfErr answer (λ e. Fails says denies untrusted (AsksTo c.session n n') c piece e mid) → OnErr done (RefusesAsking says (standing_of c) piece (standing_of c') n n')
-asked_answer says denies untrusted n n' c mid c' piece (Ok u) done d x b r f = subst (λ (y : Result (Unit {0}) Error). OnErr y (RefusesAsking says (standing_of c) piece (standing_of c') n n')) (sym d) tt
-asked_answer says denies untrusted n n' c mid c' piece (Err e) done d x b r f = subst (λ (y : Result (Unit {0}) Error). OnErr y (RefusesAsking says (standing_of c) piece (standing_of c') n n')) (sym d) (asking_piece says denies untrusted n n' c mid c' piece e x b r f)
+asking_refused : (says : Says) (denies : Denies) (untrusted : ServerHost → Type 0) (n n' : PartCalls) (c mid c' : Connection) (piece : List ℕ) (error : Error) → IsFixed c.session mid.session → Breaks (standing_of mid) (standing_of c') → IsAsBefore mid.session c'.session → Fails says denies untrusted (AsksTo c.session n n') (emptied c) (c.reader.waiting ++ piece) error mid → RefusesAsking says (standing_of c) piece (standing_of c') n n'
+asking_refused says denies untrusted n n' c mid c' piece error x b r f = asking_kept says (bare_of (emptied c)) (standing_of c') c.reader.waiting piece n n' (asking_piece says denies untrusted n n' (emptied c) mid c' (c.reader.waiting ++ piece) error x b r f)
 
-pub asks_answer : (n n' : PartCalls) (c mid c' : Connection) (answer done : Result (Unit {0}) Error) → done ≡ answer → OnOk answer (c' ≡ mid) → OnOk answer (AsksBetween c.session mid.session n n') → OnOk done (AsksWithin c.session.side (standing_of c).state (standing_of c').state n n')
-asks_answer n n' c mid c' (Ok u) done d e h = subst (λ (y : Result (Unit {0}) Error). OnOk y (AsksWithin c.session.side (standing_of c).state (standing_of c').state n n')) (sym d)
+pub asked_answer : {T : Type 0} (says : Says) (denies : Denies) (untrusted : ServerHost → Type 0) (n n' : PartCalls) (c mid c' : Connection) (piece : List ℕ) (answer done : Result T Error) → done ≡ answer → IsFixed c.session mid.session → OnErr answer (Breaks (standing_of mid) (standing_of c')) → OnErr answer (IsAsBefore mid.session c'.session) → IfErr answer (λ e. Fails says denies untrusted (AsksTo c.session n n') (emptied c) (c.reader.waiting ++ piece) e mid) → OnErr done (RefusesAsking says (standing_of c) piece (standing_of c') n n')
+asked_answer {T} says denies untrusted n n' c mid c' piece (Ok u) done d x b r f = subst (λ (y : Result T Error). OnErr y (RefusesAsking says (standing_of c) piece (standing_of c') n n')) (sym d) tt
+asked_answer {T} says denies untrusted n n' c mid c' piece (Err e) done d x b r f = subst (λ (y : Result T Error). OnErr y (RefusesAsking says (standing_of c) piece (standing_of c') n n')) (sym d) (asking_refused says denies untrusted n n' c mid c' piece e x b r f)
+
+-- both of the same refusal
+piece_asking : (says : Says) (denies : Denies) (untrusted : ServerHost → Type 0) (n n' : PartCalls) (c mid c' : Connection) (piece : List ℕ) (error : Error) → IsFixed c.session mid.session → Breaks (standing_of mid) (standing_of c') → IsAsBefore mid.session c'.session → Fails says denies untrusted (AsksTo c.session n n') c piece error mid → RefusesPieceAsking says denies untrusted (bare_of c) piece error (standing_of c') n n'
+unfolding refuses_piece
+piece_asking says denies untrusted n n' c mid c' piece error x b r f = record {
+  refused = refuses_piece says denies untrusted (AsksTo c.session n n') c mid c' piece error x b r f;
+  few = refused_few says c.session.side c.session.config.now (id_text c.session.config.now.id) f.events f.cause (bare_of c).state f.state n n' f.steps
+      (record { mid = (f.asks).mid; before = record { agreement = ((f.asks).before).agreement; hosts = ((f.asks).before).hosts; lookups = ((f.asks).before).lookups; groups = ((f.asks).before).groups }; last = (f.asks).last });
+}
+
+piece_asked : (says : Says) (denies : Denies) (untrusted : ServerHost → Type 0) (n n' : PartCalls) (c mid c' : Connection) (piece : List ℕ) (error : Error) → IsFixed c.session mid.session → Breaks (standing_of mid) (standing_of c') → IsAsBefore mid.session c'.session → Fails says denies untrusted (AsksTo c.session n n') (emptied c) (c.reader.waiting ++ piece) error mid → RefusesPieceAsking says denies untrusted (standing_of c) piece error (standing_of c') n n'
+piece_asked says denies untrusted n n' c mid c' piece error x b r f = piece_asking_kept says denies untrusted (bare_of (emptied c)) (standing_of c') c.reader.waiting piece error n n' (piece_asking says denies untrusted n n' (emptied c) mid c' (c.reader.waiting ++ piece) error x b r f)
+
+pub piece_answer : {T : Type 0} (says : Says) (denies : Denies) (untrusted : ServerHost → Type 0) (n n' : PartCalls) (c mid c' : Connection) (piece : List ℕ) (answer done : Result T Error) → done ≡ answer → IsFixed c.session mid.session → OnErr answer (Breaks (standing_of mid) (standing_of c')) → OnErr answer (IsAsBefore mid.session c'.session) → IfErr answer (λ e. Fails says denies untrusted (AsksTo c.session n n') (emptied c) (c.reader.waiting ++ piece) e mid) → IfErr done (λ e. RefusesPieceAsking says denies untrusted (standing_of c) piece e (standing_of c') n n')
+piece_answer {T} says denies untrusted n n' c mid c' piece (Ok u) done d x b r f = subst (λ (y : Result T Error). IfErr y (λ e. RefusesPieceAsking says denies untrusted (standing_of c) piece e (standing_of c') n n')) (sym d) tt
+piece_answer {T} says denies untrusted n n' c mid c' piece (Err e) done d x b r f = subst (λ (y : Result T Error). IfErr y (λ e. RefusesPieceAsking says denies untrusted (standing_of c) piece e (standing_of c') n n')) (sym d) (piece_asked says denies untrusted n n' c mid c' piece e x b r f)
+
+pub asks_answer : {T : Type 0} (n n' : PartCalls) (c mid c' : Connection) (answer done : Result T Error) → done ≡ answer → OnOk answer (c' ≡ mid) → OnOk answer (AsksBetween c.session mid.session n n') → OnOk done (AsksWithin c.session.side (standing_of c).state (standing_of c').state n n')
+asks_answer {T} n n' c mid c' (Ok u) done d e h = subst (λ (y : Result T Error). OnOk y (AsksWithin c.session.side (standing_of c).state (standing_of c').state n n')) (sym d)
     (subst (λ (x : Connection). AsksWithin c.session.side (standing_of c).state (standing_of x).state n n') (sym e) (record { agreement = (h.within).agreement; hosts = (h.within).hosts; lookups = (h.within).lookups; groups = (h.within).groups }))
-asks_answer n n' c mid c' (Err x) done d e h = subst (λ (y : Result (Unit {0}) Error). OnOk y (AsksWithin c.session.side (standing_of c).state (standing_of c').state n n')) (sym d) tt
+asks_answer {T} n n' c mid c' (Err x) done d e h = subst (λ (y : Result T Error). OnOk y (AsksWithin c.session.side (standing_of c).state (standing_of c').state n n')) (sym d) tt

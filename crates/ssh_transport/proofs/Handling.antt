@@ -96,6 +96,7 @@ handles_idle says s s' seqn type payload begun t idle passes e at read i r q = r
   output = ap (λ (x : Session). x.writer.output) e ∙ sym (append-nil s.writer.output);
   bytes = append-nil (sealed_packet at.sealing at.number i);
   delivered = refl;
+  alone = λ d. absurd (let f : Done ≡ Delivers = d in cc);
   input = no_input;
   silent = tt;
 } where
@@ -133,6 +134,7 @@ handles_delivered says s s' seqn type payload may t allowed m n e at read i r q 
   output = ap (λ (x : Session). x.writer.output) e ∙ sym (append-nil s.writer.output);
   bytes = append-nil (sealed_packet at.sealing at.number i);
   delivered = refl;
+  alone = λ d. refl;
   input = no_input;
   silent = tt;
 }
@@ -198,8 +200,8 @@ did_take says s m inc next reset written at read i called o r ordered t = record
     becomes = refl;
   }
 
-did_drop : (says : Says) (s : Session) (m : Machine) (inc : Incoming) (next : Machine) (reset : Bool) (written : Writer) (at : Spot) (read : ℕ) (i : Item) → is_kex_type (type_of i) ≡ true → IsOwn s m → IsReadAt at inc.seqn inc.payload.now i → OrderBy s.side at.number i s.finished.items (names_of m.stage) → DropsGuess m s.writer next reset written → Did says s (inside s m false at read) at i written (behind s next.stage reset written at read i)
-did_drop says s m inc next reset written at read i kex o r ordered d = record {
+did_drop : (says : Says) (s : Session) (m : Machine) (inc : Incoming) (next : Machine) (reset : Bool) (written : Writer) (at : Spot) (read : ℕ) (i : Item) → is_kex_type (type_of i) ≡ true → IsReadAt at inc.seqn inc.payload.now i → OrderBy s.side at.number i s.finished.items (names_of m.stage) → DropsGuess m s.writer next reset written → Did says s (inside s m false at read) at i written (behind s next.stage reset written at read i)
+did_drop says s m inc next reset written at read i kex r ordered d = record {
   events = GuessDropped i ∷ [];
   steps = (
     behind s next.stage reset written at read i,
@@ -211,9 +213,9 @@ did_drop says s m inc next reset written at read i kex o r ordered d = record {
       is_kex = kex;
       admissible = r.admissible;
       ordered = ordered;
-      becomes = ap (λ (x : Stage). behind s x reset written at read i) (ap (λ (x : Machine). x.stage) d.kex_is ∙ ap (λ (x : Side). guess_dropped x m.stage) (own_side s m o))
-          ∙ ap (λ (b : Bool). behind s (guess_dropped s.side m.stage) b written at read i) d.reset_is
-          ∙ ap (λ (w : Writer). behind s (guess_dropped s.side m.stage) false w at read i) d.same;
+      becomes = ap (λ (x : Machine). behind s x.stage reset written at read i) d.kex_is
+          ∙ ap (λ (b : Bool). behind s (guess_dropped m.stage) b written at read i) d.reset_is
+          ∙ ap (λ (w : Writer). behind s (guess_dropped m.stage) false w at read i) d.same;
     },
     refl,
   );
@@ -235,7 +237,7 @@ IsCalled false stage = Unit {0}
 did_await : (says : Says) (s : Session) (m : Machine) (inc : Incoming) (next : Machine) (reset : Bool) (written : Writer) (at : Spot) (read : ℕ) (i : Item) (called : Bool) → IsCalled called m.stage → is_kex_type (type_of i) ≡ true → IsOwn s m → IsReadAt at inc.seqn inc.payload.now i → OrderBy s.side at.number i s.finished.items (names_of m.stage) → DropsGuess m s.writer next reset written ⊎ TakesOne says m inc s.writer next reset written → Did says s (inside s m called at read) at i written (behind s next.stage reset written at read i)
 did_await says s m inc next reset written at read i called c kex o r ordered (inr t) = did_take says s m inc next reset written at read i called o r ordered t
 did_await says s m inc next reset written at read i true c kex o r ordered (inl d) = absurd (let e : true ≡ false = sym d.drops ∙ created_drops m.stage c.0 c.1 in cc)
-did_await says s m inc next reset written at read i false c kex o r ordered (inl d) = did_drop says s m inc next reset written at read i kex o r ordered d
+did_await says s m inc next reset written at read i false c kex o r ordered (inl d) = did_drop says s m inc next reset written at read i kex r ordered d
 
 -- ---- the end of an exchange
 
@@ -297,7 +299,7 @@ did_end says s s' m inc at read i called opening again valid c o r ordered e = b
     records_are : s'.finished.items ≡ s.finished.items ++ d.made ∷ []
     records_are = e.installs.2 ∙ ap (λ (x : FinishedExchange). s.finished.items ++ x ∷ []) made_is
 
-    becomes : s' ≡ record s { writer = record e.written { sealing = sealing_of k.cipher.local_to_remote; count = 0 }; kex = Idle; finished = s'.finished }
+    becomes : s' ≡ record s { writer = record e.written { sealing = sealing_of k.cipher.value.local_to_remote; count = 0 }; kex = Idle; finished = s'.finished }
     becomes = e.installs.3
 
     again_is : again ≡ d.made.names.strict_kex
@@ -306,7 +308,7 @@ did_end says s s' m inc at read i called opening again valid c o r ordered e = b
     opens_is : opening_of opening ≡ (outgoing (other_side s.side) d.made).sealing
     opens_is = ap opening_of e.installs.0 ∙ d.newkeys.opens ∙ ap (λ (x : Side). (outgoing (other_side x) d.made).sealing) (own_side s m o)
 
-    seals_is : sealing_of k.cipher.local_to_remote ≡ (outgoing s.side d.made).sealing
+    seals_is : sealing_of k.cipher.value.local_to_remote ≡ (outgoing s.side d.made).sealing
     seals_is = d.newkeys.seals ∙ ap (λ (x : Side). (outgoing x d.made).sealing) (own_side s m o)
 
     by : (Finishes m.stage inc.payload.now d.exchange d.made e.host × (d.written ≡ [])) ⊎ Skips m.setting m.stage inc.seqn inc.payload.now d.written d.exchange d.made e.host → Did says s (inside s m called at read) at i s'.writer (state_at s' (spot_behind (Rekeys opening again) at i) 0)
@@ -329,10 +331,10 @@ did_end says s s' m inc at read i called opening again valid c o r ordered e = b
               admissible = r.admissible;
               ordered = ordered;
               becomes = ap (λ (x : Session). state_at x (spot_behind (Rekeys opening again) at i) 0) becomes
-                  ∙ ap (λ (xs : List FinishedExchange). ended s xs (between xs) (spot_behind (Rekeys opening again) at i) (record { sealing = sealing_of k.cipher.local_to_remote; number = e.written.number })) records_are
-                  ∙ ap (λ (x : Where). ended s (s.finished.items ++ d.made ∷ []) x (spot_behind (Rekeys opening again) at i) (record { sealing = sealing_of k.cipher.local_to_remote; number = e.written.number })) (behind_records s.finished.items d.made)
-                  ∙ ap (λ (x : Sealing). ended s (s.finished.items ++ d.made ∷ []) Outside (spot_renumbered again (record { sealing = x; number = next_number at.number })) (record { sealing = sealing_of k.cipher.local_to_remote; number = e.written.number })) opens_is
-                  ∙ ap (λ (x : Bool). ended s (s.finished.items ++ d.made ∷ []) Outside (spot_renumbered x (record { sealing = (outgoing (other_side s.side) d.made).sealing; number = next_number at.number })) (record { sealing = sealing_of k.cipher.local_to_remote; number = e.written.number })) again_is
+                  ∙ ap (λ (xs : List FinishedExchange). ended s xs (between xs) (spot_behind (Rekeys opening again) at i) (record { sealing = sealing_of k.cipher.value.local_to_remote; number = e.written.number })) records_are
+                  ∙ ap (λ (x : Where). ended s (s.finished.items ++ d.made ∷ []) x (spot_behind (Rekeys opening again) at i) (record { sealing = sealing_of k.cipher.value.local_to_remote; number = e.written.number })) (behind_records s.finished.items d.made)
+                  ∙ ap (λ (x : Sealing). ended s (s.finished.items ++ d.made ∷ []) Outside (spot_renumbered again (record { sealing = x; number = next_number at.number })) (record { sealing = sealing_of k.cipher.value.local_to_remote; number = e.written.number })) opens_is
+                  ∙ ap (λ (x : Bool). ended s (s.finished.items ++ d.made ∷ []) Outside (spot_renumbered x (record { sealing = (outgoing (other_side s.side) d.made).sealing; number = next_number at.number })) (record { sealing = sealing_of k.cipher.value.local_to_remote; number = e.written.number })) again_is
                   ∙ ap (λ (x : Sealing). ended s (s.finished.items ++ d.made ∷ []) Outside (spot_installed (outgoing (other_side s.side) d.made) (spot_after at i)) (record { sealing = x; number = e.written.number })) seals_is
                   ∙ ap (λ (w : Writer). ended s (s.finished.items ++ d.made ∷ []) Outside (spot_installed (outgoing (other_side s.side) d.made) (spot_after at i)) (record { sealing = (outgoing s.side d.made).sealing; number = w.number })) quiet
                   ∙ ap (λ (x : Bool). record (ended s (s.finished.items ++ d.made ∷ []) Outside (spot_installed (outgoing (other_side s.side) d.made) (spot_after at i)) (record { sealing = (outgoing s.side d.made).sealing; number = s.writer.number })) { called = x }) (sym off);

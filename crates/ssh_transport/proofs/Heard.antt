@@ -1,14 +1,16 @@
 -- What a piece of the peer's version line does to a connection.
-use Rattle.std.proofs.Common.{◌≡◌, ℕ, zero, suc, ◌+◌, ◌-◌, ◌<◌, ◌≤◌, Bool, true, false, List, [], ◌∷◌, ◌++◌, length, take, drop, Option, Some, None, IsSome, Ok, refl, sym, ap, ◌∙◌, subst, arith, append-nil}
+use Rattle.std.proofs.Common.{◌≡◌, ℕ, zero, suc, ◌+◌, ◌-◌, ◌*◌, ◌<◌, ◌≤◌, Bool, true, false, List, [], ◌∷◌, ◌++◌, length, take, drop, Option, Some, None, IsSome, Result, Ok, Err, refl, sym, ap, ◌∙◌, subst, arith, append_assoc, append-nil, length-append}
 use Rattle.std.proofs.Math.Seq.{drop-append-add, take-length}
-use Rattle.std.proofs.lemmas.List.{length-drop}
+use Rattle.std.proofs.lemmas.List.{drop-append-le, drop_all, length-take-le, take-append-drop}
 use Rattle.ssh_wire.specs.Lines as lines
 use Rattle.ssh_wire.specs.Lines.{IdFound, Unfinished, id_of, id_text, line_end, longest_line}
-use Rattle.ssh_wire.specs.Reading.{IdReading, Waiting, Heard, Failed, Decides, Feeds, IsShort, by_end, reading_left, still_allowed}
+use Rattle.ssh_wire.specs.Reading.{IdReading, Waiting, Heard, Failed, Decides, Feeds, IsShort, by_end, reading_left, still_allowed, waiting_length}
+use Rattle.ssh_wire.specs.declared.error.Error.{Error}
+use Rattle.ssh_wire.specs.declared.error.Error.TheVariants as errors
 use Rattle.ssh_wire.specs.declared.read_id.IdProgress.{IdProgress}
 use Rattle.ssh_wire.specs.declared.read_id.IdProgress.TheVariants as progress
 use Rattle.ssh_wire.specs.declared.side.Side.{Side}
-use Rattle.ssh_wire.proofs.Lemmas.{beyond, id_of_line, line_unfinished}
+use Rattle.ssh_wire.proofs.Lemmas.{beyond, fed_more, fits_room, id_of_line, line_unfinished}
 use Rattle.ssh_packet.specs.Front as fronts
 use Rattle.ssh_packet.specs.Front.{front_of}
 use Rattle.ssh_packet.specs.Keys.{opening_of}
@@ -18,14 +20,15 @@ use Rattle.ssh_packet.specs.Writing.{Writer}
 use Rattle.ssh_rules.specs.Machine.{Event, ExchangeBegun, IdHeard, Inside, Outside, Silent, Spot, Start, Steps, Where}
 use Rattle.ssh_rules.specs.Standing.{HearsFrom, ReadsLineFrom, WaitsInPart, lets_pass}
 use Rattle.ssh_transport.specs.Handling.{IsHeard}
-use Rattle.ssh_transport.specs.Hearing.{BeginsWhere, HearsLine}
+use Rattle.ssh_transport.specs.Hearing.{BeginsWhere, EndsBy, HearsLine}
 use Rattle.ssh_transport.specs.Kept.{IsLive}
 use Rattle.ssh_transport.specs.Saying.{Begins, nothing_said}
-use Rattle.ssh_transport.specs.States.{WaitsBehind, heard_of, is_silent, reading_of, stands_of, state_at}
+use Rattle.ssh_transport.specs.States.{WaitsBehind, emptied, heard_of, is_silent, reading_of, stands_of, state_at, with_more}
 use Rattle.ssh_transport.specs.Taking.{Hears}
 use Rattle.ssh_transport.specs.declared.connection.Connection.{Connection}
 use Rattle.ssh_transport.specs.declared.session.Session.{Session}
 use Rattle.ssh_transport.proofs.Hearing.{unheard_yet}
+use Rattle.ssh_transport.proofs.Kept.{emptied_same, live_emptied, waits_nothing}
 use Rattle.ssh_transport.proofs.Saying.{begins_exchange}
 
 -- ---- before the end of the line
@@ -50,19 +53,29 @@ none_waits allow (Waiting bytes others) piece waiting new h w = w
 none_waits allow (Heard text) piece waiting new h w = absurd (let e = h.0 in cc)
 none_waits allow Failed piece waiting new h w = w
 
-pub hears_none : (c : Connection) (s' : Session) (piece : List ℕ) → IsLive c → HearsLine c.session piece None s' → Hears c piece (record c { session = s' })
-hears_none c s' piece live h = record {
+-- the reader's place stays
+pub record Pushes (r : Reader) (bytes : List ℕ) (r' : Reader) : Type 0 where
+  pub becomes : r' ≡ record r { waiting = r.waiting ++ bytes; handed = r'.handed; spent = r'.spent }
+
+abbrev pub steps_to : (c : Connection) (events : List Event) (s' : Session) (r : Reader) → Type 0
+steps_to c events s' r = Steps nothing_said c.session.side c.session.config.now (id_text c.session.config.now.id) (state_at c.session (reading_of c) c.reader.count) events (state_at s' (record { sealing = opening_of c.opening; number = r.number }) r.count)
+
+pushed : (c : Connection) (events : List Event) (s' : Session) (bytes : List ℕ) (r' : Reader) → Pushes c.reader bytes r' → steps_to c events s' c.reader → steps_to c events s' r'
+pushed c events s' bytes r' p h = subst (λ (r : Reader). steps_to c events s' r) (sym p.becomes) h
+
+hears_none : (c : Connection) (s' : Session) (piece : List ℕ) (r' : Reader) → WaitsBehind c.session.line c.reader.waiting → HearsLine c.session piece None s' → Pushes c.reader [] r' → Hears c piece (record c { session = s'; reader = r' })
+hears_none c s' piece r' w h p = record {
   events = [];
   side = ap (λ (x : Session). x.side) h.2;
   config = ap (λ (x : Session). x.config) h.2;
-  steps = ap (λ (x : Session). state_at x (reading_of c) c.reader.count) h.2
-      ∙ ap (λ (x : Option (List ℕ)). record (state_at c.session (reading_of c) c.reader.count) { heard = x }) (unheard_yet (lets_pass c.session.side) c.session.line piece s'.line h.0 ∙ sym (none_unheard (lets_pass c.session.side) c.session.line piece s'.line h.0));
+  steps = pushed c [] s' [] r' p (ap (λ (x : Session). state_at x (reading_of c) c.reader.count) h.2
+      ∙ ap (λ (x : Option (List ℕ)). record (state_at c.session (reading_of c) c.reader.count) { heard = x }) (unheard_yet (lets_pass c.session.side) c.session.line piece s'.line h.0 ∙ sym (none_unheard (lets_pass c.session.side) c.session.line piece s'.line h.0)));
   output = ap (λ (x : Session). x.writer.output) h.2 ∙ sym (append-nil c.session.writer.output);
   unread = refl;
   bytes = λ at. refl;
   delivered = sym (append-nil c.delivered.items);
   input = (refl, refl);
-  line = line_none c.session.side c.session.line c.reader.waiting piece s'.line live.behind h.0;
+  line = subst (λ (x : List ℕ). ReadsLineFrom c.session.side c.session.line c.reader.waiting piece [] s'.line x) (sym (ap (λ (x : Reader). x.waiting) p.becomes ∙ append-nil c.reader.waiting)) (line_none c.session.side c.session.line c.reader.waiting piece s'.line w h.0);
 }
 
 front_nothing : (sealing : Sealing) (number : ℕ) → front_of sealing number [] ≡ fronts.Unfinished
@@ -71,8 +84,8 @@ front_nothing Clear number = refl
 front_nothing (Block running mac) number = refl
 front_nothing (Gcm key nonce) number = refl
 
-pub none_part : (c : Connection) (s' : Session) (piece : List ℕ) (at : Spot) → IsLive c → HearsLine c.session piece None s' → WaitsInPart at c.reader.waiting
-none_part c s' piece at live h = subst (λ (x : List ℕ). front_of at.sealing at.number x ≡ fronts.Unfinished) (sym (none_waits (lets_pass c.session.side) c.session.line piece c.reader.waiting s'.line h.0 live.behind)) (front_nothing at.sealing at.number)
+pub part_nothing : (at : Spot) (waiting : List ℕ) → waiting ≡ [] → WaitsInPart at waiting
+part_nothing at waiting e = subst (λ (x : List ℕ). front_of at.sealing at.number x ≡ fronts.Unfinished) (sym e) (front_nothing at.sealing at.number)
 
 -- ---- at its end
 
@@ -82,7 +95,7 @@ unended left bytes s n = id_of_line left bytes Unfinished (line_unfinished bytes
 drop_behind : (a b : List ℕ) (n : ℕ) → length a ≤ n → drop n (a ++ b) ≡ drop (n - length a) b
 drop_behind a b n h = let e : n ≡ length a + (n - length a) = omega (arith, h) in ap (λ (k : ℕ). drop k (a ++ b)) e ∙ drop-append-add a b (n - length a)
 
-silent_is : (w : Where) → is_silent w ≡ true → w ≡ Silent
+pub silent_is : (w : Where) → is_silent w ≡ true → w ≡ Silent
 silent_is Silent e = refl
 silent_is Outside e = cc
 silent_is (Inside stage) e = cc
@@ -126,19 +139,9 @@ line_some side line waiting piece more new behind bytes text others end e f n h 
     subst (λ (x : IdReading). ReadsLineFrom side x waiting piece (IdHeard text ∷ more) new behind) (sym e)
     (subst (λ (x : IdFound). HearsFrom side x (bytes ++ piece) others (IdHeard text ∷ more) new behind) (sym f) ((more, refl, n), h, b))
 
--- the reader's place stays
-pub record Pushes (r : Reader) (bytes : List ℕ) (r' : Reader) : Type 0 where
-  pub becomes : r' ≡ record r { waiting = r.waiting ++ bytes; spent = r'.spent }
-
-abbrev pub steps_to : (c : Connection) (events : List Event) (s' : Session) (r : Reader) → Type 0
-steps_to c events s' r = Steps nothing_said c.session.side c.session.config.now (id_text c.session.config.now.id) (state_at c.session (reading_of c) c.reader.count) events (state_at s' (record { sealing = opening_of c.opening; number = r.number }) r.count)
-
-pushed : (c : Connection) (events : List Event) (s' : Session) (bytes : List ℕ) (r' : Reader) → Pushes c.reader bytes r' → steps_to c events s' c.reader → steps_to c events s' r'
-pushed c events s' bytes r' p h = subst (λ (r : Reader). steps_to c events s' r) (sym p.becomes) h
-
 -- the first line is heard, and the first exchange begun
-hears_first : (c : Connection) (s' : Session) (used : ℕ) (piece : List ℕ) (r' : Reader) (bytes : List ℕ) (others : ℕ) → IsLive c → HearsLine c.session piece (Some used) s' → Pushes c.reader (drop used piece) r' → c.session.line ≡ Waiting bytes others → Hears c piece (record c { session = s'; reader = r' })
-hears_first c s' used piece r' bytes others live h p e = record {
+hears_first : (c : Connection) (s' : Session) (used : ℕ) (piece : List ℕ) (r' : Reader) (bytes : List ℕ) (others : ℕ) → IsLive c → WaitsBehind c.session.line c.reader.waiting → HearsLine c.session piece (Some used) s' → Pushes c.reader (drop used piece) r' → c.session.line ≡ Waiting bytes others → Hears c piece (record c { session = s'; reader = r' })
+hears_first c s' used piece r' bytes others live w h p e = record {
   events = IdHeard f.text ∷ ExchangeBegun Start b.item ∷ [];
   side = ap (λ (x : Session). x.side) b.becomes;
   config = ap (λ (x : Session). x.config) b.becomes;
@@ -176,7 +179,7 @@ hears_first c s' used piece r' bytes others live h p e = record {
   within = beyond (still_allowed (lets_pass c.session.side) others) bytes piece f.text f.end (unended (still_allowed (lets_pass c.session.side) others) bytes short.0 short.1) f.found_is
 
   behind : r'.waiting ≡ drop f.end (bytes ++ piece)
-  behind = ap (λ (r : Reader). r.waiting) p.becomes ∙ ap (λ (x : List ℕ). x ++ drop used piece) (subst (λ (x : IdReading). WaitsBehind x c.reader.waiting) e live.behind)
+  behind = ap (λ (r : Reader). r.waiting) p.becomes ∙ ap (λ (x : List ℕ). x ++ drop used piece) (subst (λ (x : IdReading). WaitsBehind x c.reader.waiting) e w)
       ∙ ap (λ (n : ℕ). drop n piece) f.used_is ∙ sym (drop_behind bytes piece f.end within)
 
 -- a line that was heard before
@@ -205,32 +208,89 @@ hears_later c s' used piece r' text live h p e = record {
   same : s' ≡ record c.session { line = s'.line }
   same = begins_not (is_silent (stands_of c.session.finished.items c.session.kex)) (record c.session { line = s'.line }) s' begun h.2
 
-hears_by : (c : Connection) (s' : Session) (used : ℕ) (piece : List ℕ) (r' : Reader) (line : IdReading) → IsLive c → HearsLine c.session piece (Some used) s' → Pushes c.reader (drop used piece) r' → c.session.line ≡ line → Hears c piece (record c { session = s'; reader = r' })
-hears_by c s' used piece r' (Waiting bytes others) live h p e = hears_first c s' used piece r' bytes others live h p e
-hears_by c s' used piece r' (Heard text) live h p e = hears_later c s' used piece r' text live h p e
-hears_by c s' used piece r' Failed live h p e = absurd (let f : Feeds (lets_pass c.session.side) Failed piece (Ok (progress.Id used)) s'.line = subst (λ (x : IdReading). Feeds (lets_pass c.session.side) x piece (Ok (progress.Id used)) s'.line) e h.0 in let g = f.0 in cc)
+hears_by : (c : Connection) (s' : Session) (used : ℕ) (piece : List ℕ) (r' : Reader) (line : IdReading) → IsLive c → WaitsBehind c.session.line c.reader.waiting → HearsLine c.session piece (Some used) s' → Pushes c.reader (drop used piece) r' → c.session.line ≡ line → Hears c piece (record c { session = s'; reader = r' })
+hears_by c s' used piece r' (Waiting bytes others) live w h p e = hears_first c s' used piece r' bytes others live w h p e
+hears_by c s' used piece r' (Heard text) live w h p e = hears_later c s' used piece r' text live h p e
+hears_by c s' used piece r' Failed live w h p e = absurd (let f : Feeds (lets_pass c.session.side) Failed piece (Ok (progress.Id used)) s'.line = subst (λ (x : IdReading). Feeds (lets_pass c.session.side) x piece (Ok (progress.Id used)) s'.line) e h.0 in let g = f.0 in cc)
 
-pub hears_some : (c : Connection) (s' : Session) (used : ℕ) (piece : List ℕ) (r' : Reader) → IsLive c → HearsLine c.session piece (Some used) s' → r' ≡ record c.reader { waiting = c.reader.waiting ++ drop used piece; spent = r'.spent } → Hears c piece (record c { session = s'; reader = r' })
-hears_some c s' used piece r' live h p = hears_by c s' used piece r' c.session.line live h (record { becomes = p }) refl
+-- ---- as a call answers, with more behind what it heard
 
--- ---- as a call answers
+line_decided : (n : ℕ) (r : Result IdProgress Error) → r ≡ Ok (progress.Id n) → r ≡ Ok progress.NotYet → ⊥
+line_decided n r e f = cc
 
-all_behind : (n : ℕ) (piece : List ℕ) → take (length piece - n) (drop n piece) ≡ drop n piece
-all_behind n piece = ap (λ (k : ℕ). take k (drop n piece)) (sym (length-drop n piece)) ∙ take-length (drop n piece)
+line_behind : (s s' : Session) (piece more : List ℕ) (used : ℕ) → HearsLine s piece (Some used) s' → HearsLine s (piece ++ more) (Some used) s'
+line_behind s s' piece more used h = (fed_more (lets_pass s.side) s.line s'.line piece more (Ok (progress.Id used)) (line_decided used (Ok (progress.Id used)) refl) h.0, h.1, h.2)
 
--- where what stands behind the line is cut out of the piece
-pub hears_cut : (c : Connection) (s' : Session) (used : ℕ) (piece : List ℕ) (r' : Reader) → IsLive c → HearsLine c.session piece (Some used) s' → r' ≡ record c.reader { waiting = c.reader.waiting ++ take (length piece - used) (drop used piece); spent = r'.spent } → Hears c piece (record c { session = s'; reader = r' })
-hears_cut c s' used piece r' live h p = hears_some c s' used piece r' live h (p ∙ ap (λ (b : List ℕ). record c.reader { waiting = c.reader.waiting ++ b; spent = r'.spent }) (all_behind used piece))
+-- the reader, where these bytes are left
+left_of : (r r' : Reader) (bytes handed : List ℕ) (spent : ℕ) → r' ≡ record r { waiting = bytes; handed = handed; spent = spent } → Pushes (record r { waiting = []; handed = []; spent = 0 }) bytes r'
+left_of r r' bytes handed spent e = record { becomes = subst (λ (x : Reader). x ≡ record r { waiting = bytes; handed = x.handed; spent = x.spent }) (sym e) refl }
 
-pub line_at : (s : Session) (piece : List ℕ) (o o' : Option ℕ) (s' : Session) → o ≡ o' → HearsLine s piece o s' → HearsLine s piece o' s'
-line_at s piece o o' s' e h = subst (λ (x : Option ℕ). HearsLine s piece x s') e h
+hears_left : (c : Connection) (s' : Session) (used : ℕ) (r' : Reader) (more handed : List ℕ) (spent : ℕ) → IsLive c → used ≤ length c.reader.waiting → HearsLine c.session c.reader.waiting (Some used) s' → r' ≡ record c.reader { waiting = drop used c.reader.waiting ++ more; handed = handed; spent = spent } → Hears (emptied c) (c.reader.waiting ++ more) (record c { session = s'; reader = r' })
+hears_left c s' used r' more handed spent live within h e = hears_by (emptied c) s' used (c.reader.waiting ++ more) r' c.session.line (live_emptied c live) (waits_nothing c.session.line) (line_behind c.session s' c.reader.waiting more used h)
+    (left_of c.reader r' (drop used (c.reader.waiting ++ more)) handed spent (e ∙ ap (λ (b : List ℕ). record c.reader { waiting = b; handed = handed; spent = spent }) (sym (drop-append-le used c.reader.waiting more within)))) refl
+
+pub hears_more : (c : Connection) (s' : Session) (used : ℕ) (r' : Reader) (more handed : List ℕ) (spent : ℕ) → IsLive c → used ≤ length c.reader.waiting → HearsLine c.session c.reader.waiting (Some used) s' → r' ≡ record c.reader { waiting = drop used c.reader.waiting; handed = handed; spent = spent } → Hears (emptied c) (c.reader.waiting ++ more) (with_more (record c { session = s'; reader = r' }) more)
+hears_more c s' used r' more handed spent live within h e = hears_left c s' used (record r' { waiting = r'.waiting ++ more; handed = []; spent = 0 }) more [] 0 live within h (ap (λ (x : Reader). record x { waiting = x.waiting ++ more; handed = []; spent = 0 }) e)
+
+pub hears_some : (c : Connection) (s' : Session) (used : ℕ) (r' : Reader) (handed : List ℕ) (spent : ℕ) → IsLive c → used ≤ length c.reader.waiting → HearsLine c.session c.reader.waiting (Some used) s' → r' ≡ record c.reader { waiting = drop used c.reader.waiting; handed = handed; spent = spent } → Hears (emptied c) c.reader.waiting (record c { session = s'; reader = r' })
+hears_some c s' used r' handed spent live within h e = subst (λ (b : List ℕ). Hears (emptied c) b (record c { session = s'; reader = r' })) (append-nil c.reader.waiting)
+    (hears_left c s' used r' [] handed spent live within h (e ∙ ap (λ (b : List ℕ). record c.reader { waiting = b; handed = handed; spent = spent }) (sym (append-nil (drop used c.reader.waiting)))))
+
+pub hears_part : (c : Connection) (s' : Session) (r' : Reader) (n : ℕ) (handed : List ℕ) (spent : ℕ) → n ≡ length c.reader.waiting → HearsLine c.session c.reader.waiting None s' → r' ≡ record c.reader { waiting = drop n c.reader.waiting; handed = handed; spent = spent } → Hears (emptied c) c.reader.waiting (record c { session = s'; reader = r' })
+hears_part c s' r' n handed spent all h e = hears_none (emptied c) s' c.reader.waiting r' (waits_nothing c.session.line) h (left_of c.reader r' [] handed spent (e ∙ ap (λ (b : List ℕ). record c.reader { waiting = b; handed = handed; spent = spent }) (drop_all n c.reader.waiting (omega (arith, all)))))
+
+-- of what was lent
+pub heard_at : (c : Connection) (s' : Session) (bytes : List ℕ) (o o' : Option ℕ) → bytes ≡ c.reader.waiting → o ≡ o' → HearsLine c.session bytes o s' → HearsLine c.session c.reader.waiting o' s'
+heard_at c s' bytes o o' b e h = subst (λ (x : List ℕ). HearsLine c.session x o' s') b (subst (λ (x : Option ℕ). HearsLine c.session bytes x s') e h)
+
+pub within_at : (bytes waiting : List ℕ) (n : ℕ) → bytes ≡ waiting → n ≤ length bytes → n ≤ length waiting
+within_at bytes waiting n e h = subst (λ (x : List ℕ). n ≤ length x) e h
+
+pub none_left : (r r' : Reader) (n : ℕ) (handed : List ℕ) (spent : ℕ) → n ≡ length r.waiting → r' ≡ record r { waiting = drop n r.waiting; handed = handed; spent = spent } → r'.waiting ≡ []
+none_left r r' n handed spent all e = ap (λ (x : Reader). x.waiting) e ∙ drop_all n r.waiting (omega (arith, all))
+
+-- a piece that was kept before
+pub hears_kept : (c c1 m : Connection) (piece handed : List ℕ) (n spent : ℕ) → c1 ≡ record c { reader = c1.reader } → c1.reader ≡ record c.reader { waiting = c.reader.waiting ++ take n piece; handed = handed; spent = spent } → Hears (emptied c1) (c1.reader.waiting ++ drop n piece) m → Hears (emptied c) (c.reader.waiting ++ piece) m
+hears_kept c c1 m piece handed n spent e f h = subst (λ (b : List ℕ). Hears (emptied c) b m) (ap (λ (r : Reader). r.waiting ++ drop n piece) f ∙ append_assoc c.reader.waiting (take n piece) (drop n piece) ∙ ap (λ (b : List ℕ). c.reader.waiting ++ b) (take-append-drop n piece))
+    (subst (λ (x : Connection). Hears x (c1.reader.waiting ++ drop n piece) m) (emptied_same c c1 (c.reader.waiting ++ take n piece) handed spent e f) h)
+
+pub hears_all : (c c1 m : Connection) (piece handed : List ℕ) (n spent : ℕ) → c1 ≡ record c { reader = c1.reader } → c1.reader ≡ record c.reader { waiting = c.reader.waiting ++ take n piece; handed = handed; spent = spent } → n ≡ length piece → Hears (emptied c1) c1.reader.waiting m → Hears (emptied c) (c.reader.waiting ++ piece) m
+hears_all c c1 m piece handed n spent e f all h = subst (λ (b : List ℕ). Hears (emptied c) b m) (ap (λ (r : Reader). r.waiting) f ∙ ap (λ (k : ℕ). c.reader.waiting ++ take k piece) all ∙ ap (λ (b : List ℕ). c.reader.waiting ++ b) (take-length piece))
+    (subst (λ (x : Connection). Hears x c1.reader.waiting m) (emptied_same c c1 (c.reader.waiting ++ take n piece) handed spent e f) h)
+
+-- where that is all of it
+pub all_kept : (c c1 : Connection) (piece handed : List ℕ) (n spent : ℕ) → c1 ≡ record c { reader = c1.reader } → c1.reader ≡ record c.reader { waiting = c.reader.waiting ++ take n piece; handed = handed; spent = spent } → n ≤ length piece → (n + waiting_length c.session.line + length c.reader.waiting < 262245 → n ≡ length piece) → waiting_length c1.session.line + length c1.reader.waiting < 262245 → n ≡ length piece
+all_kept c c1 piece handed n spent e f within all short =
+    let a : length c1.reader.waiting ≡ length c.reader.waiting + length (take n piece) = ap (λ (r : Reader). length r.waiting) f ∙ length-append c.reader.waiting (take n piece) in
+    let b : length (take n piece) ≡ n = length-take-le n piece within in
+    let d : waiting_length c1.session.line ≡ waiting_length c.session.line = ap (λ (x : Connection). waiting_length x.session.line) e in
+    all (omega (arith, a, b, d, short))
+
+-- what decides nothing is short
+part_short : (allow : Bool) (line new : IdReading) (piece : List ℕ) → IsShort line → IsShort new → Feeds allow line piece (Ok progress.NotYet) new → waiting_length line + length piece < 262245
+part_short allow (Waiting bytes others) new piece w s h =
+    let few : length piece + 0 ≤ 255 * (still_allowed allow others + 1) - length bytes = fits_room allow (Waiting bytes others) new piece 0 h (short_length new s) in
+    let most = allowed_few allow others in
+    let own = w.0 in
+    omega (arith, few, most, own)
+  where
+    short_length : (l : IdReading) → IsShort l → waiting_length l + 0 ≤ longest_line
+    short_length (Waiting b o) t = let z = t.0 in omega (arith, z)
+    short_length (Heard text) t = omega arith
+    short_length Failed t = omega arith
+
+    allowed_few : (a : Bool) (o : ℕ) → still_allowed a o ≤ 20
+    allowed_few true o = omega arith
+    allowed_few false o = omega arith
+part_short allow (Heard text) new piece w s h = absurd (let e = h.0 in cc)
+part_short allow Failed new piece w s h = absurd (let e = h.0 in cc)
+
+pub line_part : (s s' : Session) (piece : List ℕ) → IsShort s.line → HearsLine s piece None s' → waiting_length s.line + length piece < 262245
+line_part s s' piece w h = part_short (lets_pass s.side) s.line s'.line piece w h.1 h.0
 
 pub short_line : (s : Session) (piece : List ℕ) (o : Option ℕ) (s' : Session) → HearsLine s piece o s' → IsShort s'.line
 short_line s piece None s' h = h.1
 short_line s piece (Some used) s' h = h.1
-
-pub none_left : (s : Session) (piece : List ℕ) (s' : Session) (waiting : List ℕ) → WaitsBehind s.line waiting → HearsLine s piece None s' → WaitsBehind s'.line waiting
-none_left s piece s' waiting w h = Rattle.ssh_transport.proofs.Hearing.behind_kept (lets_pass s.side) s.line piece (Ok progress.NotYet) s'.line waiting h.0 w
 
 pub fed_as : (allow : Bool) (side : Side) (line : IdReading) (piece : List ℕ) (got got' : IdProgress) (new : IdReading) → allow ≡ lets_pass side → got ≡ got' → Feeds allow line piece (Ok got) new → Feeds (lets_pass side) line piece (Ok got') new
 fed_as allow side line piece got got' new a e h = subst (λ (b : Bool). Feeds b line piece (Ok got') new) a (subst (λ (x : IdProgress). Feeds allow line piece (Ok x) new) e h)
@@ -267,3 +327,25 @@ feeds_heeds allow Failed piece got new n h f = n refl
 pub heeds_line : (s : Session) (piece : List ℕ) (o : Option ℕ) (s' : Session) → (s.line ≡ Failed → ⊥) → HearsLine s piece o s' → s'.line ≡ Failed → ⊥
 heeds_line s piece None s' n h = feeds_heeds (lets_pass s.side) s.line piece progress.NotYet s'.line n h.0
 heeds_line s piece (Some used) s' n h = feeds_heeds (lets_pass s.side) s.line piece (progress.Id used) s'.line n h.0
+
+-- ---- memory that is wanting at the end of the line
+
+ends_line : (side : Side) (line : IdReading) (piece : List ℕ) (used : ℕ) (new : IdReading) → heard_of line ≡ None → Feeds (lets_pass side) line piece (Ok (progress.Id used)) new → EndsBy side line piece
+ends_line side (Waiting bytes others) piece used new n h =
+    let f = decided_some (id_of (still_allowed (lets_pass side) others) (bytes ++ piece)) (length bytes) used (reading_left (still_allowed (lets_pass side) others) (bytes ++ piece) others) new h in
+    (f.text, f.end, f.found_is)
+ends_line side (Heard text) piece used new n h = absurd (let e : Some text ≡ None = n in cc)
+ends_line side Failed piece used new n h = absurd (let e = h.0 in cc)
+
+pub ends_by : (allow : Bool) (side : Side) (line : IdReading) (piece : List ℕ) (got : IdProgress) (used : ℕ) (new : IdReading) → allow ≡ lets_pass side → got ≡ progress.Id used → heard_of line ≡ None → Feeds allow line piece (Ok got) new → EndsBy side line piece
+ends_by allow side line piece got used new a e n h = ends_line side line piece used new n (fed_as allow side line piece got (progress.Id used) new a e h)
+
+only_version : (found : IdFound) (had : ℕ) (left new : IdReading) (error : Error) → Decides found had left (Err error) new → error ≡ errors.Memory → ⊥
+only_version lines.NotYet had left new error d m = let e = d.0 in cc
+only_version (lines.Id text end) had left new error d m = let e = d.0 in cc
+only_version lines.Version had left new error d m = let e : Err error ≡ Err errors.Version = d.0 in cc
+
+pub no_memory_heard : (allow : Bool) (line : IdReading) (piece : List ℕ) (error : Error) (new : IdReading) → Feeds allow line piece (Err error) new → error ≡ errors.Memory → ⊥
+no_memory_heard allow (Waiting bytes others) piece error new h m = only_version (id_of (still_allowed allow others) (bytes ++ piece)) (length bytes) (reading_left (still_allowed allow others) (bytes ++ piece) others) new error h m
+no_memory_heard allow (Heard text) piece error new h m = let e = h.0 in cc
+no_memory_heard allow Failed piece error new h m = let e : Err error ≡ Err errors.Version = h.0 in cc

@@ -59,6 +59,7 @@ handles_inside says s s' m inc type answer valid o t k passes e h at read i r q 
       output = d.output;
       bytes = d.bytes;
       delivered = d.delivered ∙ sym p.1;
+      alone = λ f. absurd (subst (λ (x : Handled). Moves says (record s { kex = Taken }) m inc x s') f h);
       input = d.input;
       silent = d.silent;
     }
@@ -88,6 +89,7 @@ handles_begun says s s' w item m inc type answer valid outside sends setting_is 
       output = d.output ∙ ap (λ (x : Writer). x.output ++ sent_bytes s.side (spot_of x) d.events) sends.written ∙ append_assoc s.writer.output (sealed_packet s.writer.sealing s.writer.number item) (sent_bytes s.side (spot_after (spot_of s.writer) item) d.events);
       bytes = d.bytes;
       delivered = d.delivered ∙ sym p.1;
+      alone = λ f. absurd (subst (λ (x : Handled). Moves says (record s { writer = w }) m inc x s') f h);
       input = (d.input.0, (let u = d.input.1 in omega (arith, u)));
       silent = d.silent;
     }

@@ -94,7 +94,6 @@ heard_outside s e o = o.heard (outside_begun (stands_of s.finished.items s.kex) 
 pub live_begun : (c : Connection) (s' : Session) → IsLive c → stands_of c.session.finished.items c.session.kex ≡ Outside → Begins c.session s' → CanBegin s' → IsLive (record c { session = s' })
 live_begun c s' l o b k = record {
   begins = k;
-  behind = subst (λ (x : IdReading). WaitsBehind x c.reader.waiting) (sym (ap (λ (x : Session). x.line) b.becomes)) l.behind;
   settled = settled_begun c.session s' c.reader.count b;
   good = subst Rattle.ssh_transport.specs.Saying.AreGood (sym (ap (λ (x : Session). x.held.items) b.becomes)) l.good;
   opened = open_begun c.session s' (heard_outside c.session o l.opened) b;
@@ -102,6 +101,7 @@ live_begun c s' l o b k = record {
   short = subst IsShort (sym (ap (λ (x : Session). x.line) b.becomes)) l.short;
   heeds = subst (λ (x : IdReading). x ≡ Failed → ⊥) (sym (ap (λ (x : Session). x.line) b.becomes)) l.heeds;
   unbroken = l.unbroken;
+  windowed = l.windowed;
 }
 
 -- a line that was read is no longer held

@@ -19,8 +19,8 @@ use Rattle.ssh_kex.specs.declared.exchange.FinishedExchange.{FinishedExchange}
 use Rattle.ssh_kex.specs.declared.exchange.ServerHost.{ServerHost}
 use Rattle.ssh_kex.specs.declared.session_state.SessionKexState.{SessionKexState}
 use Rattle.ssh_kex.specs.declared.session_state.SessionKexState.TheVariants.{Idle, InProgress, Taken}
-use Rattle.ssh_rules.specs.Machine.{Inside, MayDeliver, Outside, Silent, SideState, Where, guesses, is_violation, names_now, InOrder, OrderBy, Spot}
-use Rattle.ssh_rules.specs.MessageTypes.{is_kex_type, is_payload_type, type_of}
+use Rattle.ssh_rules.specs.Machine.{Inside, MayDeliver, Outside, Silent, SideState, Where, guesses, names_now, InOrder, OrderBy, Spot}
+use Rattle.ssh_rules.specs.MessageTypes.{is_kex_type, is_payload_type, type_of, is_violation}
 use Rattle.ssh_rules.specs.Refused.{LooksIn}
 use Rattle.ssh_rules.specs.Refusing.{IsUntrusted}
 use Rattle.ssh_rules.specs.Standing.{is_outside}
@@ -216,3 +216,7 @@ refuses_taken says denies untrusted s s1 m inc type error o t k q b f h = refuse
 
 pub from_err : {T : Type 0} (answer : Result T Error) (P : Error → Type 0) (e d : Error) → answer ≡ Err d → d ≡ e → P e → IfErr answer P
 from_err {T} answer P e d a b h = subst (λ (r : Result T Error). IfErr r P) (sym a) (subst P (sym b) h)
+
+-- what an answer is refused with
+pub which_error : {T : Type 0} (answer : Result T Error) (a b : Error) → answer ≡ Err a → answer ≡ Err b → a ≡ b
+which_error {T} answer a b e f = let g : Err a ≡ Err b = sym e ∙ f in cc

@@ -11,6 +11,7 @@ use Rattle.ssh_packet.specs.Front.{Fault, Refused, front_of}
 use Rattle.ssh_packet.specs.Keys.{opening_of}
 use Rattle.ssh_packet.specs.Reading.{LeavesNext, Reader, RefusesNext}
 use Rattle.ssh_packet.specs.Sealing.{Item, Sealing}
+use Rattle.ssh_packet.proofs.Lemmas.{front_stays_refused, front_stays_whole}
 use Rattle.ssh_packet.specs.declared.error.OpenError.{OpenError}
 use Rattle.ssh_packet.specs.declared.error.OpenError.TheVariants as opens
 use Rattle.ssh_packet.specs.declared.reader.Incoming.{Incoming}
@@ -26,7 +27,7 @@ use Rattle.ssh_rules.specs.Counting.{begun}
 use Rattle.ssh_rules.proofs.Lemmas.{begun_steps, delivered_more, read_join, sent_join, steps_join}
 use Rattle.ssh_transport.specs.Asking.{state_of}
 use Rattle.ssh_transport.specs.Kept.{IsLive}
-use Rattle.ssh_transport.specs.States.{reading_of, state_at}
+use Rattle.ssh_transport.specs.States.{reading_of, state_at, with_more}
 use Rattle.ssh_transport.specs.Stopping.{IsAsBefore, Refuses, Stops}
 use Rattle.ssh_transport.specs.Saying.{GoesPart, IsFixed}
 use Rattle.ssh_transport.specs.Taking.{Reads, TakesUp, Took}
@@ -183,3 +184,34 @@ stops_wanting says denies untrusted asked c c1 c2 s' read answer error live t fi
 -- a payload was to be handed up, and memory was wanting to keep it
 pub stops_keeping : (says : Says) (denies : Denies) (untrusted : ServerHost → Type 0) (asked : RefusalCause → SideState → Type 0) (c c' : Connection) (error : Error) → c'.session ≡ c.session → c'.delivered.items ≡ c.delivered.items → error ≡ errors.Memory → asked OfMemory (state_at c.session (reading_of c) c.reader.count) → Stops says denies untrusted asked c error c'
 stops_keeping says denies untrusted asked c c' error s d m a = stops_memory says denies untrusted asked c c' error m (ap (λ (x : Session). x.writer.output) s) d (ap (λ (x : Session). x.finished.items) s) a
+
+-- with more behind what waits
+next_stays : (cause : RefusalCause) (st : SideState) (left more : List ℕ) → StandsNext cause st left → StandsNext cause st (left ++ more)
+next_stays (OfFault fault) st left more h = front_stays_refused st.reading.sealing st.reading.number left more fault h
+next_stays (OfPacket i) st left more h = (h.0 ++ more, front_stays_whole st.reading.sealing st.reading.number left more h.0 i h.1)
+next_stays OfVersion st left more h = tt
+next_stays OfMemory st left more h = tt
+
+pub stops_more : (says : Says) (denies : Denies) (untrusted : ServerHost → Type 0) (asked : RefusalCause → SideState → Type 0) (c c' : Connection) (more : List ℕ) (error : Error) → Stops says denies untrusted asked c error c' → Stops says denies untrusted asked (with_more c more) error c'
+stops_more says denies untrusted asked c c' more error h = record {
+  cause = h.cause;
+  state = h.state;
+  events = h.events;
+  steps = h.steps;
+  output = h.output;
+  delivered = h.delivered;
+  records = h.records;
+  input = h.input;
+  silent = h.silent;
+  left = h.left ++ more;
+  bytes = ap (λ (t : List ℕ). t ++ more) h.bytes ∙ append_assoc (read_bytes c.session.side (reading_of c) h.events) h.left more;
+  done = h.done;
+  next = next_stays h.cause h.state h.left more h.next;
+  line = h.line;
+  why = h.why;
+  asks = h.asks;
+}
+
+-- where what one call of the parts may say is what another said
+pub stops_asked : (says : Says) (denies : Denies) (untrusted : ServerHost → Type 0) (asked asks : RefusalCause → SideState → Type 0) (c c' : Connection) (error : Error) → ((cause : RefusalCause) (at : SideState) → asked cause at → asks cause at) → Stops says denies untrusted asked c error c' → Stops says denies untrusted asks c error c'
+stops_asked says denies untrusted asked asks c c' error a h = record { cause = h.cause; state = h.state; events = h.events; steps = h.steps; output = h.output; delivered = h.delivered; records = h.records; input = h.input; silent = h.silent; left = h.left; bytes = h.bytes; done = h.done; next = h.next; line = h.line; why = h.why; asks = a h.cause h.state h.asks }

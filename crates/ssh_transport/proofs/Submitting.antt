@@ -7,18 +7,19 @@ use Rattle.ssh_wire.specs.declared.error.Error.{Error}
 use Rattle.ssh_wire.specs.declared.error.Error.TheVariants.{Memory}
 use Rattle.ssh_kex.specs.declared.config.Config.{Config}
 use Rattle.ssh_transport.specs.Handling.{IsOpen}
-use Rattle.ssh_transport.specs.Kept.{IsLive}
+use Rattle.ssh_transport.specs.Kept.{IsKept, IsLive}
 use Rattle.ssh_packet.specs.Sealing.{Item, IsAdmissible, IsPadded, item_of, sealed_packet}
 use Rattle.ssh_packet.specs.Writing.{Writer, Sends, with_item}
 use Rattle.ssh_kex.specs.Setting.{Says}
 use Rattle.ssh_rules.specs.Machine.{Asked, ExchangeBegun, Outside, PayloadSent, PayloadSubmitted, SendsPayload, Silent, Spot}
-use Rattle.ssh_rules.specs.Standing.{BeginsAsked, Rekeyed, RekeyedFrom, Standing, Submitted, is_outside}
+use Rattle.ssh_rules.specs.Standing.{BeginsAsked, Rekeyed, RekeyedFrom, Standing, Submitted, is_outside, line_with, waiting_with}
 use Rattle.ssh_rules.specs.Valid.{is_good_payload}
 use Rattle.ssh_transport.specs.Saying.{AreGood, Begins, GoesOn, IsSettled, nothing_said}
-use Rattle.ssh_transport.specs.States.{CanBegin, WaitsBehind, heard_of, reading_of, standing_of, stands_of, state_at}
+use Rattle.ssh_transport.specs.States.{CanBegin, heard_of, reading_of, standing_of, stands_of, state_at}
 use Rattle.ssh_transport.specs.Submitting.{Breaks, Submits}
 use Rattle.ssh_transport.specs.declared.connection.Connection.{Connection}
 use Rattle.ssh_transport.specs.declared.session.Session.{Session}
+use Rattle.ssh_transport.proofs.Kept.{kept_session}
 use Rattle.ssh_transport.proofs.Saying.{begins_exchange, good_some, good_type, only_silent, sends_item, settled_inside, stated, unread_steps}
 
 good_snoc : (held : List (List ℕ)) (p : List ℕ) → AreGood held → is_good_payload p ≡ true → AreGood (held ++ p ∷ [])
@@ -87,6 +88,12 @@ submits_outside s s1 s' read p stream o q v a d w e h = record {
 
 -- ---- as contracts see it
 
+line_same : (c c' : Connection) → c' ≡ record c { session = c'.session } → c'.session.line ≡ c.session.line → (standing_of c').line ≡ (standing_of c).line
+line_same c c' e l = ap (λ (x : Connection). line_with c'.session.line x.reader.waiting) e ∙ ap (λ (x : IdReading). line_with x c.reader.waiting) l
+
+waiting_same : (c c' : Connection) → c' ≡ record c { session = c'.session } → c'.session.line ≡ c.session.line → (standing_of c').waiting ≡ (standing_of c).waiting
+waiting_same c c' e l = ap (λ (x : Connection). waiting_with c'.session.line [] x.reader.waiting) e ∙ ap (λ (x : IdReading). waiting_with x [] c.reader.waiting) l
+
 pub submitted : (c c' : Connection) (p : List ℕ) → c.failed ≡ false → c' ≡ record c { session = c'.session } → Submits c.session c.reader.count p c'.session → Submitted nothing_said (standing_of c) p (standing_of c')
 submitted c c' p f e h = record {
   events = PayloadSubmitted p ∷ h.rest;
@@ -103,8 +110,8 @@ submitted c c' p f e h = record {
   none_read = log.handled_none;
   unasked = log.unasked;
   silent = log.hears_none;
-  line = h.line;
-  waiting = ap (λ (x : Connection). x.reader.waiting) e;
+  line = line_same c c' e h.line;
+  waiting = waiting_same c c' e h.line;
 } where
   log : Rattle.ssh_transport.proofs.Saying.IsSilentLog h.rest
   log = only_silent h.rest h.only
@@ -143,8 +150,8 @@ begun_asked c c' f o e b = record {
     quiet = settled_inside c'.session c'.reader.count inside (λ k. absurd (let z : is_outside (stands_of c'.session.finished.items c'.session.kex) ≡ false = inside in not_silent k)) (reading_of c');
     live = ap (λ (x : Connection). x.failed) e ∙ f;
   };
-  line = ap (λ (x : Session). x.line) b.becomes;
-  waiting = ap (λ (x : Connection). x.reader.waiting) e;
+  line = line_same c c' e (ap (λ (x : Session). x.line) b.becomes);
+  waiting = waiting_same c c' e (ap (λ (x : Session). x.line) b.becomes);
 } where
   moved : Rattle.ssh_rules.specs.Machine.BeginsExchange c.session.side c.session.config.now (state_at c.session (reading_of c) c.reader.count) Asked b.item (state_at c'.session (reading_of c') c'.reader.count)
   moved = subst (λ (x : Connection). Rattle.ssh_rules.specs.Machine.BeginsExchange c.session.side c.session.config.now (state_at c.session (reading_of c) c.reader.count) Asked b.item (state_at c'.session (reading_of x) x.reader.count)) (sym e) (begins_exchange c.session c'.session c.reader.count (reading_of c) Asked b refl o)
@@ -189,8 +196,11 @@ rekeyed_outside c c' i h = subst (λ (b : Bool). RekeyedFrom b nothing_said (sta
 
 -- ---- by what a call answers
 
-pub live_behind : (c : Connection) (s' : Session) (read : ℕ) (p : List ℕ) → read ≡ c.reader.count → CanBegin s' → WaitsBehind c.session.line c.reader.waiting → c.reader.number < 2 ^ 32 → IsShort c.session.line → (c.session.line ≡ Failed → ⊥) → c.reader.failed ≡ false → Submits c.session read p s' → IsOpen s' → IsLive (record c { session = s' })
-live_behind c s' read p e b w n q z u h o = record { short = subst IsShort (sym h.line) q; heeds = subst (λ (l : IdReading). l ≡ Failed → ⊥) (sym h.line) z; unbroken = u; begins = b; behind = subst (λ (l : IdReading). WaitsBehind l c.reader.waiting) (sym h.line) w; settled = subst (λ (n : ℕ). IsSettled s' n) e h.settled; good = h.good; opened = o; numbered = n }
+live_behind : (c : Connection) (s' : Session) (read : ℕ) (p : List ℕ) → read ≡ c.reader.count → CanBegin s' → IsLive c → Submits c.session read p s' → IsOpen s' → IsLive (record c { session = s' })
+live_behind c s' read p e b l h o = record { short = subst IsShort (sym h.line) l.short; heeds = subst (λ (x : IdReading). x ≡ Failed → ⊥) (sym h.line) l.heeds; unbroken = l.unbroken; windowed = l.windowed; begins = b; settled = subst (λ (n : ℕ). IsSettled s' n) e h.settled; good = h.good; opened = o; numbered = l.numbered }
+
+pub kept_behind : (c : Connection) (s' : Session) (read : ℕ) (p : List ℕ) → read ≡ c.reader.count → CanBegin s' → IsKept c → IsLive c → Submits c.session read p s' → IsOpen s' → IsKept (record c { session = s' })
+kept_behind c s' read p e b k l h o = kept_session c s' h.line b k (live_behind c s' read p e b l h o)
 
 sent_by : (c c' : Connection) (s' : Session) (read : ℕ) (p : List ℕ) → c.failed ≡ false → read ≡ c.reader.count → c' ≡ record c { session = s' } → Submits c.session read p s' → Submitted nothing_said (standing_of c) p (standing_of c')
 sent_by c c' s' read p f r e h =

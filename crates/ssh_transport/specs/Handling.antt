@@ -2,7 +2,6 @@
 use Rattle.std.specs.Prelude.{◌≡◌, ℕ, ◌<◌, ◌^◌, Bool, true, false, not, is_some, List, [], ◌∷◌, ◌++◌, length, Option, Some, None, IfSome, ◌⊎◌}
 use Rattle.ssh_wire.specs.Lines.{id_text}
 use Rattle.ssh_wire.specs.Reading.{IdReading, Heard}
-use Rattle.ssh_wire.specs.declared.side.Side.TheVariants.{Client}
 use Rattle.ssh_negotiate.specs.Causes.{was_strict}
 use Rattle.ssh_negotiate.specs.declared.negotiation.Names.{Names}
 use Rattle.ssh_packet.specs.Keys.{opening_of, sealing_of}
@@ -18,7 +17,7 @@ use Rattle.ssh_kex.specs.declared.exchange.ServerHost.{ServerHost}
 use Rattle.ssh_kex.specs.declared.session_state.SessionKexState.{SessionKexState}
 use Rattle.ssh_kex.specs.declared.session_state.SessionKexState.TheVariants.{Idle, InProgress, Taken}
 use Rattle.ssh_rules.specs.Log.{delivered_in, read_bytes, sent_bytes}
-use Rattle.ssh_rules.specs.Machine.{Event, Inside, OrderBy, Outside, Silent, Spot, Steps, Where, names_now, spot_after, spot_renumbered}
+use Rattle.ssh_rules.specs.Machine.{Event, Inside, OrderBy, Outside, PayloadDelivered, Silent, Spot, Steps, Where, names_now, spot_after, spot_renumbered}
 use Rattle.ssh_rules.specs.MessageTypes.{type_of}
 use Rattle.ssh_rules.specs.Standing.{HearsNone, IsInput}
 use Rattle.ssh_transport.specs.Saying.{IsSettled, Opens, setting_of}
@@ -33,10 +32,10 @@ use Rattle.ssh_transport.specs.declared.session.Session.{Session}
 abbrev pub IsHeard : IdReading → Type 0
 IsHeard line = (text : List ℕ) × (line ≡ Heard text)
 
--- a strict connection stays strict, and a client counts no dropped guess
+-- a strict connection stays strict
 abbrev pub IsFlagged : Setting → Option Names → Type 0
 IsFlagged s None = Unit {0}
-IsFlagged s (Some n) = (was_strict s.cause ≡ true → n.strict_kex ≡ true) × (s.side ≡ Client → n.guessed_ignored ≡ false)
+IsFlagged s (Some n) = was_strict s.cause ≡ true → n.strict_kex ≡ true
 
 -- a machine between these
 pub record IsBetween (between : Setting) (m : Machine) : Type 0 where
@@ -117,6 +116,8 @@ pub record DoesWith (says : Says) (s : Session) (at : Spot) (read : ℕ) (i : It
       ++ sent_bytes s.side (record { sealing = s.writer.sealing; number = s.writer.number }) events
   pub bytes : read_bytes s.side at events ≡ sealed_packet at.sealing at.number i
   pub delivered : delivered_in events ≡ delivered_by answer i
+  -- a payload is handed up, and no more
+  pub alone : answer ≡ Delivers → events ≡ PayloadDelivered i ∷ []
   pub input : IsInput events
   pub silent : HearsNone events
 
@@ -131,11 +132,11 @@ Handles says s seqn payload answer s' = (at : Spot) (read : ℕ) (i : Item) → 
 abbrev pub Installs : Session → NewKeys → Handled → Session → Type 0
 Installs s k Delivers s' = ⊥
 Installs s k Done s' = ⊥
-Installs s k (Rekeys opening again) s' = (opening ≡ k.cipher.remote_to_local) × (again ≡ k.names.strict_kex)
+Installs s k (Rekeys opening again) s' = (opening ≡ k.cipher.value.remote_to_local) × (again ≡ k.names.strict_kex)
     × (s'.finished.items ≡ s.finished.items
     ++ record { names = k.names; hash = k.hash; session_id = k.session_id; keys = k.keys } ∷ [])
     × (s' ≡ record s {
-      writer = record s.writer { sealing = sealing_of k.cipher.local_to_remote; count = 0 };
+      writer = record s.writer { sealing = sealing_of k.cipher.value.local_to_remote; count = 0 };
       kex = Idle;
       finished = s'.finished;
     })

@@ -3,6 +3,7 @@ pub mod Kexinits
 pub mod Handling
 pub mod Hearing
 pub mod Kept
+pub mod Lending
 pub mod Machines
 pub mod Saying
 pub mod States

@@ -1,5 +1,5 @@
 -- What a transport stands for, by what it holds.
-use Rattle.std.specs.Prelude.{◌≡◌, ℕ, ◌≤◌, Bool, true, false, List, [], ◌∷◌, length, Option, Some, None}
+use Rattle.std.specs.Prelude.{◌≡◌, ℕ, ◌≤◌, Bool, true, false, List, [], ◌∷◌, ◌++◌, length, Option, Some, None}
 use Rattle.ssh_wire.specs.Lines.{id_line, longest_line}
 use Rattle.ssh_wire.specs.Reading.{IdReading, Waiting, Heard, Failed, text_heard}
 use Rattle.ssh_wire.specs.declared.side.Side.{Side}
@@ -11,7 +11,7 @@ use Rattle.ssh_kex.specs.declared.exchange.FinishedExchange.{FinishedExchange}
 use Rattle.ssh_kex.specs.declared.session_state.SessionKexState.{SessionKexState}
 use Rattle.ssh_kex.specs.declared.session_state.SessionKexState.TheVariants.{Idle, InProgress, Taken}
 use Rattle.ssh_rules.specs.Machine.{SideState, Spot, Where, Silent, Outside, Inside}
-use Rattle.ssh_rules.specs.Standing.{Standing}
+use Rattle.ssh_rules.specs.Standing.{Standing, with_input}
 use Rattle.ssh_rules.specs.Valid.{config_fault}
 use Rattle.ssh_transport.specs.declared.session.Session.{Session}
 use Rattle.ssh_transport.specs.declared.connection.Connection.{Connection}
@@ -58,8 +58,17 @@ state_at s at read = record {
 abbrev pub reading_of : Connection → Spot
 reading_of c = record { sealing = opening_of c.opening; number = c.reader.number }
 
-abbrev pub standing_of : Connection → Standing
-standing_of c = record {
+-- without what waits and was not handled yet
+abbrev pub emptied : Connection → Connection
+emptied c = record c { reader = record c.reader { waiting = []; handed = []; spent = 0 } }
+
+-- with more behind what waits
+abbrev pub with_more : Connection → List ℕ → Connection
+with_more c more = record c { reader = record c.reader { waiting = c.reader.waiting ++ more; handed = []; spent = 0 } }
+
+-- where all that waits stands behind the line
+abbrev pub bare_of : Connection → Standing
+bare_of c = record {
   side = c.session.side;
   config = c.session.config.now;
   state = state_at c.session (reading_of c) c.reader.count;
@@ -69,6 +78,10 @@ standing_of c = record {
   delivered = c.delivered.items;
   failed = c.failed;
 }
+
+-- where what waits was kept, and nothing made of it: it may begin with a part of the line
+abbrev pub standing_of : Connection → Standing
+standing_of c = with_input (bare_of (emptied c)) c.reader.waiting
 
 -- what an exchange can be begun with
 pub record CanBegin (s : Session) : Type 0 where

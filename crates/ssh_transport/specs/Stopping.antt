@@ -1,5 +1,5 @@
 -- What a refusal leaves, call by call.
-use Rattle.std.specs.Prelude.{◌≡◌, ℕ, ◌-◌, ◌<◌, ◌^◌, true, false, if◌then◌else◌, Option, Some, Err, List, ◌++◌, ◌⊎◌}
+use Rattle.std.specs.Prelude.{◌≡◌, [], ℕ, ◌-◌, ◌<◌, ◌≤◌, ◌^◌, true, false, if◌then◌else◌, Option, Some, Err, List, ◌++◌, ◌⊎◌}
 use Rattle.ssh_wire.specs.Lines.{id_text}
 use Rattle.ssh_wire.specs.Reading.{Feeds, IdReading}
 use Rattle.ssh_wire.specs.Sides.{other_side}
@@ -16,13 +16,15 @@ use Rattle.ssh_kex.specs.declared.exchange.NewKeys.{NewKeys}
 use Rattle.ssh_kex.specs.declared.exchange.ServerHost.{ServerHost}
 use Rattle.ssh_kex.specs.declared.session_state.SessionKexState.{SessionKexState}
 use Rattle.ssh_kex.specs.declared.session_state.SessionKexState.TheVariants.{Idle, InProgress, Taken}
-use Rattle.ssh_rules.specs.Log.{delivered_in, read_bytes, sent_bytes}
-use Rattle.ssh_rules.specs.Machine.{Event, Outside, SideState, Spot, Steps, is_violation, names_now}
+use Rattle.ssh_rules.specs.Asking.{kex_count}
+use Rattle.ssh_rules.specs.Log.{delivered_in, handled, read_bytes, sent_bytes}
+use Rattle.ssh_rules.specs.Machine.{Event, Outside, SideState, Spot, Steps, names_now}
+use Rattle.ssh_rules.specs.MessageTypes.{is_violation}
+use Rattle.ssh_rules.specs.Polling.{IsCostly}
 use Rattle.ssh_rules.specs.Refusing.{AnswersCause, RefusesPacket}
 use Rattle.ssh_rules.specs.Standing.{HearsBy, HearsNone, IsIdleBefore, IsInput, OfVersion, RefusalCause, StandsNext, is_outside, lets_pass}
-use Rattle.ssh_transport.specs.Handling.{IsHeard, IsReadAt, counts_guess, is_ordered}
-use Rattle.ssh_transport.specs.Hearing.{HearsLine}
-use Rattle.ssh_transport.specs.States.{reading_of, standing_of, stands_of, state_at}
+use Rattle.ssh_transport.specs.Handling.{IsReadAt, counts_guess, is_ordered}
+use Rattle.ssh_transport.specs.States.{bare_of, reading_of, stands_of, state_at}
 use Rattle.ssh_transport.specs.declared.connection.Connection.{Connection}
 use Rattle.ssh_transport.specs.declared.session.Session.{Session}
 
@@ -92,7 +94,7 @@ pub record Fails (says : Says) (denies : Denies) (untrusted : ServerHost → Typ
   pub done : IsIdleBefore cause c.session.config.now state
   pub line : IdReading
   pub behind : List ℕ
-  pub heard : HearsBy cause (standing_of c) piece events line behind
+  pub heard : HearsBy cause (bare_of c) piece events line behind
   pub left : List ℕ
   pub read : behind ≡ read_bytes c.session.side (reading_of c) events ++ left
   pub next : StandsNext cause state left
@@ -103,6 +105,12 @@ pub record Fails (says : Says) (denies : Denies) (untrusted : ServerHost → Typ
 pub record IsAsBefore (s s' : Session) : Type 0 where
   pub output : s'.writer.output ≡ s.writer.output
   pub records : s'.finished.items ≡ s.finished.items
+
+-- memory was wanting for the exchange that a limit begins, and nothing was done
+pub record WantsKeys (s : Session) (read : ℕ) (s' : Session) : Type 0 where
+  pub still : IsAsBefore s s'
+  pub outside : stands_of s.finished.items s.kex ≡ Outside
+  pub reached : (s.config.now.limits.rekey_write_limit ≤ s.writer.count) ⊎ (s.config.now.limits.rekey_read_limit ≤ read)
 
 -- no version line came, or memory was wanting for the exchange that it begins
 abbrev pub HearsNot : Session → List ℕ → Error → Session → Type 0
@@ -134,18 +142,20 @@ BreaksAt s seqn type error = (number : ℕ) → number < 2 ^ 32 → seqn ≡ nex
 abbrev pub IsDistrusted : (ServerHost → Type 0) → Option ServerHost → Type 0
 IsDistrusted untrusted host = (h : ServerHost) × (host ≡ Some h) × untrusted h
 
--- no version line came, or memory was wanting before anything was kept
+-- no version line came, or memory was wanting for the exchange that it begins, and nothing is delivered
 pub record HearsNothing (c : Connection) (piece : List ℕ) (error : Error) (c' : Connection) : Type 0 where
   pub not : HearsNot c.session piece error c'.session
   pub delivered : c'.delivered.items ≡ c.delivered.items
 
--- the line was heard, and memory was wanting for what stands behind it
-pub record WantsPush (c : Connection) (piece : List ℕ) (error : Error) (c' : Connection) : Type 0 where
-  pub used : ℕ
-  pub heard : HearsLine c.session piece (Some used) c'.session
-  pub line : IsHeard c'.session.line
-  pub delivered : c'.delivered.items ≡ c.delivered.items
-  pub error_is : error ≡ errors.Memory
-
-abbrev pub FailsHearing : Connection → List ℕ → Error → Connection → Type 0
-FailsHearing c piece error c' = HearsNothing c piece error c' ⊎ WantsPush c piece error c'
+-- Memory was wanting: some packets were handled, and of these or the next one is a message of an exchange, or the next
+-- reaches the limit of what is read.
+pub record Wants (says : Says) (c : Connection) : Type 0 where
+  pub events : List Event
+  pub at : SideState
+  pub steps : Steps says c.session.side c.session.config.now (id_text c.session.config.now.id)
+      (state_at c.session (reading_of c) c.reader.count) events at
+  pub silent : HearsNone events
+  pub unlent : delivered_in events ≡ []
+  pub left : List ℕ
+  pub bytes : c.reader.waiting ≡ read_bytes c.session.side (reading_of c) events ++ left
+  pub at_cost : (1 ≤ kex_count (handled events)) ⊎ IsCostly c.session.config.now at left

@@ -1,19 +1,36 @@
 -- What a connection reads and does, packet by packet.
-use Rattle.std.specs.Prelude.{◌≡◌, ◌⊎◌, ℕ, ◌<◌, false, List, [], ◌∷◌, ◌++◌, length}
+use Rattle.std.specs.Prelude.{◌≡◌, ◌⊎◌, ℕ, ◌<◌, Bool, true, false, List, [], ◌∷◌, ◌++◌, length, Option, Some, None}
 use Rattle.ssh_wire.specs.Lines.{id_text}
+use Rattle.ssh_packet.specs.Front.{Whole, front_of}
 use Rattle.ssh_packet.specs.Keys.{opening_of}
 use Rattle.ssh_packet.specs.Sealing.{Item, moved_on, next_number, sealed_packet}
 use Rattle.ssh_packet.specs.Writing.{count_after}
 use Rattle.ssh_kex.specs.Setting.{Says}
 use Rattle.ssh_rules.specs.Log.{delivered_in, handled, read_bytes, sent_bytes}
 use Rattle.ssh_rules.specs.Machine.{Event, Spot, Steps, spot_renumbered}
+use Rattle.ssh_rules.specs.MessageTypes.{is_kex_type, type_of}
 use Rattle.ssh_rules.specs.Standing.{HearsNone, IsInput, ReadsLineFrom, WaitsInPart}
 use Rattle.ssh_transport.specs.Handling.{Handles, IsHeard, IsReadAt, delivered_by}
 use Rattle.ssh_transport.specs.Saying.{nothing_said}
-use Rattle.ssh_transport.specs.States.{reading_of, state_at}
+use Rattle.ssh_transport.specs.States.{emptied, reading_of, state_at}
 use Rattle.ssh_transport.specs.declared.connection.Connection.{Connection}
+use Rattle.ssh_transport.specs.declared.connection.PacketRead.{PacketRead}
+use Rattle.ssh_transport.specs.declared.connection.PacketRead.TheVariants.{Nothing, Packet, Payload}
 use Rattle.ssh_transport.specs.declared.session.Handled.{Handled}
 use Rattle.ssh_transport.specs.declared.session.Handled.TheVariants.{Delivers, Done, Rekeys}
+
+-- These events lead from a connection to another: what they write was written, and what they read was read.
+pub record Goes (says : Says) (c : Connection) (events : List Event) (c' : Connection) : Type 0 where
+  pub side : c'.session.side ≡ c.session.side
+  pub config : c'.session.config ≡ c.session.config
+  pub line : c'.session.line ≡ c.session.line
+  pub steps : Steps says c.session.side c.session.config.now (id_text c.session.config.now.id)
+      (state_at c.session (reading_of c) c.reader.count) events (state_at c'.session (reading_of c') c'.reader.count)
+  pub output : c'.session.writer.output ≡ c.session.writer.output
+      ++ sent_bytes c.session.side (record { sealing = c.session.writer.sealing; number = c.session.writer.number }) events
+  pub bytes : c.reader.waiting ≡ read_bytes c.session.side (reading_of c) events ++ c'.reader.waiting
+  pub input : IsInput events
+  pub silent : HearsNone events
 
 -- Some packets that waited were read, and all that they ask for was done.
 pub record Reads (says : Says) (c c' : Connection) : Type 0 where
@@ -30,7 +47,27 @@ pub record Reads (says : Says) (c c' : Connection) : Type 0 where
   pub input : IsInput events
   pub silent : HearsNone events
 
--- a packet was opened, and done with what it asks for by itself; the keys of an exchange that it ends aren't taken up yet
+-- A packet was opened, and done with what it asks for by itself: its payload is lent. The keys of an exchange that it ends
+-- aren't taken up yet.
+pub record HandlesOne (says : Says) (c : Connection) (answer : Handled) (c' : Connection) : Type 0 where
+  pub seqn : ℕ
+  pub item : Item
+  pub at : IsReadAt (reading_of c) seqn item.payload item
+  pub handles : Handles says c.session seqn item.payload answer c'.session
+  pub number : c'.reader.number ≡ next_number c.reader.number
+  pub count : c'.reader.count ≡ count_after c.reader.count (length item.payload)
+  pub sealing : opening_of c'.opening ≡ moved_on (opening_of c.opening) item
+  pub front : front_of (opening_of c.opening) c.reader.number c.reader.waiting ≡ Whole item c'.reader.waiting
+  pub bytes : c.reader.waiting ≡ sealed_packet (opening_of c.opening) c.reader.number item ++ c'.reader.waiting
+  pub shorter : length c'.reader.waiting < length c.reader.waiting
+  pub unbroken : c'.reader.failed ≡ false
+  pub handed : c'.reader.handed ≡ item.payload
+  pub window : c'.reader.window ≡ c.reader.window
+  pub delivered : c'.delivered ≡ c.delivered
+  pub still : answer ≡ Delivers → c'.session ≡ c.session
+  pub others : is_kex_type (type_of item) ≡ false → c'.session ≡ c.session
+
+-- and its payload was queued, where it is delivered
 pub record Took (says : Says) (c : Connection) (answer : Handled) (c' : Connection) : Type 0 where
   pub seqn : ℕ
   pub item : Item
@@ -42,6 +79,7 @@ pub record Took (says : Says) (c : Connection) (answer : Handled) (c' : Connecti
   pub bytes : c.reader.waiting ≡ sealed_packet (opening_of c.opening) c.reader.number item ++ c'.reader.waiting
   pub shorter : length c'.reader.waiting < length c.reader.waiting
   pub unbroken : c'.reader.failed ≡ false
+  pub window : c'.reader.window ≡ c.reader.window
   pub delivered : c'.delivered.items ≡ c.delivered.items ++ delivered_by answer item
 
 -- a payload that is delivered is kept
@@ -67,6 +105,8 @@ pub record TakesUp (answer : Handled) (c c' : Connection) : Type 0 where
   pub count : c'.reader.count ≡ count_up answer c.reader.count
   pub waiting : c'.reader.waiting ≡ c.reader.waiting
   pub failed : c'.reader.failed ≡ c.reader.failed
+  pub window : c'.reader.window ≡ c.reader.window
+  pub still : answer ≡ Delivers → c' ≡ c
   pub rest : c' ≡ record c { opening = c'.opening; reader = c'.reader }
 
 -- A piece of the peer's version line was heard, and what it begins was done; what stands behind the line waits.
@@ -91,3 +131,55 @@ pub record Takes (says : Says) (c : Connection) (piece : List ℕ) (c' : Connect
   pub reads : Reads says mid c'
   pub line : IsHeard mid.session.line ⊎ (reads.events ≡ [])
   pub part : WaitsInPart (reading_of c') c'.reader.waiting
+
+-- What waits was handled up to and with a packet that is delivered, and all that it asks for was done: its payload is
+-- lent, and not queued.
+pub record Lends (says : Says) (c : Connection) (payload : List ℕ) (c' : Connection) : Type 0 where
+  pub events : List Event
+  pub goes : Goes says c events c'
+  pub unqueued : c'.delivered ≡ c.delivered
+  pub lent : delivered_in events ≡ payload ∷ []
+  pub before : List Item
+  pub item : Item
+  pub last : handled events ≡ before ++ item ∷ []
+  pub payload_is : item.payload ≡ payload
+
+-- what was made of a packet
+abbrev pub read_as : Handled → PacketRead
+read_as Delivers = Payload
+read_as Done = Packet
+read_as (Rekeys opening again) = Packet
+
+-- of all of them
+abbrev pub read_by : Bool → PacketRead
+read_by true = Payload
+read_by false = Nothing
+
+abbrev pub lent_by : Bool → List ℕ → Option (List ℕ)
+lent_by true payload = Some payload
+lent_by false payload = None
+
+-- where a packet was handled, and more may come
+abbrev pub IfPacket : PacketRead → Type 0 → Type 0
+IfPacket Nothing P = Unit {0}
+IfPacket Packet P = P
+IfPacket Payload P = P
+
+-- by what one packet was: there was none that is whole, it was handled, or it is delivered
+abbrev pub PollsOne : Says → Connection → PacketRead → Connection → Type 0
+PollsOne says c Nothing c' = Reads says c c' × (c'.delivered ≡ c.delivered) × WaitsInPart (reading_of c') c'.reader.waiting
+PollsOne says c Packet c' = Reads says c c' × (c'.delivered ≡ c.delivered)
+PollsOne says c Payload c' = Lends says c c'.reader.handed c'
+
+-- What waits was heard, and behind the line a payload was come to, which is lent.
+pub record LendsBehind (says : Says) (c : Connection) (payload : List ℕ) (c' : Connection) : Type 0 where
+  pub mid : Connection
+  pub heard : Hears (emptied c) c.reader.waiting mid
+  pub line : IsHeard mid.session.line
+  pub unqueued : mid.delivered ≡ c.delivered
+  pub lends : Lends says mid payload c'
+
+-- by whether a payload is lent; else all that waits was taken, and nothing of it is delivered
+abbrev pub TakesPayload : Says → Connection → Bool → Connection → Type 0
+TakesPayload says c false c' = Takes says (emptied c) c.reader.waiting c' × (c'.delivered ≡ c.delivered)
+TakesPayload says c true c' = LendsBehind says c c'.reader.handed c'

@@ -124,7 +124,7 @@ fn offers_none(preferred: &Preferred) -> bool
         .any(|name| matches!(*name, kex::Name::NoKex))
 }
 
-/// Whether each list that the side advertises has at most 1025 names and 16384 bytes.
+/// Whether each list that the side advertises has at most 1024 names and 16384 bytes.
 fn are_good_lists(side: Side, config: &Config) -> bool
     ensures { result ≡ not (some_list_long (offers_of side config.now)) }
 {

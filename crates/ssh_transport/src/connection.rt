@@ -1,19 +1,19 @@
 //! One side of a connection, with the packets that it reads.
 
-ghost use Rattle.std.specs.Prelude.{◌≡◌, ◌⊎◌, ◌<◌, ◌≤◌, ◌^◌, ◌++◌, true, false, [], None, Some, Err, Ok, IfErr, IfOk, IfSome, IsTrue, OnErr, OnOk, length};
+ghost use Rattle.std.specs.Prelude.{◌≡◌, ◌⊎◌, ◌+◌, ◌<◌, ◌≤◌, ◌^◌, ◌++◌, ℕ, List, take, true, false, [], None, Some, Err, Ok, IfErr, IfOk, IfSome, IsTrue, OnErr, OnOk, length};
 ghost use Rattle.ssh_kex.specs.Parts.{KeepsAgreement, KeepsGroups, KeepsHosts};
 ghost use Rattle.ssh_kex.specs.Stepping.{denies_of, says_of};
 ghost use Rattle.ssh_packet.specs.Stream.{message_type};
 ghost use Rattle.ssh_rules.specs.MessageTypes.{is_payload_type};
 ghost use Rattle.ssh_rules.specs.Valid.{config_fault, is_bad_size, is_good_payload};
-ghost use Rattle.ssh_transport.specs.Taking.{kept_by};
+ghost use Rattle.ssh_transport.specs.Taking.{kept_by, read_as};
 ghost use Rattle.ssh_transport.specs.declared.session.Handled.TheVariants.{Delivers};
 ghost use Rattle.ssh_rules.specs.Asking.{AsksWithin, RefusesAsking, counted_by};
-ghost use Rattle.ssh_rules.specs.Refusing.{RefusesPiece, untrusted_of};
+ghost use Rattle.ssh_rules.specs.Refusing.{RefusesPiece, RefusesPieceAsking, untrusted_of};
 ghost use Rattle.ssh_wire.specs.declared.error.ConfigFault.{ConfigFault};
 ghost use Rattle.ssh_wire.specs.declared.error.Error.TheVariants.{Disconnect, Inconsistent, InvalidConfig, Memory, PacketSize};
 
-use crate::message::{LONGEST_PAYLOAD, is_payload, type_of};
+use crate::message::{LONGEST_INPUT, LONGEST_PAYLOAD, is_payload, type_of};
 use crate::session::{Handled, Session};
 use rand_core::Rng;
 use ssh_kex::{Agreement, Config, GroupLookup, HostKeys, Parts};
@@ -32,16 +32,31 @@ pub(crate) struct Connection<'c> {
     pub failed: bool,
 }
 
+/// What was made of the next packet.
+#[derive(Clone, Copy)]
+pub(crate) enum PacketRead {
+    /// None is whole.
+    Nothing,
+    /// It was handled, and nothing of it is handed up.
+    Packet,
+    /// Its payload is handed up: the reader lends it.
+    Payload,
+}
+
 impl<'c> Connection<'c> {
-    ghost use Rattle.ssh_rules.specs.Standing.{IsNew, Rekeyed, Submitted, TakesInput, WaitsInPart, is_outside, unfinished};
+    ghost use Rattle.ssh_packet.specs.Reading.{window_length};
+    ghost use Rattle.ssh_rules.specs.Polling.{MayWant, Polls};
+    ghost use Rattle.ssh_rules.specs.Standing.{IsNew, Rekeyed, Submitted, TakesInput, WaitsInPart, input_room, is_outside, unfinished, with_input};
+    ghost use Rattle.ssh_wire.specs.Reading.{waiting_length};
     ghost use Rattle.ssh_transport.specs.Asking.{AsksBetween, AsksTo};
     ghost use Rattle.ssh_transport.specs.Handling.{IsHeard, IsOpen};
+    ghost use Rattle.ssh_transport.specs.Hearing.{EndsBy};
     ghost use Rattle.ssh_transport.specs.Kept.{IsKept, IsLive};
     ghost use Rattle.ssh_transport.specs.Saying.{IsFixed, nothing_said};
-    ghost use Rattle.ssh_transport.specs.States.{CanBegin, IsUnheard, reading_of, standing_of};
-    ghost use Rattle.ssh_transport.specs.Stopping.{Fails, FailsHearing, IsAsBefore, Stops};
+    ghost use Rattle.ssh_transport.specs.States.{CanBegin, IsUnheard, WaitsBehind, emptied, reading_of, standing_of, with_more};
+    ghost use Rattle.ssh_transport.specs.Stopping.{Fails, HearsNothing, IsAsBefore, Stops, Wants};
     ghost use Rattle.ssh_transport.specs.Submitting.{Breaks};
-    ghost use Rattle.ssh_transport.specs.Taking.{Hears, Reads, Takes, TakesUp, Took};
+    ghost use Rattle.ssh_transport.specs.Taking.{HandlesOne, Hears, IfPacket, PollsOne, Reads, Takes, TakesPayload, TakesUp, lent_by, read_by};
 
     /// A side that has written its version line. InvalidConfig where the configuration may not be used; Memory.
     #[tactic(auto, using(crate::proofs::Opened::open_fresh, crate::proofs::Opened::short_fresh, crate::proofs::Opened::heeds_fresh))]
@@ -59,7 +74,7 @@ impl<'c> Connection<'c> {
         Ok(Connection {
             alloc,
             session: Session::new(alloc, side, config)?,
-            reader: PacketReader::new(alloc),
+            reader: PacketReader::with_window(alloc)?,
             opening: OpenKey::Clear(clear::Key),
             delivered: Vec::new(alloc),
             failed: false,
@@ -95,12 +110,173 @@ impl<'c> Connection<'c> {
             H.lawful H.obliging H.accepts H.trusts H.makes G.lawful G.group self.old.session.config.now parts.old.agreement parts.old.hosts parts.old.groups)
             (standing_of self.old) piece.now (standing_of self.new)
             (counted_by A.calls H.calls G.calls parts.old.agreement parts.old.hosts parts.old.groups) (counted_by A.calls H.calls G.calls parts.new.agreement parts.new.hosts parts.new.groups)) }
+        ensures refused_few { self.old.failed ≡ false → IfErr result (λ e. RefusesPieceAsking (says_of A.lawful A.offered A.client_makes A.server_makes A.agrees
+            H.lawful H.obliging H.accepts H.trusts H.makes G.lawful G.group self.old.session.config.now parts.old.agreement parts.old.hosts parts.old.groups)
+            (denies_of A.obliging A.offered A.client_makes A.server_makes A.refusals H.obliging H.accepts H.refused_sign H.refused_verify
+            G.obliging G.refusals parts.old.agreement parts.new.agreement parts.old.hosts parts.new.hosts parts.old.groups parts.new.groups)
+            (untrusted_of H.obliging H.trusts H.refused_check parts.old.hosts parts.new.hosts) (standing_of self.old) piece.now e (standing_of self.new)
+            (counted_by A.calls H.calls G.calls parts.old.agreement parts.old.hosts parts.old.groups) (counted_by A.calls H.calls G.calls parts.new.agreement parts.new.hosts parts.new.groups)) }
     {
         if self.failed {
             return Err(Error::Disconnect);
         }
         let taken = self.take(parts, piece);
         self.fail_on(taken)
+    }
+
+    /// Handles what is kept of the input up to a payload that is handed up, which the reader then lends: whether there is one.
+    #[tactic(auto, using(crate::proofs::Parts::agreement_same, crate::proofs::Parts::hosts_same, crate::proofs::Parts::groups_same))]
+    pub(crate) fn poll<A: Agreement, H: HostKeys, G: GroupLookup, R: Rng>(
+        &mut self,
+        parts: &mut Parts<A, H, G, R>,
+    ) -> Result<bool, Error>
+        requires { IsKept self.old }
+        ensures kept { IsKept self.new }
+        ensures dead { self.old.failed ≡ true → (result ≡ Err Disconnect) × (self.new ≡ self.old) × (parts.new ≡ parts.old) }
+        ensures stays { IsFixed self.old.session self.new.session }
+        ensures lives { self.old.failed ≡ false → OnOk result (self.new.failed ≡ false) }
+        ensures ends { self.old.failed ≡ false → OnErr result ((self.new.failed ≡ true) × (unfinished (standing_of self.new) ≡ [])) }
+        ensures polled { IfOk result (λ lends. Polls (says_of A.lawful A.offered A.client_makes A.server_makes A.agrees H.lawful H.obliging H.accepts H.trusts
+            H.makes G.lawful G.group self.old.session.config.now parts.old.agreement parts.old.hosts parts.old.groups) (standing_of self.old) (lent_by lends self.new.reader.handed) (standing_of self.new)) }
+        ensures refused { self.old.failed ≡ false → IfErr result (λ e. RefusesPiece (says_of A.lawful A.offered A.client_makes A.server_makes A.agrees H.lawful H.obliging H.accepts H.trusts
+            H.makes G.lawful G.group self.old.session.config.now parts.old.agreement parts.old.hosts parts.old.groups)
+            (denies_of A.obliging A.offered A.client_makes A.server_makes A.refusals H.obliging H.accepts
+            H.refused_sign H.refused_verify G.obliging G.refusals parts.old.agreement parts.new.agreement parts.old.hosts parts.new.hosts parts.old.groups parts.new.groups)
+            (untrusted_of H.obliging H.trusts H.refused_check parts.old.hosts parts.new.hosts) (standing_of self.old) [] e (standing_of self.new)) }
+        ensures wants { self.old.failed ≡ false → result ≡ Err Memory → MayWant (says_of A.lawful A.offered A.client_makes A.server_makes A.agrees H.lawful H.obliging H.accepts H.trusts
+            H.makes G.lawful G.group self.old.session.config.now parts.old.agreement parts.old.hosts parts.old.groups) (standing_of self.old) }
+        ensures unqueued { self.new.delivered.items ≡ self.old.delivered.items }
+        ensures agreement { KeepsAgreement A.lawful A.obliging A.offered A.refusals A.calls parts.old.agreement parts.new.agreement }
+        ensures hosts { KeepsHosts H.lawful H.obliging H.accepts H.trusts H.refused_sign H.refused_verify H.refused_check H.calls parts.old.hosts parts.new.hosts }
+        ensures groups { KeepsGroups G.lawful G.obliging G.group G.refusals G.calls parts.old.groups parts.new.groups }
+        ensures asks { OnOk result (AsksWithin self.old.session.side (standing_of self.old).state (standing_of self.new).state
+            (counted_by A.calls H.calls G.calls parts.old.agreement parts.old.hosts parts.old.groups) (counted_by A.calls H.calls G.calls parts.new.agreement parts.new.hosts parts.new.groups)) }
+        ensures asked { self.old.failed ≡ false → OnErr result (RefusesAsking (says_of A.lawful A.offered A.client_makes A.server_makes A.agrees H.lawful H.obliging H.accepts H.trusts
+            H.makes G.lawful G.group self.old.session.config.now parts.old.agreement parts.old.hosts parts.old.groups)
+            (standing_of self.old) [] (standing_of self.new)
+            (counted_by A.calls H.calls G.calls parts.old.agreement parts.old.hosts parts.old.groups) (counted_by A.calls H.calls G.calls parts.new.agreement parts.new.hosts parts.new.groups)) }
+    {
+        if self.failed {
+            return Err(Error::Disconnect);
+        }
+        let polled = self.take_payload(parts);
+        self.fail_on(polled)
+    }
+
+    /// The same, where a refusal leaves what is kept.
+    #[tactic(auto, using(crate::proofs::Parts::agreement_same, crate::proofs::Parts::hosts_same, crate::proofs::Parts::groups_same))]
+    fn take_payload<A: Agreement, H: HostKeys, G: GroupLookup, R: Rng>(
+        &mut self,
+        parts: &mut Parts<A, H, G, R>,
+    ) -> Result<bool, Error>
+        requires live { IsLive self.old }
+        requires within { IsKept self.old }
+        ensures begins { CanBegin self.new.session }
+        ensures live { OnOk result (IsLive self.new) }
+        ensures within { OnOk result (IsKept self.new) }
+        ensures settled { OnOk result (WaitsBehind self.new.session.line self.new.reader.waiting) }
+        ensures takes { IfOk result (λ lends. TakesPayload (says_of A.lawful A.offered A.client_makes A.server_makes A.agrees H.lawful H.obliging H.accepts H.trusts
+            H.makes G.lawful G.group self.old.session.config.now parts.old.agreement parts.old.hosts parts.old.groups) self.old lends self.new) }
+        ensures fails { IfErr result (λ e. Fails (says_of A.lawful A.offered A.client_makes A.server_makes A.agrees H.lawful H.obliging H.accepts H.trusts
+            H.makes G.lawful G.group self.old.session.config.now parts.old.agreement parts.old.hosts parts.old.groups)
+            (denies_of A.obliging A.offered A.client_makes A.server_makes A.refusals H.obliging H.accepts
+            H.refused_sign H.refused_verify G.obliging G.refusals parts.old.agreement parts.new.agreement parts.old.hosts parts.new.hosts parts.old.groups parts.new.groups)
+            (untrusted_of H.obliging H.trusts H.refused_check parts.old.hosts parts.new.hosts)
+            (AsksTo self.old.session (counted_by A.calls H.calls G.calls parts.old.agreement parts.old.hosts parts.old.groups) (counted_by A.calls H.calls G.calls parts.new.agreement parts.new.hosts parts.new.groups)) (emptied self.old) self.old.reader.waiting e self.new) }
+        ensures wants { result ≡ Err Memory → MayWant (says_of A.lawful A.offered A.client_makes A.server_makes A.agrees H.lawful H.obliging H.accepts H.trusts
+            H.makes G.lawful G.group self.old.session.config.now parts.old.agreement parts.old.hosts parts.old.groups) (standing_of self.old) }
+        ensures fixed { IsFixed self.old.session self.new.session }
+        ensures unfailed { self.new.failed ≡ self.old.failed }
+        ensures unqueued { self.new.delivered.items ≡ self.old.delivered.items }
+        ensures agreement { KeepsAgreement A.lawful A.obliging A.offered A.refusals A.calls parts.old.agreement parts.new.agreement }
+        ensures hosts { KeepsHosts H.lawful H.obliging H.accepts H.trusts H.refused_sign H.refused_verify H.refused_check H.calls parts.old.hosts parts.new.hosts }
+        ensures groups { KeepsGroups G.lawful G.obliging G.group G.refusals G.calls parts.old.groups parts.new.groups }
+        ensures asks { OnOk result (AsksBetween self.old.session self.new.session
+            (counted_by A.calls H.calls G.calls parts.old.agreement parts.old.hosts parts.old.groups) (counted_by A.calls H.calls G.calls parts.new.agreement parts.new.hosts parts.new.groups)) }
+    {
+        let is_heard = self.hear(&mut parts.rng)?;
+        if is_heard {
+            return self.read_payload(parts);
+        }
+        Ok(false)
+    }
+
+    /// Handles the packets that are whole up to one whose payload is handed up: whether there is one.
+    #[tactic(auto, using(crate::proofs::Parts::agreement_same, crate::proofs::Parts::hosts_same, crate::proofs::Parts::groups_same))]
+    fn read_payload<A: Agreement, H: HostKeys, G: GroupLookup, R: Rng>(
+        &mut self,
+        parts: &mut Parts<A, H, G, R>,
+    ) -> Result<bool, Error>
+        requires live { IsLive self.old }
+        requires heard { IsHeard self.old.session.line }
+        ensures begins { CanBegin self.new.session }
+        ensures live { OnOk result (IsLive self.new) }
+        ensures reads { IfOk result (λ lends. PollsOne (says_of A.lawful A.offered A.client_makes A.server_makes A.agrees H.lawful H.obliging H.accepts H.trusts
+            H.makes G.lawful G.group self.old.session.config.now parts.old.agreement parts.old.hosts parts.old.groups) self.old (read_by lends) self.new) }
+        ensures shorter { OnOk result (length self.new.reader.waiting ≤ length self.old.reader.waiting) }
+        ensures stops { IfErr result (λ e. Stops (says_of A.lawful A.offered A.client_makes A.server_makes A.agrees H.lawful H.obliging H.accepts H.trusts
+            H.makes G.lawful G.group self.old.session.config.now parts.old.agreement parts.old.hosts parts.old.groups)
+            (denies_of A.obliging A.offered A.client_makes A.server_makes A.refusals H.obliging H.accepts
+            H.refused_sign H.refused_verify G.obliging G.refusals parts.old.agreement parts.new.agreement parts.old.hosts parts.new.hosts parts.old.groups parts.new.groups)
+            (untrusted_of H.obliging H.trusts H.refused_check parts.old.hosts parts.new.hosts)
+            (AsksTo self.old.session (counted_by A.calls H.calls G.calls parts.old.agreement parts.old.hosts parts.old.groups) (counted_by A.calls H.calls G.calls parts.new.agreement parts.new.hosts parts.new.groups)) self.old e self.new) }
+        ensures wants { result ≡ Err Memory → Wants (says_of A.lawful A.offered A.client_makes A.server_makes A.agrees H.lawful H.obliging H.accepts H.trusts
+            H.makes G.lawful G.group self.old.session.config.now parts.old.agreement parts.old.hosts parts.old.groups) self.old }
+        ensures fixed { IsFixed self.old.session self.new.session }
+        ensures unfailed { self.new.failed ≡ self.old.failed }
+        ensures unqueued { self.new.delivered.items ≡ self.old.delivered.items }
+        ensures agreement { KeepsAgreement A.lawful A.obliging A.offered A.refusals A.calls parts.old.agreement parts.new.agreement }
+        ensures hosts { KeepsHosts H.lawful H.obliging H.accepts H.trusts H.refused_sign H.refused_verify H.refused_check H.calls parts.old.hosts parts.new.hosts }
+        ensures groups { KeepsGroups G.lawful G.obliging G.group G.refusals G.calls parts.old.groups parts.new.groups }
+        ensures asks { OnOk result (AsksBetween self.old.session self.new.session
+            (counted_by A.calls H.calls G.calls parts.old.agreement parts.old.hosts parts.old.groups) (counted_by A.calls H.calls G.calls parts.new.agreement parts.new.hosts parts.new.groups)) }
+    {
+        'packets: loop {
+            match self.poll_packet(parts)? {
+                PacketRead::Nothing => return Ok(false),
+                PacketRead::Packet => {}
+                PacketRead::Payload => return Ok(true),
+            }
+        }
+    }
+
+    /// Handles the next packet, where one is whole. Where memory is wanting behind a payload, that isn't handed up.
+    #[tactic(auto, using(crate::proofs::Parts::agreement_same, crate::proofs::Parts::hosts_same, crate::proofs::Parts::groups_same))]
+    fn poll_packet<A: Agreement, H: HostKeys, G: GroupLookup, R: Rng>(
+        &mut self,
+        parts: &mut Parts<A, H, G, R>,
+    ) -> Result<PacketRead, Error>
+        requires live { IsLive self.old }
+        requires heard { IsHeard self.old.session.line }
+        ensures begins { CanBegin self.new.session }
+        ensures live { OnOk result (IsLive self.new) }
+        ensures shorter { IfOk result (λ read. IfPacket read (length self.new.reader.waiting < length self.old.reader.waiting)) }
+        ensures polls { IfOk result (λ read. PollsOne (says_of A.lawful A.offered A.client_makes A.server_makes A.agrees H.lawful H.obliging H.accepts H.trusts
+            H.makes G.lawful G.group self.old.session.config.now parts.old.agreement parts.old.hosts parts.old.groups) self.old read self.new) }
+        ensures stops { IfErr result (λ e. Stops (says_of A.lawful A.offered A.client_makes A.server_makes A.agrees H.lawful H.obliging H.accepts H.trusts
+            H.makes G.lawful G.group self.old.session.config.now parts.old.agreement parts.old.hosts parts.old.groups)
+            (denies_of A.obliging A.offered A.client_makes A.server_makes A.refusals H.obliging H.accepts
+            H.refused_sign H.refused_verify G.obliging G.refusals parts.old.agreement parts.new.agreement parts.old.hosts parts.new.hosts parts.old.groups parts.new.groups)
+            (untrusted_of H.obliging H.trusts H.refused_check parts.old.hosts parts.new.hosts)
+            (AsksTo self.old.session (counted_by A.calls H.calls G.calls parts.old.agreement parts.old.hosts parts.old.groups) (counted_by A.calls H.calls G.calls parts.new.agreement parts.new.hosts parts.new.groups)) self.old e self.new) }
+        ensures wants { result ≡ Err Memory → Wants (says_of A.lawful A.offered A.client_makes A.server_makes A.agrees H.lawful H.obliging H.accepts H.trusts
+            H.makes G.lawful G.group self.old.session.config.now parts.old.agreement parts.old.hosts parts.old.groups) self.old }
+        ensures fixed { IsFixed self.old.session self.new.session }
+        ensures unfailed { self.new.failed ≡ self.old.failed }
+        ensures unqueued { self.new.delivered.items ≡ self.old.delivered.items }
+        ensures agreement { KeepsAgreement A.lawful A.obliging A.offered A.refusals A.calls parts.old.agreement parts.new.agreement }
+        ensures hosts { KeepsHosts H.lawful H.obliging H.accepts H.trusts H.refused_sign H.refused_verify H.refused_check H.calls parts.old.hosts parts.new.hosts }
+        ensures groups { KeepsGroups G.lawful G.obliging G.group G.refusals G.calls parts.old.groups parts.new.groups }
+        ensures asks { OnOk result (AsksBetween self.old.session self.new.session
+            (counted_by A.calls H.calls G.calls parts.old.agreement parts.old.hosts parts.old.groups) (counted_by A.calls H.calls G.calls parts.new.agreement parts.new.hosts parts.new.groups)) }
+    {
+        let Some(handled) = self.take_packet(parts)? else {
+            return Ok(PacketRead::Nothing);
+        };
+        let read = read_of(&handled);
+        self.take_up(handled);
+        self.session.go_on(&mut parts.rng, self.reader.bytes())?;
+        Ok(read)
     }
 
     /// Seals a payload, or holds it.
@@ -160,9 +336,9 @@ impl<'c> Connection<'c> {
     }
 
     /// A refusal is the end: nothing is kept of the input.
-    fn fail_on(&mut self, done: Result<(), Error>) -> Result<(), Error>
+    fn fail_on<T>(&mut self, done: Result<T, Error>) -> Result<T, Error>
         requires begins { CanBegin self.old.session }
-        requires live { OnOk done (IsLive self.old) }
+        requires live { OnOk done (IsKept self.old) }
         ensures kept { IsKept self.new }
         ensures result { result ≡ done }
         ensures fixed { IsFixed self.old.session self.new.session }
@@ -178,24 +354,28 @@ impl<'c> Connection<'c> {
         done
     }
 
-    /// Takes a piece of what the other side sent, and handles what is whole.
+    /// Takes a piece of what the other side sent, and handles what is whole. It goes through the window: what is whole is
+    /// handled before more is taken.
     #[tactic(auto, using(crate::proofs::Parts::agreement_same, crate::proofs::Parts::hosts_same, crate::proofs::Parts::groups_same))]
     fn take<A: Agreement, H: HostKeys, G: GroupLookup, R: Rng>(
         &mut self,
         parts: &mut Parts<A, H, G, R>,
         piece: &[u8],
     ) -> Result<(), Error>
-        requires { IsLive self.old }
+        requires live { IsLive self.old }
+        requires within { IsKept self.old }
         ensures begins { CanBegin self.new.session }
         ensures live { OnOk result (IsLive self.new) }
+        ensures within { OnOk result (IsKept self.new) }
+        ensures settled { OnOk result (WaitsBehind self.new.session.line self.new.reader.waiting) }
         ensures took { OnOk result (Takes (says_of A.lawful A.offered A.client_makes A.server_makes A.agrees H.lawful H.obliging H.accepts H.trusts
-            H.makes G.lawful G.group self.old.session.config.now parts.old.agreement parts.old.hosts parts.old.groups) self.old piece.now self.new) }
-        ensures fails { IfErr result (λ e. Fails (says_of A.lawful A.offered A.client_makes A.server_makes A.agrees H.lawful H.obliging H.accepts H.trusts H.makes
-            G.lawful G.group self.old.session.config.now parts.old.agreement parts.old.hosts parts.old.groups)
+            H.makes G.lawful G.group self.old.session.config.now parts.old.agreement parts.old.hosts parts.old.groups) (emptied self.old) (self.old.reader.waiting ++ piece.now) self.new) }
+        ensures fails { IfErr result (λ e. Fails (says_of A.lawful A.offered A.client_makes A.server_makes A.agrees H.lawful H.obliging H.accepts H.trusts
+            H.makes G.lawful G.group self.old.session.config.now parts.old.agreement parts.old.hosts parts.old.groups)
             (denies_of A.obliging A.offered A.client_makes A.server_makes A.refusals H.obliging H.accepts
             H.refused_sign H.refused_verify G.obliging G.refusals parts.old.agreement parts.new.agreement parts.old.hosts parts.new.hosts parts.old.groups parts.new.groups)
             (untrusted_of H.obliging H.trusts H.refused_check parts.old.hosts parts.new.hosts)
-            (AsksTo self.old.session (counted_by A.calls H.calls G.calls parts.old.agreement parts.old.hosts parts.old.groups) (counted_by A.calls H.calls G.calls parts.new.agreement parts.new.hosts parts.new.groups)) self.old piece.now e self.new) }
+            (AsksTo self.old.session (counted_by A.calls H.calls G.calls parts.old.agreement parts.old.hosts parts.old.groups) (counted_by A.calls H.calls G.calls parts.new.agreement parts.new.hosts parts.new.groups)) (emptied self.old) (self.old.reader.waiting ++ piece.now) e self.new) }
         ensures fixed { IsFixed self.old.session self.new.session }
         ensures unfailed { self.new.failed ≡ self.old.failed }
         ensures agreement { KeepsAgreement A.lawful A.obliging A.offered A.refusals A.calls parts.old.agreement parts.new.agreement }
@@ -204,30 +384,99 @@ impl<'c> Connection<'c> {
         ensures asks { OnOk result (AsksBetween self.old.session self.new.session
             (counted_by A.calls H.calls G.calls parts.old.agreement parts.old.hosts parts.old.groups) (counted_by A.calls H.calls G.calls parts.new.agreement parts.new.hosts parts.new.groups)) }
     {
-        let is_heard = self.hear(&mut parts.rng, piece)?;
+        let kept = self.keep(piece);
+        let is_heard = self.hear(&mut parts.rng)?;
         if is_heard {
-            return self.read_packets(parts);
+            return self.read_all(parts, &piece[kept..]);
         }
         Ok(())
     }
 
-    /// Reads of the peer's version line, and keeps what stands behind it: whether the line is read. Version; Memory.
-    fn hear<R: Rng>(&mut self, rng: &mut R, piece: &[u8]) -> Result<bool, Error>
+    /// How many bytes are kept of the input.
+    pub(crate) fn unfinished(&self) -> usize
+        requires { IsKept self.now }
+        ensures { result ≡ length (unfinished (standing_of self.now)) }
+    {
+        self.session.line.waiting() + self.reader.waiting()
+    }
+
+    /// Keeps the first bytes of a piece, as many as there is room for: how many they are.
+    pub(crate) fn keep(&mut self, piece: &[u8]) -> usize
+        requires kept { IsKept self.old }
+        requires windowed { self.old.reader.window ≡ window_length }
+        ensures kept { IsKept self.new }
+        ensures count { result ≡ input_room (standing_of self.old) (length piece.now) }
+        ensures standing { standing_of self.new ≡ with_input (standing_of self.old) (take result piece.now) }
+        ensures fits { result + waiting_length self.old.session.line + length self.old.reader.waiting ≤ window_length }
+        ensures all { (result + waiting_length self.old.session.line + length self.old.reader.waiting < window_length) → result ≡ length piece.now }
+        ensures within { result ≤ length piece.now }
+        ensures taken { self.new.reader ≡ record self.old.reader { waiting = self.old.reader.waiting ++ take result piece.now; handed = []; spent = self.new.reader.spent } }
+        ensures rest { self.new ≡ record self.old { reader = self.new.reader } }
+    {
+        let n = piece.len().min(LONGEST_INPUT - self.unfinished());
+        self.reader.take(&piece[..n])
+    }
+
+    /// Reads of the peer's version line what waits, and begins the first exchange behind it: whether the line is read.
+    /// Version; Memory.
+    fn hear<R: Rng>(&mut self, rng: &mut R) -> Result<bool, Error>
         requires { IsLive self.old }
         ensures begins { CanBegin self.new.session }
         ensures live { OnOk result (IsLive self.new) }
-        ensures heard { OnOk result (Hears self.old piece.now self.new) }
+        ensures heard { OnOk result (Hears (emptied self.old) self.old.reader.waiting self.new) }
+        ensures more { result ≡ Ok true → (more : List ℕ) → Hears (emptied self.old) (self.old.reader.waiting ++ more) (with_more self.new more) }
         ensures whole { result ≡ Ok true → IsHeard self.new.session.line }
-        ensures part { result ≡ Ok false → WaitsInPart (reading_of self.new) self.new.reader.waiting }
-        ensures fails { IfErr result (λ e. FailsHearing self.old piece.now e self.new) }
+        ensures part { result ≡ Ok false → (self.new.reader.waiting ≡ []) × (waiting_length self.old.session.line + length self.old.reader.waiting < window_length) }
+        ensures shorter { OnOk result (length self.new.reader.waiting ≤ length self.old.reader.waiting) }
+        ensures unqueued { self.new.delivered ≡ self.old.delivered }
+        ensures fails { IfErr result (λ e. HearsNothing (emptied self.old) self.old.reader.waiting e self.new) }
+        ensures ended { result ≡ Err Memory → EndsBy self.old.session.side self.old.session.line self.old.reader.waiting }
         ensures fixed { IsFixed self.old.session self.new.session }
         ensures unfailed { self.new.failed ≡ self.old.failed }
     {
-        let Some(used) = self.session.hear(rng, piece)? else {
+        let Some(used) = self.session.hear(rng, self.reader.unread())? else {
+            self.reader.skip(self.reader.waiting());
             return Ok(false);
         };
-        self.reader.push(&piece[used..])?;
+        self.reader.skip(used);
         Ok(true)
+    }
+
+    /// Handles all packets that are whole in what waits and in a piece behind it.
+    #[tactic(auto, using(crate::proofs::Parts::agreement_same, crate::proofs::Parts::hosts_same, crate::proofs::Parts::groups_same))]
+    fn read_all<A: Agreement, H: HostKeys, G: GroupLookup, R: Rng>(
+        &mut self,
+        parts: &mut Parts<A, H, G, R>,
+        piece: &[u8],
+    ) -> Result<(), Error>
+        requires live { IsLive self.old }
+        requires heard { IsHeard self.old.session.line }
+        ensures begins { CanBegin self.new.session }
+        ensures live { OnOk result (IsLive self.new) }
+        ensures reads { OnOk result (Reads (says_of A.lawful A.offered A.client_makes A.server_makes A.agrees H.lawful H.obliging H.accepts H.trusts
+            H.makes G.lawful G.group self.old.session.config.now parts.old.agreement parts.old.hosts parts.old.groups) (with_more self.old piece.now) self.new) }
+        ensures part { OnOk result (WaitsInPart (reading_of self.new) self.new.reader.waiting) }
+        ensures stops { IfErr result (λ e. Stops (says_of A.lawful A.offered A.client_makes A.server_makes A.agrees H.lawful H.obliging H.accepts H.trusts
+            H.makes G.lawful G.group self.old.session.config.now parts.old.agreement parts.old.hosts parts.old.groups)
+            (denies_of A.obliging A.offered A.client_makes A.server_makes A.refusals H.obliging H.accepts
+            H.refused_sign H.refused_verify G.obliging G.refusals parts.old.agreement parts.new.agreement parts.old.hosts parts.new.hosts parts.old.groups parts.new.groups)
+            (untrusted_of H.obliging H.trusts H.refused_check parts.old.hosts parts.new.hosts)
+            (AsksTo self.old.session (counted_by A.calls H.calls G.calls parts.old.agreement parts.old.hosts parts.old.groups) (counted_by A.calls H.calls G.calls parts.new.agreement parts.new.hosts parts.new.groups)) (with_more self.old piece.now) e self.new) }
+        ensures fixed { IsFixed self.old.session self.new.session }
+        ensures unfailed { self.new.failed ≡ self.old.failed }
+        ensures agreement { KeepsAgreement A.lawful A.obliging A.offered A.refusals A.calls parts.old.agreement parts.new.agreement }
+        ensures hosts { KeepsHosts H.lawful H.obliging H.accepts H.trusts H.refused_sign H.refused_verify H.refused_check H.calls parts.old.hosts parts.new.hosts }
+        ensures groups { KeepsGroups G.lawful G.obliging G.group G.refusals G.calls parts.old.groups parts.new.groups }
+        ensures asks { OnOk result (AsksBetween self.old.session self.new.session
+            (counted_by A.calls H.calls G.calls parts.old.agreement parts.old.hosts parts.old.groups) (counted_by A.calls H.calls G.calls parts.new.agreement parts.new.hosts parts.new.groups)) }
+    {
+        self.read_packets(parts)?;
+        let mut taken = 0;
+        'turns: while taken < piece.len() {
+            taken += self.reader.take(&piece[taken..]);
+            self.read_packets(parts)?;
+        }
+        Ok(())
     }
 
     /// Handles all packets that are whole.
@@ -260,7 +509,7 @@ impl<'c> Connection<'c> {
         Ok(())
     }
 
-    /// Opens the next packet, where one is whole, and does what it asks for by itself.
+    /// Opens the next packet, where one is whole, and does what it asks for by itself. The reader lends its payload.
     #[tactic(auto, using(crate::proofs::Parts::agreement_same, crate::proofs::Parts::hosts_same, crate::proofs::Parts::groups_same))]
     fn take_packet<A: Agreement, H: HostKeys, G: GroupLookup, R: Rng>(
         &mut self,
@@ -280,9 +529,12 @@ impl<'c> Connection<'c> {
         ensures groups { KeepsGroups G.lawful G.obliging G.group G.refusals G.calls parts.old.groups parts.new.groups }
         ensures asks { OnOk result (AsksBetween self.old.session self.new.session
             (counted_by A.calls H.calls G.calls parts.old.agreement parts.old.hosts parts.old.groups) (counted_by A.calls H.calls G.calls parts.new.agreement parts.new.hosts parts.new.groups)) }
-        ensures took { IfOk result (λ r. IfSome r (λ h. Took (says_of A.lawful A.offered A.client_makes A.server_makes A.agrees H.lawful H.obliging H.accepts H.trusts
+        ensures took { IfOk result (λ r. IfSome r (λ h. HandlesOne (says_of A.lawful A.offered A.client_makes A.server_makes A.agrees H.lawful H.obliging H.accepts H.trusts
             H.makes G.lawful G.group self.old.session.config.now parts.old.agreement parts.old.hosts parts.old.groups) self.old h self.new)) }
-        ensures none { result ≡ Ok None → (self.new ≡ self.old) × WaitsInPart (reading_of self.old) self.old.reader.waiting }
+        ensures none { result ≡ Ok None → (self.new ≡ record self.old { reader = record self.old.reader { handed = [] } }) × WaitsInPart (reading_of self.old) self.old.reader.waiting }
+        ensures unqueued { self.new.delivered ≡ self.old.delivered }
+        ensures wants { result ≡ Err Memory → Wants (says_of A.lawful A.offered A.client_makes A.server_makes A.agrees H.lawful H.obliging H.accepts H.trusts
+            H.makes G.lawful G.group self.old.session.config.now parts.old.agreement parts.old.hosts parts.old.groups) self.old }
         ensures stops { IfErr result (λ e. Stops (says_of A.lawful A.offered A.client_makes A.server_makes A.agrees H.lawful H.obliging H.accepts H.trusts H.makes
             G.lawful G.group self.old.session.config.now parts.old.agreement parts.old.hosts parts.old.groups)
             (denies_of A.obliging A.offered A.client_makes A.server_makes A.refusals H.obliging H.accepts
@@ -294,11 +546,10 @@ impl<'c> Connection<'c> {
             return Ok(None);
         };
         let handled = self.session.handle(parts, incoming)?;
-        keep_payload(self.alloc, &mut self.delivered, &handled, incoming.payload)?;
         Ok(Some(handled))
     }
 
-    /// Handles the next packet, where one is whole: whether there was one.
+    /// Handles the next packet, where one is whole, and queues its payload where that is handed up: whether there was one.
     #[tactic(auto, using(crate::proofs::Parts::agreement_same, crate::proofs::Parts::hosts_same, crate::proofs::Parts::groups_same))]
     fn read_packet<A: Agreement, H: HostKeys, G: GroupLookup, R: Rng>(
         &mut self,
@@ -329,6 +580,12 @@ impl<'c> Connection<'c> {
         let Some(handled) = self.take_packet(parts)? else {
             return Ok(false);
         };
+        queue_payload(
+            self.alloc,
+            &mut self.delivered,
+            &handled,
+            self.reader.handed(),
+        )?;
         self.take_up(handled);
         self.session.go_on(&mut parts.rng, self.reader.bytes())?;
         Ok(true)
@@ -352,8 +609,8 @@ impl<'c> Connection<'c> {
     }
 }
 
-/// Keeps a payload that is to be handed up. Memory.
-fn keep_payload(
+/// Queues a payload that is to be handed up. Memory.
+fn queue_payload(
     alloc: Global,
     delivered: &mut Vec<Payload>,
     handled: &Handled,
@@ -369,5 +626,15 @@ fn keep_payload(
             Ok(())
         }
         Handled::Done | Handled::Rekeys { .. } => Ok(()),
+    }
+}
+
+/// Whether the payload of a packet is handed up.
+fn read_of(handled: &Handled) -> PacketRead
+    ensures { result ≡ read_as handled.now }
+{
+    match handled {
+        Handled::Delivers => PacketRead::Payload,
+        Handled::Done | Handled::Rekeys { .. } => PacketRead::Packet,
     }
 }

@@ -3,9 +3,8 @@
 ghost use Rattle.std.specs.Prelude.{◌≡◌, ◌+◌, ◌≤◌, ◌<◌, ◌^◌, [], Some, IfErr, IfOk, OnErr, OnOk, length, is_some};
 ghost use Rattle.ssh_kex.specs.Parts.{KeepsAgreement, KeepsGroups, KeepsHosts};
 ghost use Rattle.ssh_kex.specs.Refusals.{IsCreated};
-ghost use Rattle.ssh_kex.specs.Stages.{Created, is_strict, names_of};
+ghost use Rattle.ssh_kex.specs.Stages.{Created, is_strict, names_of, has_ignored};
 ghost use Rattle.ssh_kex.specs.Stepping.{Progresses, PutsFront, RefusesStep, asks_agreement, asks_groups, asks_hosts, denies_of, next_of, says_of};
-ghost use Rattle.ssh_transport.specs.Machines.{has_dropped};
 ghost use Rattle.ssh_packet.specs.Sealing.{Item};
 ghost use Rattle.ssh_packet.specs.Writing.{SameButRoom};
 ghost use Rattle.ssh_transport.specs.Kexinits.{SendsKexinit, setting_between};
@@ -115,12 +114,12 @@ impl<'c> SessionKex<'c> {
         }
     }
 
-    /// Whether a server has dropped a wrong guess of its client.
+    /// Whether a wrong guess of the peer was dropped.
     pub(crate) fn guess_ignored(&self) -> bool
-        ensures { result ≡ has_dropped self.now.setting.side (names_of self.now.stage) }
+        ensures { result ≡ has_ignored (names_of self.now.stage) }
     {
         match &self.side {
-            SideKex::Client(_) => false,
+            SideKex::Client(kex) => kex.guess_ignored(),
             SideKex::Server(kex) => kex.guess_ignored(),
         }
     }

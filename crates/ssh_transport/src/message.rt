@@ -7,6 +7,9 @@ ghost use Rattle.ssh_rules.specs.MessageTypes.{is_payload_type};
 /// The longest payload that is sent, in bytes.
 pub(crate) const LONGEST_PAYLOAD: usize = 262157;
 
+/// How much is kept of the input at most, in bytes: the longest packet with its tag.
+pub(crate) const LONGEST_INPUT: usize = 262245;
+
 /// The type of a message, its first byte.
 pub(crate) fn type_of(payload: &[u8]) -> u8
     ensures { result ≡ message_type payload.now }

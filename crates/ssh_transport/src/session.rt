@@ -1,8 +1,8 @@
 //! What a side says: its version line, its messages of exchanges, the payloads that it seals or holds.
 
-ghost use Rattle.std.specs.Prelude.{◌≡◌, ◌+◌, ◌<◌, ◌≤◌, ◌-◌, if◌then◌else◌, ◌^◌, ◌||◌, ◌&&◌, ◌⊎◌, ℕ, nat_le, not, List, Some, Ok, Err, true, false, IfErr, IfOk, IfSome, OnErr, OnOk, length, take};
+ghost use Rattle.std.specs.Prelude.{◌≡◌, [], ◌+◌, ◌<◌, ◌≤◌, ◌-◌, if◌then◌else◌, ◌^◌, ◌||◌, ◌&&◌, ◌⊎◌, ℕ, nat_le, not, List, Some, Ok, Err, true, false, IfErr, IfOk, IfSome, OnErr, OnOk, length, take};
 ghost use Rattle.ssh_rules.specs.Asking.{AsksForMessage, AsksForType, counted_by};
-ghost use Rattle.ssh_rules.specs.MessageTypes.{is_payload_type};
+ghost use Rattle.ssh_rules.specs.MessageTypes.{is_payload_type, is_violation};
 ghost use Rattle.ssh_transport.specs.Asking.{asks_trust};
 ghost use Rattle.ssh_transport.specs.Stopping.{IsDistrusted};
 ghost use Rattle.ssh_transport.specs.declared.session.Handled.TheVariants.{Delivers};
@@ -11,7 +11,7 @@ ghost use Rattle.ssh_kex.specs.Stepping.{denies_of, says_of};
 ghost use Rattle.ssh_packet.specs.Sealing.{next_number};
 ghost use Rattle.ssh_packet.specs.Stream.{message_type as message_type_of};
 ghost use Rattle.ssh_wire.specs.Orders.{is_kex};
-ghost use Rattle.ssh_rules.specs.Machine.{Inside, cause_of, is_violation, names_now};
+ghost use Rattle.ssh_rules.specs.Machine.{Inside, Outside, cause_of, names_now};
 ghost use Rattle.ssh_rules.specs.Refusing.{untrusted_of};
 ghost use Rattle.ssh_rules.specs.Standing.{is_outside, lets_pass};
 ghost use Rattle.ssh_rules.specs.Valid.{config_fault, is_good_payload};
@@ -66,9 +66,9 @@ impl<'c> Session<'c> {
     ghost use Rattle.ssh_transport.specs.Asking.{AsksBetween, MoveAsks};
     ghost use Rattle.ssh_transport.specs.Handling.{Handles, Installs, IsBegun, IsFor, IsOpen, Moves, Passes, counts_guess, is_ordered, may_deliver_by};
     ghost use Rattle.ssh_transport.specs.Saying.{AreGood, Begins, GoesOn, GoesPart, IsFixed, IsSettled, IsUnsaid, Opens};
-    ghost use Rattle.ssh_transport.specs.Hearing.{HearsLine};
+    ghost use Rattle.ssh_transport.specs.Hearing.{EndsBy, HearsLine};
     ghost use Rattle.ssh_transport.specs.States.{CanBegin, IsFresh, IsUnheard, WaitsBehind, is_silent, stands_of};
-    ghost use Rattle.ssh_transport.specs.Stopping.{Appends, BeginsAt, BreaksAt, HearsNot, IsAsBefore, IsForNone, Refuses, RefusesMove};
+    ghost use Rattle.ssh_transport.specs.Stopping.{Appends, BeginsAt, BreaksAt, HearsNot, IsAsBefore, IsForNone, Refuses, RefusesMove, WantsKeys};
     ghost use Rattle.ssh_transport.specs.Submitting.{Submits};
 
     /// A side that has sent its version line. InvalidConfig where the configuration may not be used; Memory.
@@ -123,6 +123,7 @@ impl<'c> Session<'c> {
         ensures opened { IsOpen self.old → OnOk result (IsOpen self.new) }
         ensures line { IfOk result (λ used. HearsLine self.old piece.now used self.new) }
         ensures unheard { IfErr result (λ e. HearsNot self.old piece.now e self.new) }
+        ensures ended { IsUnheard self.old → result ≡ Err Memory → EndsBy self.old.side self.old.line piece.now }
     {
         match self.line.feed(piece, passes_others(self.side))? {
             IdProgress::NotYet => Ok(None),
@@ -153,6 +154,7 @@ impl<'c> Session<'c> {
     }
 
     /// Begins an exchange. Memory, and then nothing is sent.
+    #[inline(never)]
     pub(crate) fn begin<R: Rng>(&mut self, rng: &mut R) -> Result<(), Error>
         requires { CanBegin self.old }
         ensures begun { OnOk result (Begins self.old self.new) }
@@ -216,6 +218,7 @@ impl<'c> Session<'c> {
         ensures opened { OnOk result (IsOpen self.new) }
         ensures ok { OnOk result (GoesOn self.old read self.new) }
         ensures wanting { OnErr result (GoesPart self.old read self.new) }
+        ensures due { (stands_of self.old.finished.items self.old.kex ≡ Outside → self.old.held.items ≡ []) → OnErr result (WantsKeys self.old read self.new) }
         ensures fixed { IsFixed self.old self.new }
         ensures begins { CanBegin self.new }
         ensures line { self.new.line ≡ self.old.line }
@@ -274,6 +277,7 @@ impl<'c> Session<'c> {
             (untrusted_of H.obliging H.trusts H.refused_check parts.old.hosts parts.new.hosts) self.old incoming.entry.seqn incoming.entry.payload.now e) }
         ensures rests { OnErr result (IsAsBefore self.old self.new) }
         ensures delivers { result ≡ Ok Delivers → self.new ≡ self.old }
+        ensures others { OnOk result (is_kex (message_type_of incoming.entry.payload.now) ≡ false → self.new ≡ self.old) }
         ensures opened { OnOk result (IsOpen self.new) }
     {
         let sent = self.writer.output().len();
@@ -326,6 +330,7 @@ impl<'c> Session<'c> {
             (untrusted_of H.obliging H.trusts H.refused_check parts.old.hosts parts.new.hosts) self.old incoming.entry.seqn incoming.entry.payload.now e) }
         ensures appends { OnErr result (Appends self.old self.new) }
         ensures delivers { result ≡ Ok Delivers → self.new ≡ self.old }
+        ensures others { OnOk result (is_kex (message_type_of incoming.entry.payload.now) ≡ false → self.new ≡ self.old) }
         ensures opened { OnOk result (IsOpen self.new) }
     {
         let message_type = type_of(incoming.payload);
@@ -378,7 +383,7 @@ impl<'c> Session<'c> {
         }
     }
 
-    /// Whether a server has dropped a wrong guess in the exchange that runs.
+    /// Whether a wrong guess was dropped in the exchange that runs.
     fn has_dropped_guess(&self) -> bool
         requires { IsOpen self.now }
         ensures { result ≡ counts_guess (names_now (stands_of self.now.finished.items self.now.kex)) }
@@ -425,7 +430,8 @@ impl<'c> Session<'c> {
         }
     }
 
-    /// Takes a message of an exchange.
+    /// Takes a message of an exchange. It isn't inlined, so that packets outside an exchange don't pay for its locals.
+    #[inline(never)]
     #[tactic(auto, using(crate::proofs::Parts::agreement_same, crate::proofs::Parts::hosts_same, crate::proofs::Parts::groups_same))]
     fn take_message<A: Agreement, H: HostKeys, G: GroupLookup, R: Rng>(
         &mut self,
@@ -563,6 +569,7 @@ impl<'c> Session<'c> {
             session_id,
             keys,
         })?;
+        let cipher = Box::into_inner(cipher);
         self.writer.set_cipher(cipher.local_to_remote);
         self.kex = SessionKexState::Idle;
         Ok(Handled::Rekeys {

@@ -1,11 +1,12 @@
 //! One side of a connection, driven by the bytes that its caller carries.
 
-ghost use Rattle.std.specs.Prelude.{◌≡◌, ◌⊎◌, ◌≤◌, ◌-◌, true, false, [], drop, length, not, IfErr, IfOk, IfSome, IsTrue, OnErr, OnOk, Ok, Err, Some};
+ghost use Rattle.std.specs.Borrow.{sem};
+ghost use Rattle.std.specs.Prelude.{◌≡◌, ◌⊎◌, ◌≤◌, ◌-◌, true, false, [], drop, take, length, not, IfErr, IfOk, IfSome, IsTrue, OnErr, OnOk, Ok, Err, Some};
 ghost use Rattle.std.specs.List.{slice_get};
 ghost use Rattle.ssh_kex.specs.Parts.{KeepsAgreement, KeepsGroups, KeepsHosts};
 ghost use Rattle.ssh_kex.specs.Stepping.{denies_of, says_of};
 ghost use Rattle.ssh_rules.specs.Asking.{AsksFew, AsksWithin, RefusesAsking, counted_by};
-ghost use Rattle.ssh_rules.specs.Refusing.{RefusesPiece, untrusted_of};
+ghost use Rattle.ssh_rules.specs.Refusing.{RefusesPiece, RefusesPieceAsking, untrusted_of};
 ghost use Rattle.ssh_packet.specs.Stream.{message_type};
 ghost use Rattle.ssh_rules.specs.MessageTypes.{is_payload_type};
 ghost use Rattle.ssh_rules.specs.Valid.{config_fault, is_bad_size, is_good_payload};
@@ -21,10 +22,13 @@ use std::alloc::Global;
 use std::marker::Model;
 use std::mem;
 
-/// One side of a connection. What it sends is taken from `output`, and what the other side sent is handed to `feed`.
+/// One side of a connection. What it sends is taken from `output`. What the other side sent is handed to `feed`, which queues
+/// the payloads that come; or it is kept by `take_input`, and `poll_payload` lends them one by one, without a copy.
 #[derive(Drop)]
 pub struct Transport<'c> {
     connection: Connection<'c>,
+    /// What `poll_payload` was refused with last, which it lends.
+    refusal: Error,
 }
 
 impl<'c> Model for Transport<'c> {
@@ -40,7 +44,9 @@ impl<'c> Model for Transport<'c> {
 }
 
 impl<'c> Transport<'c> {
-    ghost use Rattle.ssh_rules.specs.Standing.{IsNew, Rekeyed, Submitted, TakesInput, is_outside, unfinished};
+    ghost use Rattle.ssh_rules.specs.Polling.{MayWant};
+    ghost use Rattle.ssh_rules.specs.Standing.{IsNew, Rekeyed, Submitted, TakesInput, input_room, is_outside, most_unfinished, unfinished, with_input};
+    ghost use Rattle.ssh_transport.specs.Lending.{IsRefusedWith, LendsPoll};
     ghost use Rattle.ssh_transport.specs.Submitting.{Breaks};
 
     /// A client that has written its version line. InvalidConfig names the first test that refuses its configuration:
@@ -49,10 +55,10 @@ impl<'c> Transport<'c> {
     /// - Limit: a byte limit is outside 1 to 2^30;
     /// - GroupSizes: the least size is over the preferred one, or that over the most;
     /// - KexNone: the key exchange `none` is offered;
-    /// - NameList: an advertised list has over 1025 names or over 16384 bytes;
+    /// - NameList: an advertised list has over 1024 names or over 16384 bytes;
     /// - HostBlob: the blob of a key or a certificate has over 65536 bytes.
     ///
-    /// Memory.
+    /// Memory, also for the window of its input, for which room for 524490 bytes is made.
     pub fn client(alloc: Global, config: &'c Config) -> Result<Transport<'c>, Error>
         ensures made { IfOk result (IsNew client_side config.now) }
         ensures fault { IfSome (config_fault client_side config.now) (λ f. result ≡ Err (InvalidConfig f)) }
@@ -60,6 +66,7 @@ impl<'c> Transport<'c> {
     {
         Ok(Transport {
             connection: Connection::new(alloc, Side::Client, config)?,
+            refusal: Error::Disconnect,
         })
     }
 
@@ -71,6 +78,7 @@ impl<'c> Transport<'c> {
     {
         Ok(Transport {
             connection: Connection::new(alloc, Side::Server, config)?,
+            refusal: Error::Disconnect,
         })
     }
 
@@ -108,8 +116,61 @@ impl<'c> Transport<'c> {
         ensures calls_refused { self.old.failed ≡ false → OnErr result (RefusesAsking (says_of A.lawful A.offered A.client_makes A.server_makes A.agrees
             H.lawful H.obliging H.accepts H.trusts H.makes G.lawful G.group self.old.config parts.old.agreement parts.old.hosts parts.old.groups)
             self.old piece.now self.new (counted_by A.calls H.calls G.calls parts.old.agreement parts.old.hosts parts.old.groups) (counted_by A.calls H.calls G.calls parts.new.agreement parts.new.hosts parts.new.groups)) }
+        ensures refused_few { self.old.failed ≡ false → IfErr result (λ e. RefusesPieceAsking (says_of A.lawful A.offered A.client_makes A.server_makes A.agrees
+            H.lawful H.obliging H.accepts H.trusts H.makes G.lawful G.group self.old.config parts.old.agreement parts.old.hosts parts.old.groups)
+            (denies_of A.obliging A.offered A.client_makes A.server_makes A.refusals H.obliging H.accepts H.refused_sign H.refused_verify
+            G.obliging G.refusals parts.old.agreement parts.new.agreement parts.old.hosts parts.new.hosts parts.old.groups parts.new.groups)
+            (untrusted_of H.obliging H.trusts H.refused_check parts.old.hosts parts.new.hosts) self.old piece.now e self.new
+            (counted_by A.calls H.calls G.calls parts.old.agreement parts.old.hosts parts.old.groups) (counted_by A.calls H.calls G.calls parts.new.agreement parts.new.hosts parts.new.groups)) }
     {
         self.connection.feed(parts, piece)
+    }
+
+    /// Keeps the first bytes of a piece that the other side sent, as many as there is room for, until `poll_payload` or `feed`
+    /// makes something of them: at most 262245 bytes are kept. How many were taken of the piece. Disconnect after a refusal.
+    /// It takes no memory.
+    pub fn take_input(&mut self, piece: &[u8]) -> Result<usize, Error>
+        ensures dead { self.old.failed ≡ true → (result ≡ Err Disconnect) × (self.new ≡ self.old) }
+        ensures taken { self.old.failed ≡ false → (result ≡ Ok (input_room self.old (length piece.now)))
+            × (self.new ≡ with_input self.old (take (input_room self.old (length piece.now)) piece.now)) }
+        ensures within { length (unfinished self.new) ≤ most_unfinished }
+    {
+        if self.connection.failed {
+            return Err(Error::Disconnect);
+        }
+        Ok(self.connection.keep(piece))
+    }
+
+    /// Handles what was kept of the input, as `feed` does, up to and with the first packet whose payload is handed up, and
+    /// lends that payload: it is not queued for `take_delivered`. None where all that is whole was handled and nothing of it
+    /// is handed up. It is refused as `feed` is, which is the end of the transport; the refusal is lent too.
+    ///
+    /// Memory only where this call read the end of the version line, handled a message of an exchange, or was to begin an
+    /// exchange at a limit; where that limit was reached by a payload, the payload is not lent.
+    pub fn poll_payload<A: Agreement, H: HostKeys, G: GroupLookup, R: Rng>(
+        &mut self,
+        parts: &mut Parts<A, H, G, R>,
+    ) -> Result<Option<&[u8]>, &Error>
+        ensures* after_borrow { sem 𝓛 (LendsPoll (says_of A.lawful A.offered A.client_makes A.server_makes A.agrees H.lawful H.obliging H.accepts H.trusts H.makes G.lawful G.group self.entry.now.config parts.old.agreement parts.old.hosts parts.old.groups)
+            (denies_of A.obliging A.offered A.client_makes A.server_makes A.refusals H.obliging H.accepts H.refused_sign H.refused_verify
+            G.obliging G.refusals parts.old.agreement parts.new.agreement parts.old.hosts parts.new.hosts parts.old.groups parts.new.groups)
+            (untrusted_of H.obliging H.trusts H.refused_check parts.old.hosts parts.new.hosts)
+            (counted_by A.calls H.calls G.calls parts.old.agreement parts.old.hosts parts.old.groups) (counted_by A.calls H.calls G.calls parts.new.agreement parts.new.hosts parts.new.groups)
+            self.entry result) }
+        ensures dead { self.old.failed ≡ true → IsRefusedWith result Disconnect × (parts.new ≡ parts.old) }
+        ensures memory { self.old.failed ≡ false → IsRefusedWith result Memory → MayWant (says_of A.lawful A.offered A.client_makes A.server_makes A.agrees H.lawful H.obliging H.accepts H.trusts H.makes G.lawful G.group self.old.config parts.old.agreement parts.old.hosts parts.old.groups) self.old }
+        ensures agreement { KeepsAgreement A.lawful A.obliging A.offered A.refusals A.calls parts.old.agreement parts.new.agreement }
+        ensures hosts { KeepsHosts H.lawful H.obliging H.accepts H.trusts H.refused_sign H.refused_verify H.refused_check H.calls parts.old.hosts parts.new.hosts }
+        ensures groups { KeepsGroups G.lawful G.obliging G.group G.refusals G.calls parts.old.groups parts.new.groups }
+    {
+        match self.connection.poll(parts) {
+            Ok(true) => Ok(Some(self.connection.reader.handed())),
+            Ok(false) => Ok(None),
+            Err(error) => {
+                self.refusal = error;
+                Err(&self.refusal)
+            }
+        }
     }
 
     /// Seals a payload outside an exchange, and holds it inside one until that has ended (RFC 4253 section 7.1). It has 1 to
@@ -213,7 +274,7 @@ impl<'c> Transport<'c> {
     pub fn unfinished(&self) -> usize
         ensures { result ≡ length (unfinished self.now) }
     {
-        self.connection.session.line.waiting() + self.connection.reader.waiting()
+        self.connection.unfinished()
     }
 
     /// A finished exchange, counted from 1.

@@ -2,14 +2,14 @@ use Rattle.std.proofs.Common.{ℕ, sym, subst}
 use Rattle.ssh_transport.specs.Saying.{IsSettled}
 use Rattle.ssh_transport.specs.States.{standing_of}
 use Rattle.ssh_transport.proofs.Opened.{on_both}
-use Rattle.ssh_transport.proofs.Submitting.{broken_answer, live_behind, sent_answer}
+use Rattle.ssh_transport.proofs.Submitting.{broken_answer, kept_behind, sent_answer}
 use Rattle.ssh_transport.proofs.connection.Connection.submit.Goals as goal
 
 pub submit-sent-requires-clause-settled : goal.submit-sent-requires-clause-settled
 submit-sent-requires-clause-settled g c = subst (λ (n : ℕ). IsSettled c.args.self.now.session n) (sym c.bytes-read.ensures) (c.requires.live c.if-self.false).settled
 
 pub fail_on-requires-clause-live : goal.fail_on-requires-clause-live
-fail_on-requires-clause-live g c = on_both c.submit-sent.result _ _ _ (λ h o. live_behind c.args.self.now c.submit-sent.new.self c.bytes-read.result c.args.payload.now c.bytes-read.ensures c.submit-sent.ensures.begins c.requires.behind (c.requires.live c.if-self.false).numbered (c.requires.live c.if-self.false).short (c.requires.live c.if-self.false).heeds (c.requires.live c.if-self.false).unbroken h o) c.submit-sent.ensures.sent c.submit-sent.ensures.opened
+fail_on-requires-clause-live g c = on_both c.submit-sent.result _ _ _ (λ h o. kept_behind c.args.self.now c.submit-sent.new.self c.bytes-read.result c.args.payload.now c.bytes-read.ensures c.submit-sent.ensures.begins c.requires (c.requires.live c.if-self.false) h o) c.submit-sent.ensures.sent c.submit-sent.ensures.opened
 
 pub returns-clause-sent : goal.returns-clause-sent
 returns-clause-sent g c = sent_answer c.args.self.now c.fail_on.new.self c.submit-sent.new.self c.bytes-read.result c.args.payload.now c.submit-sent.result c.fail_on.result c.if-self.false c.bytes-read.ensures c.fail_on.ensures.result c.fail_on.ensures.same c.submit-sent.ensures.sent

@@ -1,6 +1,7 @@
 use Rattle.std.proofs.Common.{ap, refl}
 use Rattle.ssh_packet.specs.Writing.{Writer}
 use Rattle.ssh_transport.proofs.Saying.{begins_part, flipped, goes_on_begun, goes_part, on_err, on_ok, outside_is, sends_first}
+use Rattle.ssh_transport.proofs.Limits.{none_taken, wants_keys}
 use Rattle.ssh_transport.proofs.Opened.{heard_outside, open_begun}
 use Rattle.ssh_transport.proofs.session.Session.go_on.Goals as goal
 
@@ -16,6 +17,7 @@ held-preserved g c = record {
   line = c.held.invariant.line;
   unheard = c.held.invariant.unheard;
   opened = record { machine = c.held.invariant.opened.machine; heard = c.held.invariant.opened.heard };
+  idle = λ n. absurd (none_taken c.args.self.now c.held.self c.in-Some.payload _ c.held.invariant.idle (outside_is _ (flipped c.is_inside.result _ c.is_inside.ensures c.held-test.true)) c.in-Some.ensures.items n);
   written = sends_first c.args.self.now c.held.self _ c.args.read c.is_inside.result c.is_at_limit.result c.in-Some.payload c.as_slice.result.now _ c.is_inside.ensures c.held-test.true c.is_at_limit.ensures c.if-is_at_limit.false c.held.invariant.written c.in-Some.ensures.items c.as_slice.ensures c.in_ok-packet_raw.ensures.sent c.in_ok-packet_raw.ensures.admissible c.in_ok-packet_raw.ensures.padded refl;
 }
 
@@ -24,3 +26,9 @@ returns-then-is_at_limit-clause-wanting g c = begins_part c.args.self.now c.held
 
 pub returns-in_err-packet_raw-clause-wanting : goal.returns-in_err-packet_raw-clause-wanting
 returns-in_err-packet_raw-clause-wanting g c = on_err _ _ (goes_part c.args.self.now c.held.self _ c.args.read c.held.invariant.written (ap (λ (w : Writer). w.output) c.in_err-packet_raw.ensures.unchanged) refl)
+
+pub returns-then-is_at_limit-clause-due : goal.returns-then-is_at_limit-clause-due
+returns-then-is_at_limit-clause-due g c = wants_keys c.args.self.now c.held.self c.begin.new.self c.args.read c.begin.result c.is_at_limit.result c.held.invariant.idle (outside_is _ (flipped c.is_inside.result _ c.is_inside.ensures c.held-test.true)) c.is_at_limit.ensures c.if-is_at_limit.true c.begin.ensures.unsaid
+
+pub returns-in_err-packet_raw-clause-due : goal.returns-in_err-packet_raw-clause-due
+returns-in_err-packet_raw-clause-due g c = λ n. absurd (none_taken c.args.self.now c.held.self c.in-Some.payload _ c.held.invariant.idle (outside_is _ (flipped c.is_inside.result _ c.is_inside.ensures c.held-test.true)) c.in-Some.ensures.items n)

@@ -1,9 +1,9 @@
-use Rattle.std.proofs.Common.{◌≡◌, List}
+use Rattle.std.proofs.Common.{◌≡◌, List, []}
 use Rattle.std.specs.VecDeque.{deque_len}
-use Rattle.ssh_rules.specs.Machine.{Event}
+use Rattle.ssh_rules.specs.Machine.{Event, Outside}
 use Rattle.ssh_transport.specs.Handling.{IsOpen}
 use Rattle.ssh_transport.specs.Saying.{Writes}
-use Rattle.ssh_transport.specs.States.{CanBegin, IsUnheard}
+use Rattle.ssh_transport.specs.States.{CanBegin, IsUnheard, stands_of}
 use Rattle.ssh_transport.proofs.session.Session.go_on.Given as goal
 
 abbrev pub invariant-held : goal.invariant-held
@@ -12,6 +12,7 @@ invariant-held g l = record {
   line : l.self.line ≡ l.fn.self.line;
   unheard : IsUnheard l.self;
   opened : IsOpen l.self;
+  idle : (stands_of l.fn.self.finished.items l.fn.self.kex ≡ Outside → l.fn.self.held.items ≡ []) → l.self ≡ l.fn.self;
   written : (events : List Event) × Writes l.fn.self l.read events l.self;
 }
 

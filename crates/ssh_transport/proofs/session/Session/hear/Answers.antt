@@ -1,4 +1,6 @@
-use Rattle.std.proofs.Common.{Ok, Some, refl, sym, subst}
+use Rattle.std.proofs.Common.{Ok, Some, refl, sym, ◌∙◌, subst}
+use Rattle.std.proofs.lemmas.Result.{err_from_is_err_and}
+use Rattle.ssh_wire.specs.declared.error.Error.TheVariants.{Memory}
 use Rattle.ssh_wire.specs.Reading.{Feeds}
 use Rattle.ssh_wire.specs.declared.read_id.IdProgress.{IdProgress}
 use Rattle.ssh_wire.specs.declared.read_id.IdProgress.TheVariants as progress
@@ -8,7 +10,8 @@ use Rattle.ssh_transport.proofs.Hearing.{settled_begun, settled_late, settled_no
 use Rattle.ssh_transport.specs.Handling.{IsOpen}
 use Rattle.ssh_transport.proofs.Hearing.{behind_heard}
 use Rattle.ssh_transport.specs.Hearing.{HearsLine}
-use Rattle.ssh_transport.proofs.Heard.{fed_as, line_begun, line_late}
+use Rattle.ssh_transport.proofs.Heard.{ends_by, fed_as, line_begun, line_late, no_memory_heard, silent_is}
+use Rattle.ssh_transport.proofs.Refusing.{which_error}
 use Rattle.ssh_transport.proofs.Opened.{heard_line, open_begun, open_late, open_not_yet}
 use Rattle.ssh_transport.proofs.session.Session.hear.Goals as goal
 use Rattle.ssh_transport.proofs.session.Session.hear.Goals.{then-is_first_due+in_ok-begin-in-Id, else-is_first_due}
@@ -41,3 +44,11 @@ returns-after-is_first_due-clause-line g c =
       | then-is_first_due+in_ok-begin-in-Id w ↦ subst (λ (x : Session). HearsLine c.args.self.now c.args.piece.now (Some c.in-Id.used) x) (sym w.self-is) (line_begun c.args.self.now w.begin.new.self c.feed.new.self c.args.piece.now c.in-Id.used c.is_first_due.result fed c.feed.ensures.short c.is_first_due.ensures w.if-is_first_due.true w.begin.ensures.line w.in_ok-begin-in-Id.ensures.begun)
       | else-is_first_due w ↦ subst (λ (x : Session). HearsLine c.args.self.now c.args.piece.now (Some c.in-Id.used) x) (sym w.self-is) (line_late c.args.self.now (record c.args.self.now { line = c.feed.new.self }) c.feed.new.self c.args.piece.now c.in-Id.used c.is_first_due.result fed c.feed.ensures.short c.is_first_due.ensures w.if-is_first_due.false refl)
     ]
+
+pub returns-in_err-feed-clause-ended : goal.returns-in_err-feed-clause-ended
+returns-in_err-feed-clause-ended g c = λ u e.
+    let p = err_from_is_err_and c.from_residual.result c.from_residual.ensures.1 in
+    absurd (no_memory_heard c.passes_others.result c.args.self.now.line c.args.piece.now c.in_err-feed.field-0.0 c.feed.new.self c.in_err-feed.ensures.fed (sym p.2 ∙ which_error c.from_residual.result p.0 Memory p.1 e))
+
+pub returns-in_err-begin-in-Id-clause-ended : goal.returns-in_err-begin-in-Id-clause-ended
+returns-in_err-begin-in-Id-clause-ended g c = λ u e. ends_by c.passes_others.result c.args.self.now.side c.args.self.now.line c.args.piece.now c.in_ok-feed.field-0 c.in-Id.used c.feed.new.self c.passes_others.ensures c.in-Id.is (u (silent_is _ (sym c.is_first_due.ensures ∙ c.if-is_first_due.true))) c.in_ok-feed.ensures.fed

@@ -1,0 +1,50 @@
+-- What a transport is once the payload that it lends is given back.
+use Rattle.std.specs.Prelude.{◌≡◌, true, false, ℕ, List, [], Option, Some, None, Result, Ok, Err, IfErr, IfOk, OnErr, OnOk}
+use Rattle.std.specs.Borrow.{Bor, Fml, MutBor}
+use Rattle.std.specs.Io.BufRead.{Rests}
+use mir.Syntax.{named}
+use Rattle.ssh_wire.specs.declared.error.Error.{Error}
+use Rattle.ssh_wire.specs.declared.error.Error.TheVariants.{Disconnect}
+use Rattle.ssh_kex.specs.Refusals.{Denies}
+use Rattle.ssh_kex.specs.Setting.{Says}
+use Rattle.ssh_kex.specs.declared.exchange.ServerHost.{ServerHost}
+use Rattle.ssh_rules.specs.Asking.{AsksFew, AsksWithin, PartCalls, RefusesAsking}
+use Rattle.ssh_rules.specs.Polling.{Polls, queued}
+use Rattle.ssh_rules.specs.Refusing.{RefusesPiece}
+use Rattle.ssh_rules.specs.Standing.{Standing, unfinished}
+use Rattle.ssh_transport.specs.contracts.transport.Transport.{the_row}
+
+-- the payload that is lent
+abbrev pub payload_in : Option (Bor (List ℕ)) → Option (List ℕ)
+payload_in None = None
+payload_in (Some payload) = Some payload.now
+
+-- a refusal that is lent
+abbrev pub IsRefusedWith : {A : Type 0} → Result A (Bor Error) → Error → Type 0
+IsRefusedWith {A} (Ok x) error = ⊥
+IsRefusedWith {A} (Err e) error = e.now ≡ error
+
+-- as if it were queued
+abbrev pub queued_by : Option (List ℕ) → Standing → Standing
+queued_by None t = t
+queued_by (Some payload) t = queued t payload
+
+-- What a call that lends the next payload leaves, when the loan is over. The parts were asked so often before and so often
+-- behind it.
+pub record PollsAs (says : Says) (denies : Denies) (untrusted : ServerHost → Type 0) (calls calls' : PartCalls)
+    (old : Standing) (result : Result (Option (Bor (List ℕ))) (Bor Error)) (new : Standing) : Type 0 where
+  pub dead : old.failed ≡ true → IsRefusedWith result Disconnect × (new ≡ old)
+  pub stays : (new.side ≡ old.side) × (new.config ≡ old.config)
+  pub lives : old.failed ≡ false → OnOk result (new.failed ≡ false)
+  pub ends : old.failed ≡ false → OnErr result ((new.failed ≡ true) × (unfinished new ≡ []))
+  pub unqueued : new.delivered ≡ old.delivered
+  pub polled : IfOk result (λ lent. Polls says old (payload_in lent) new)
+  pub refused : old.failed ≡ false → IfErr result (λ e. RefusesPiece says denies untrusted old [] e.now new)
+  pub asks : OnOk result (AsksWithin old.side old.state new.state calls calls')
+  pub few : IfOk result (λ lent. AsksFew says old (queued_by (payload_in lent) new) calls calls')
+  pub asks_refused : old.failed ≡ false → OnErr result (RefusesAsking says old [] new calls calls')
+
+abbrev pub LendsPoll : Says → Denies → (ServerHost → Type 0) → (calls calls' : PartCalls) → MutBor Standing
+    → Result (Option (Bor (List ℕ))) (Bor Error) → Fml
+LendsPoll says denies untrusted calls calls' s result =
+    Rests (the_row (record { mir = named 1; lft = [] })) s (PollsAs says denies untrusted calls calls' s.now result)
