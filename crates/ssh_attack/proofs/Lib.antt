@@ -1,0 +1,5 @@
+pub mod Lifting
+pub mod Stored
+pub mod Feeding
+pub mod Running
+pub mod Starting

@@ -1,0 +1,154 @@
+//! The run of two sides that are fed any bytes.
+
+ghost use Rattle.std.specs.Prelude.{◌≡◌, ◌⊎◌, Err, IfErr, IfOk, IfSome, Some};
+ghost use Rattle.ssh_wire.specs.declared.error.ConfigFault.{ConfigFault};
+ghost use Rattle.ssh_kex.specs.Parts.{KeepsAgreement, KeepsGroups, KeepsHosts};
+ghost use Rattle.ssh_rules.specs.Asking.{counted_by};
+ghost use Rattle.ssh_rules.specs.AttackCauses.{IsAttackedRun, parts_of};
+ghost use Rattle.ssh_rules.specs.Attacking.{AttacksEnd, AttacksSide, attacked_report, tells_by};
+ghost use Rattle.ssh_rules.specs.Valid as valid;
+ghost use Rattle.ssh_rules.specs.Valid.{first_config_fault};
+ghost use Rattle.ssh_attack.specs.AttackEnds.{end_of, none_asked};
+ghost use Rattle.ssh_wire.specs.declared.error.Error.TheVariants.{InvalidConfig, Memory};
+ghost use Rattle.ssh_wire.specs.declared.side.Side.TheVariants.{Client, Server};
+
+use crate::attack_end::AttackEnd;
+use rand_core::Rng;
+use ssh_kex::{Agreement, Config, GroupLookup, HostKeys, Parts};
+use ssh_rules::link::{AnswerList, AttackReport, AttackStep};
+use ssh_rules::sizes_are_u32;
+use ssh_transport::{Transport, config_fault};
+use ssh_wire::{ConfigFault, Error, Side};
+use std::alloc::{AllocError, Global};
+
+/// Both sides.
+#[derive(Drop)]
+struct Attack<'c> {
+    client: AttackEnd<'c>,
+    server: AttackEnd<'c>,
+}
+
+/// Runs a client and a server by these steps; each is fed the bytes that a step says, whoever made them. What a step is
+/// answered stands in the report, and the run goes on.
+///
+/// InvalidConfig where a configuration falls, the client's tested first; Memory, also where a step answers it.
+pub fn run_attacked<A: Agreement, H: HostKeys, G: GroupLookup, R: Rng>(
+    alloc: Global,
+    client: &Config,
+    server: &Config,
+    client_parts: &mut Parts<A, H, G, R>,
+    server_parts: &mut Parts<A, H, G, R>,
+    steps: &[AttackStep],
+) -> Result<AttackReport, Error>
+    ensures configs { IfSome (first_config_fault (valid.config_fault Client client.now) (valid.config_fault Server server.now)) (λ f. result ≡ Err (InvalidConfig f)) }
+    ensures refused { IfErr result (λ e. (e ≡ Memory) ⊎ ((f : ConfigFault) × (first_config_fault (valid.config_fault Client client.now) (valid.config_fault Server server.now) ≡ Some f) × (e ≡ InvalidConfig f))) }
+    ensures run { IfOk result (IsAttackedRun (parts_of A.lawful A.obliging A.offered A.client_makes A.server_makes A.agrees A.refusals A.calls H.lawful H.obliging H.accepts H.trusts H.refused_sign H.refused_verify H.refused_check H.calls G.lawful G.obliging G.group G.refusals G.calls (record { client = client.now; server = server.now }) client_parts.old.agreement client_parts.new.agreement client_parts.old.hosts client_parts.new.hosts client_parts.old.groups client_parts.new.groups) (parts_of A.lawful A.obliging A.offered A.client_makes A.server_makes A.agrees A.refusals A.calls H.lawful H.obliging H.accepts H.trusts H.refused_sign H.refused_verify H.refused_check H.calls G.lawful G.obliging G.group G.refusals G.calls (record { client = client.now; server = server.now }) server_parts.old.agreement server_parts.new.agreement server_parts.old.hosts server_parts.new.hosts server_parts.old.groups server_parts.new.groups) client.now server.now steps.now) }
+    ensures client_agreement { KeepsAgreement A.lawful A.obliging A.offered A.refusals A.calls client_parts.old.agreement client_parts.new.agreement }
+    ensures client_hosts { KeepsHosts H.lawful H.obliging H.accepts H.trusts H.refused_sign H.refused_verify H.refused_check H.calls client_parts.old.hosts client_parts.new.hosts }
+    ensures client_groups { KeepsGroups G.lawful G.obliging G.group G.refusals G.calls client_parts.old.groups client_parts.new.groups }
+    ensures server_agreement { KeepsAgreement A.lawful A.obliging A.offered A.refusals A.calls server_parts.old.agreement server_parts.new.agreement }
+    ensures server_hosts { KeepsHosts H.lawful H.obliging H.accepts H.trusts H.refused_sign H.refused_verify H.refused_check H.calls server_parts.old.hosts server_parts.new.hosts }
+    ensures server_groups { KeepsGroups G.lawful G.obliging G.group G.refusals G.calls server_parts.old.groups server_parts.new.groups }
+{
+    sizes_are_u32(client);
+    sizes_are_u32(server);
+    if let Some(fault) = first_fault(client, server) {
+        return Err(Error::InvalidConfig(fault));
+    }
+    let mut attack = Attack {
+        client: AttackEnd::new(alloc, Transport::client(alloc, client)?),
+        server: AttackEnd::new(alloc, Transport::server(alloc, server)?),
+    };
+    let answers = attack.run(alloc, client_parts, server_parts, steps)?;
+    Ok(attack.report(alloc, answers)?)
+}
+
+impl<'c> Attack<'c> {
+    /// What both sides did, with these answers. Memory.
+    fn report(
+        self,
+        alloc: Global,
+        answers: Vec<Result<(), Error>>,
+    ) -> Result<AttackReport, AllocError>
+        ensures { IfOk result (λ report. report ≡ record { client = attacked_report (end_of self.entry.client none_asked); server = attacked_report (end_of self.entry.server none_asked); answers = answers.items }) }
+    {
+        Ok(AttackReport {
+            client: self.client.report(alloc)?,
+            server: self.server.report(alloc)?,
+            answers: AnswerList::new(answers),
+        })
+    }
+
+    /// Carries out all steps, and keeps what each was answered. Memory.
+    fn run<A: Agreement, H: HostKeys, G: GroupLookup, R: Rng>(
+        &mut self,
+        alloc: Global,
+        client_parts: &mut Parts<A, H, G, R>,
+        server_parts: &mut Parts<A, H, G, R>,
+        steps: &[AttackStep],
+    ) -> Result<Vec<Result<(), Error>>, Error>
+        ensures err { IfErr result (λ e. e ≡ Memory) }
+        ensures client { IfOk result (λ answers. AttacksSide (tells_by A.lawful A.obliging A.offered A.client_makes A.server_makes A.agrees A.refusals A.calls H.lawful H.obliging H.accepts H.trusts H.makes H.refused_sign H.refused_verify H.refused_check H.calls G.lawful G.obliging G.group G.refusals G.calls self.old.client.transport.config client_parts.old.agreement client_parts.new.agreement client_parts.old.hosts client_parts.new.hosts client_parts.old.groups client_parts.new.groups) Client steps.now answers.items (end_of self.old.client (counted_by A.calls H.calls G.calls client_parts.old.agreement client_parts.old.hosts client_parts.old.groups)) (end_of self.new.client (counted_by A.calls H.calls G.calls client_parts.new.agreement client_parts.new.hosts client_parts.new.groups))) }
+        ensures server { IfOk result (λ answers. AttacksSide (tells_by A.lawful A.obliging A.offered A.client_makes A.server_makes A.agrees A.refusals A.calls H.lawful H.obliging H.accepts H.trusts H.makes H.refused_sign H.refused_verify H.refused_check H.calls G.lawful G.obliging G.group G.refusals G.calls self.old.server.transport.config server_parts.old.agreement server_parts.new.agreement server_parts.old.hosts server_parts.new.hosts server_parts.old.groups server_parts.new.groups) Server steps.now answers.items (end_of self.old.server (counted_by A.calls H.calls G.calls server_parts.old.agreement server_parts.old.hosts server_parts.old.groups)) (end_of self.new.server (counted_by A.calls H.calls G.calls server_parts.new.agreement server_parts.new.hosts server_parts.new.groups))) }
+        ensures client_agreement { KeepsAgreement A.lawful A.obliging A.offered A.refusals A.calls client_parts.old.agreement client_parts.new.agreement }
+        ensures client_hosts { KeepsHosts H.lawful H.obliging H.accepts H.trusts H.refused_sign H.refused_verify H.refused_check H.calls client_parts.old.hosts client_parts.new.hosts }
+        ensures client_groups { KeepsGroups G.lawful G.obliging G.group G.refusals G.calls client_parts.old.groups client_parts.new.groups }
+        ensures server_agreement { KeepsAgreement A.lawful A.obliging A.offered A.refusals A.calls server_parts.old.agreement server_parts.new.agreement }
+        ensures server_hosts { KeepsHosts H.lawful H.obliging H.accepts H.trusts H.refused_sign H.refused_verify H.refused_check H.calls server_parts.old.hosts server_parts.new.hosts }
+        ensures server_groups { KeepsGroups G.lawful G.obliging G.group G.refusals G.calls server_parts.old.groups server_parts.new.groups }
+    {
+        let mut answers = Vec::with_capacity(alloc, steps.len())?;
+        for step in steps {
+            let answer = self.step(client_parts, server_parts, step);
+            if let Err(Error::Memory) = answer {
+                return Err(Error::Memory);
+            }
+            answers.push(answer)?;
+        }
+        Ok(answers)
+    }
+
+    /// Carries out one step.
+    fn step<A: Agreement, H: HostKeys, G: GroupLookup, R: Rng>(
+        &mut self,
+        client_parts: &mut Parts<A, H, G, R>,
+        server_parts: &mut Parts<A, H, G, R>,
+        step: &AttackStep,
+    ) -> Result<(), Error>
+        ensures client { (result ≡ Err Memory → ⊥) → AttacksEnd (tells_by A.lawful A.obliging A.offered A.client_makes A.server_makes A.agrees A.refusals A.calls H.lawful H.obliging H.accepts H.trusts H.makes H.refused_sign H.refused_verify H.refused_check H.calls G.lawful G.obliging G.group G.refusals G.calls self.old.client.transport.config client_parts.old.agreement client_parts.new.agreement client_parts.old.hosts client_parts.new.hosts client_parts.old.groups client_parts.new.groups) Client step.now result (end_of self.old.client (counted_by A.calls H.calls G.calls client_parts.old.agreement client_parts.old.hosts client_parts.old.groups)) (end_of self.new.client (counted_by A.calls H.calls G.calls client_parts.new.agreement client_parts.new.hosts client_parts.new.groups)) }
+        ensures server { (result ≡ Err Memory → ⊥) → AttacksEnd (tells_by A.lawful A.obliging A.offered A.client_makes A.server_makes A.agrees A.refusals A.calls H.lawful H.obliging H.accepts H.trusts H.makes H.refused_sign H.refused_verify H.refused_check H.calls G.lawful G.obliging G.group G.refusals G.calls self.old.server.transport.config server_parts.old.agreement server_parts.new.agreement server_parts.old.hosts server_parts.new.hosts server_parts.old.groups server_parts.new.groups) Server step.now result (end_of self.old.server (counted_by A.calls H.calls G.calls server_parts.old.agreement server_parts.old.hosts server_parts.old.groups)) (end_of self.new.server (counted_by A.calls H.calls G.calls server_parts.new.agreement server_parts.new.hosts server_parts.new.groups)) }
+        ensures client_agreement { KeepsAgreement A.lawful A.obliging A.offered A.refusals A.calls client_parts.old.agreement client_parts.new.agreement }
+        ensures client_hosts { KeepsHosts H.lawful H.obliging H.accepts H.trusts H.refused_sign H.refused_verify H.refused_check H.calls client_parts.old.hosts client_parts.new.hosts }
+        ensures client_groups { KeepsGroups G.lawful G.obliging G.group G.refusals G.calls client_parts.old.groups client_parts.new.groups }
+        ensures server_agreement { KeepsAgreement A.lawful A.obliging A.offered A.refusals A.calls server_parts.old.agreement server_parts.new.agreement }
+        ensures server_hosts { KeepsHosts H.lawful H.obliging H.accepts H.trusts H.refused_sign H.refused_verify H.refused_check H.calls server_parts.old.hosts server_parts.new.hosts }
+        ensures server_groups { KeepsGroups G.lawful G.obliging G.group G.refusals G.calls server_parts.old.groups server_parts.new.groups }
+    {
+        match step {
+            AttackStep::Submit(Side::Client, payload) => {
+                self.client.submit(client_parts, payload.as_slice())
+            }
+            AttackStep::Submit(Side::Server, payload) => {
+                self.server.submit(server_parts, payload.as_slice())
+            }
+            AttackStep::Feed(Side::Client, bytes) => self
+                .client
+                .feed(client_parts, bytes.as_slice()),
+            AttackStep::Feed(Side::Server, bytes) => self
+                .server
+                .feed(server_parts, bytes.as_slice()),
+            AttackStep::Rekey(Side::Client) => self.client.rekey(client_parts),
+            AttackStep::Rekey(Side::Server) => self.server.rekey(server_parts),
+        }
+    }
+}
+
+/// The first test that refuses one of two configurations, the client's tested first, if one does.
+fn first_fault(client: &Config, server: &Config) -> Option<ConfigFault>
+    ensures { result ≡ first_config_fault (valid.config_fault Client client.now) (valid.config_fault Server server.now) }
+{
+    match config_fault(Side::Client, client) {
+        Some(fault) => Some(fault),
+        None => config_fault(Side::Server, server),
+    }
+}

@@ -1,0 +1,135 @@
+//! One side that is fed any bytes.
+
+ghost use Rattle.std.specs.Prelude.{◌≡◌, ◌++◌, [], Err, IfOk, OnOk, length};
+ghost use Rattle.ssh_wire.specs.Forms.{AreBytes};
+
+use rand_core::Rng;
+use ssh_kex::{Agreement, GroupLookup, HostKeys, Parts};
+use ssh_rules::link::{ExchangeList, SideReport};
+use ssh_transport::Transport;
+use ssh_wire::{Blob, Error, Payload, PayloadList};
+use std::alloc::{AllocError, Global};
+
+/// One side, and what it did so far. All that it sent is its transport's output.
+#[derive(Drop)]
+pub(crate) struct AttackEnd<'c> {
+    pub(crate) transport: Transport<'c>,
+    /// How many bytes it was fed.
+    pub(crate) taken: u64,
+    pub(crate) delivered: Vec<Payload>,
+}
+
+impl<'c> AttackEnd<'c> {
+    ghost use Rattle.ssh_kex.specs.Parts.{KeepsAgreement, KeepsGroups, KeepsHosts};
+    ghost use Rattle.ssh_rules.specs.Asking.{counted_by};
+    ghost use Rattle.ssh_rules.specs.Attacking.{FeedsEnd, RekeysBy, SubmitsBy, tells_by};
+    ghost use Rattle.ssh_attack.specs.AttackEnds.{end_of};
+    ghost use Rattle.ssh_wire.specs.declared.error.Error.TheVariants.{Memory};
+
+    /// A side that has sent its id line.
+    pub(crate) fn new(alloc: Global, transport: Transport<'c>) -> AttackEnd<'c>
+        ensures transport { result.transport ≡ transport.entry }
+        ensures taken { result.taken ≡ 0 }
+        ensures delivered { result.delivered.items ≡ [] }
+    {
+        AttackEnd {
+            transport,
+            taken: 0,
+            delivered: Vec::new(alloc),
+        }
+    }
+
+    /// Submits a payload.
+    pub(crate) fn submit<A: Agreement, H: HostKeys, G: GroupLookup, R: Rng>(
+        &mut self,
+        parts: &mut Parts<A, H, G, R>,
+        payload: &[u8],
+    ) -> Result<(), Error>
+        ensures submits { (result ≡ Err Memory → ⊥) → SubmitsBy self.old.transport.failed (tells_by A.lawful A.obliging A.offered A.client_makes A.server_makes A.agrees A.refusals A.calls H.lawful H.obliging H.accepts H.trusts H.makes H.refused_sign H.refused_verify H.refused_check H.calls G.lawful G.obliging G.group G.refusals G.calls self.old.transport.config parts.old.agreement parts.new.agreement parts.old.hosts parts.new.hosts parts.old.groups parts.new.groups) (end_of self.old (counted_by A.calls H.calls G.calls parts.old.agreement parts.old.hosts parts.old.groups)) payload.now result (end_of self.new (counted_by A.calls H.calls G.calls parts.new.agreement parts.new.hosts parts.new.groups)) }
+        ensures agreement { KeepsAgreement A.lawful A.obliging A.offered A.refusals A.calls parts.old.agreement parts.new.agreement }
+        ensures hosts { KeepsHosts H.lawful H.obliging H.accepts H.trusts H.refused_sign H.refused_verify H.refused_check H.calls parts.old.hosts parts.new.hosts }
+        ensures groups { KeepsGroups G.lawful G.obliging G.group G.refusals G.calls parts.old.groups parts.new.groups }
+    {
+        self.transport.submit(parts, payload)
+    }
+
+    /// Asks for new keys.
+    pub(crate) fn rekey<A: Agreement, H: HostKeys, G: GroupLookup, R: Rng>(
+        &mut self,
+        parts: &mut Parts<A, H, G, R>,
+    ) -> Result<(), Error>
+        ensures rekeys { (result ≡ Err Memory → ⊥) → RekeysBy self.old.transport.failed (tells_by A.lawful A.obliging A.offered A.client_makes A.server_makes A.agrees A.refusals A.calls H.lawful H.obliging H.accepts H.trusts H.makes H.refused_sign H.refused_verify H.refused_check H.calls G.lawful G.obliging G.group G.refusals G.calls self.old.transport.config parts.old.agreement parts.new.agreement parts.old.hosts parts.new.hosts parts.old.groups parts.new.groups) (end_of self.old (counted_by A.calls H.calls G.calls parts.old.agreement parts.old.hosts parts.old.groups)) result (end_of self.new (counted_by A.calls H.calls G.calls parts.new.agreement parts.new.hosts parts.new.groups)) }
+        ensures agreement { KeepsAgreement A.lawful A.obliging A.offered A.refusals A.calls parts.old.agreement parts.new.agreement }
+        ensures hosts { KeepsHosts H.lawful H.obliging H.accepts H.trusts H.refused_sign H.refused_verify H.refused_check H.calls parts.old.hosts parts.new.hosts }
+        ensures groups { KeepsGroups G.lawful G.obliging G.group G.refusals G.calls parts.old.groups parts.new.groups }
+    {
+        self.transport.rekey(parts)
+    }
+
+    /// Feeds it bytes. What it delivers is kept, also where it is refused.
+    pub(crate) fn feed<A: Agreement, H: HostKeys, G: GroupLookup, R: Rng>(
+        &mut self,
+        parts: &mut Parts<A, H, G, R>,
+        bytes: &[u8],
+    ) -> Result<(), Error>
+        ensures feeds { (result ≡ Err Memory → ⊥) → FeedsEnd (tells_by A.lawful A.obliging A.offered A.client_makes A.server_makes A.agrees A.refusals A.calls H.lawful H.obliging H.accepts H.trusts H.makes H.refused_sign H.refused_verify H.refused_check H.calls G.lawful G.obliging G.group G.refusals G.calls self.old.transport.config parts.old.agreement parts.new.agreement parts.old.hosts parts.new.hosts parts.old.groups parts.new.groups) (end_of self.old (counted_by A.calls H.calls G.calls parts.old.agreement parts.old.hosts parts.old.groups)) bytes.now result (end_of self.new (counted_by A.calls H.calls G.calls parts.new.agreement parts.new.hosts parts.new.groups)) }
+        ensures agreement { KeepsAgreement A.lawful A.obliging A.offered A.refusals A.calls parts.old.agreement parts.new.agreement }
+        ensures hosts { KeepsHosts H.lawful H.obliging H.accepts H.trusts H.refused_sign H.refused_verify H.refused_check H.calls parts.old.hosts parts.new.hosts }
+        ensures groups { KeepsGroups G.lawful G.obliging G.group G.refusals G.calls parts.old.groups parts.new.groups }
+    {
+        see_bytes(bytes);
+        let Some(taken) = self.taken.checked_add(bytes.len() as u64) else {
+            return Err(Error::Memory);
+        };
+        let failed = self.transport.failed();
+        let answer = self.transport.feed(parts, bytes);
+        self.taken = taken;
+        if !failed {
+            let delivered = self.transport.take_delivered();
+            keep(&mut self.delivered, delivered.into_vec())?;
+        }
+        answer
+    }
+
+    /// What it did. Memory.
+    pub(crate) fn report(self, alloc: Global) -> Result<SideReport, AllocError>
+        ensures { IfOk result (λ r. r ≡ record { wire = self.entry.transport.output; taken = self.entry.taken; delivered = self.entry.delivered.items; exchanges = self.entry.transport.state.records }) }
+    {
+        let exchanges = exchanges(alloc, &self.transport)?;
+        Ok(SideReport {
+            wire: Blob::new(self.transport.into_output()),
+            taken: self.taken,
+            delivered: PayloadList::new(self.delivered),
+            exchanges,
+        })
+    }
+}
+
+/// What the type of the bytes says.
+fn see_bytes(bytes: &[u8])
+    ensures { AreBytes bytes.now }
+{
+    let _length = bytes.len();
+}
+
+/// Keeps more payloads behind those that are kept. Memory.
+fn keep(kept: &mut Vec<Payload>, more: Vec<Payload>) -> Result<(), AllocError>
+    ensures { OnOk result (kept.new.items ≡ kept.old.items ++ more.items) }
+{
+    for payload in more {
+        kept.push(payload)?;
+    }
+    Ok(())
+}
+
+/// All finished exchanges, the first one first. Memory.
+#[tactic(auto, using(crate::proofs::Stored::one_stored))]
+fn exchanges(alloc: Global, transport: &Transport<'_>) -> Result<ExchangeList, AllocError>
+    ensures { IfOk result (λ list. list ≡ transport.now.state.records) }
+{
+    let mut exchanges = Vec::new(alloc);
+    for k in 0..transport.finished() {
+        exchanges.push(*transport.exchange(k + 1))?;
+    }
+    Ok(ExchangeList::new(exchanges))
+}
