@@ -59,7 +59,7 @@ fn script_of(alloc: Global, cipher: &str, mac: &str) -> io::Result<Option<Script
     let text = format!(in alloc;
         "set client cipher {cipher}\nset server cipher {cipher}\nset client mac {mac}\nset server mac {mac}\n"
     )?;
-    match parse_script(alloc, text.as_bytes()) {
+    match parse_script(alloc, false, text.as_bytes()) {
         Ok(script) => Ok(Some(script)),
         Err(_) => Ok(None),
     }

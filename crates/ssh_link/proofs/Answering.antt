@@ -1,13 +1,13 @@
 -- What is answered to a text that was read is what is answered to all that was left.
-use Rattle.std.proofs.Common.{◌≡◌, ℕ, ◌<◌, ◌≤◌, inl, inr, true, nat_lt, List, [], ◌++◌, length, Option, Some, None, Err, refl, sym, ap, subst, ◌∙◌, arith, append-nil, length-append}
+use Rattle.std.proofs.Common.{◌≡◌, ℕ, ◌<◌, ◌≤◌, inl, inr, Bool, true, false, nat_lt, List, [], ◌++◌, length, Option, Some, None, Err, refl, sym, ap, subst, ◌∙◌, arith, append-nil, length-append}
 use Rattle.std.proofs.lemmas.Bool.Decides.{nat_tests}
 use Rattle.std.specs.Str.{is_utf8, chars}
 use Rattle.std.proofs.lemmas.Bool.{cases_lt, cond-true}
 use lib.Utf8.{encode}
 use Rattle.ssh_wire.specs.declared.ssh_id.SshId.{SshId}
 use Rattle.ssh_run.specs.ClearRun.{IsWholeLine}
-use Rattle.ssh_link.specs.Program.{AnswersScript, AnswersLinkScript, AnswersText, AnswersLeft, client_id, server_id}
-use Rattle.ssh_script.specs.RunScript.{run_script}
+use Rattle.ssh_link.specs.Program.{AnswersAttackScript, AnswersScript, AnswersLinkScript, AnswersText, AnswersLeft, client_id, server_id}
+use Rattle.ssh_script.specs.RunScript.{link_script}
 use Rattle.ssh_link.specs.declared.command.ScriptCommand.{ScriptCommand}
 use Rattle.ssh_link.specs.declared.command.ScriptCommand.TheVariants as command
 use Rattle.ssh_script.specs.Script.{clear_script}
@@ -32,13 +32,14 @@ whole_server id e = subst IsWholeLine (sym e) server_whole
 too_long : (text : List ℕ) → 67108864 < length text → clear_script text ≡ Err (record { line = 0; kind = TooLong })
 too_long text h = let t : nat_lt 67108864 (length text) ≡ true = grind (arith, nat_tests) in cond-true _ _ _ t
 
-link_too_long : (text : List ℕ) → 67108864 < length text → run_script text ≡ Err (record { line = 0; kind = TooLong })
-link_too_long text h = let t : nat_lt 67108864 (length text) ≡ true = grind (arith, nat_tests) in cond-true _ _ _ t
+link_too_long : (attacked : Bool) (text : List ℕ) → 67108864 < length text → link_script attacked text ≡ Err (record { line = 0; kind = TooLong })
+link_too_long attacked text h = let t : nat_lt 67108864 (length text) ≡ true = grind (arith, nat_tests) in cond-true _ _ _ t
 
 -- two texts that are too long have one answer
 long_alike : (c : ScriptCommand) (text left : List ℕ) (answer : Answer) → 67108864 < length text → 67108864 < length left → AnswersText c text answer → AnswersText c left answer
 long_alike command.Clear text left answer h k right = subst (λ script. AnswersScript script answer) (too_long text h ∙ sym (too_long left k)) right
-long_alike command.Run text left answer h k right = subst (λ script. AnswersLinkScript script answer) (link_too_long text h ∙ sym (link_too_long left k)) right
+long_alike command.Run text left answer h k right = subst (λ script. AnswersLinkScript script answer) (link_too_long false text h ∙ sym (link_too_long false left k)) right
+long_alike command.Attack text left answer h k right = subst (λ script. AnswersAttackScript script answer) (link_too_long true text h ∙ sym (link_too_long true left k)) right
 
 none_left : (rest : List ℕ) (new : Option (List ℕ)) → new ≡ Some rest → new ≡ Some [] → rest ≡ []
 none_left rest new e h = cc

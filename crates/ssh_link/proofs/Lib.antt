@@ -5,3 +5,4 @@ pub mod PlanRuns
 pub mod FaultlessPlans
 pub mod RefusedPlans
 pub mod SmallGroups
+pub mod AttackedPlans

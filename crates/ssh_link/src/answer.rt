@@ -6,9 +6,10 @@ ghost use Rattle.ssh_wire.specs.declared.error.Error.TheVariants.{Memory};
 
 use crate::command::USAGE;
 use crate::status::{NO_COMMAND, REPORT_WRITTEN, RUN_REFUSED, SCRIPT_FAULTY};
-use ssh_rules::link::LinkReport;
+use ssh_rules::link::{AttackReport, LinkReport};
 use ssh_script::{
-    ClearReport, ScriptFault, print_clear, print_fault, print_refusal, print_report, print_summary,
+    ClearReport, ScriptFault, print_attack, print_clear, print_fault, print_refusal, print_report,
+    print_summary,
 };
 use ssh_wire::Error;
 use std::alloc::Global;
@@ -28,6 +29,8 @@ pub enum Answer {
     RanLink(LinkReport),
     /// The run of a link by generated steps went to its end.
     RanGen(LinkReport),
+    /// The run of two sides that were fed any bytes went to its end.
+    RanAttack(AttackReport),
 }
 
 /// How a call of the program ended.
@@ -40,6 +43,8 @@ pub struct MainEnd {
     pub clear: Option<ClearReport>,
     /// The report of a link, by a script or by generated steps, where its run went to its end.
     pub report: Option<LinkReport>,
+    /// The report of two sides that were fed any bytes, where their run went to its end.
+    pub attack: Option<AttackReport>,
     /// Why the run was refused.
     pub refused: Option<Error>,
     /// How the script breaks its grammar.
@@ -56,6 +61,7 @@ impl MainEnd {
             status,
             clear: None,
             report: None,
+            attack: None,
             refused: None,
             fault: None,
         }
@@ -73,6 +79,7 @@ impl MainEnd {
             Answer::Refused(error) => end.refused = Some(error),
             Answer::Ran(report) => end.clear = Some(report),
             Answer::RanLink(report) | Answer::RanGen(report) => end.report = Some(report),
+            Answer::RanAttack(report) => end.attack = Some(report),
         }
         end
     }
@@ -87,7 +94,9 @@ impl Answer {
             Answer::Usage => NO_COMMAND,
             Answer::Faulty(_) => SCRIPT_FAULTY,
             Answer::Refused(_) => RUN_REFUSED,
-            Answer::Ran(_) | Answer::RanLink(_) | Answer::RanGen(_) => REPORT_WRITTEN,
+            Answer::Ran(_) | Answer::RanLink(_) | Answer::RanGen(_) | Answer::RanAttack(_) => {
+                REPORT_WRITTEN
+            }
         }
     }
 
@@ -103,6 +112,7 @@ impl Answer {
             Answer::Ran(report) => print_clear(alloc, report),
             Answer::RanLink(report) => print_report(alloc, report),
             Answer::RanGen(report) => print_summary(alloc, report),
+            Answer::RanAttack(report) => print_attack(alloc, report),
         }
     }
 }

@@ -84,6 +84,8 @@ pub enum ScriptCommand {
     Clear,
     /// On a link.
     Run,
+    /// On two sides that are fed any bytes.
+    Attack,
 }
 
 /// The most turns that may be asked for.
@@ -110,6 +112,8 @@ fn command_named(word: &str) -> Option<Command>
         Some(Command::Script(ScriptCommand::Clear))
     } else if word == "run" {
         Some(Command::Script(ScriptCommand::Run))
+    } else if word == "attack" {
+        Some(Command::Script(ScriptCommand::Attack))
     } else {
         None
     }

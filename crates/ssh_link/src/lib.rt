@@ -15,13 +15,14 @@ pub use crate::adapters::{StdSink, StdSource};
 pub use crate::answer::MainEnd;
 pub use crate::command::Word;
 pub use crate::program::{exit_code, link_main};
-pub use crate::script_run::run_script;
+pub use crate::script_run::{run_attack, run_script};
 pub use crate::status::{
     NO_COMMAND, REPORT_WRITTEN, RUN_REFUSED, SCRIPT_FAULTY, SINK_FAILED, SOURCE_FAILED,
     WANT_OF_MEMORY, exit_statuses,
 };
+pub use ssh_attack::run_attacked;
 pub use ssh_run::{run_clear, run_link};
 pub use ssh_script::{
     ClearReport, ClearSide, ClearStep, Script, ScriptError, ScriptFault, ScriptKind, SideSetup,
-    parse_clear, parse_script, print_clear, print_report, print_summary,
+    parse_clear, parse_script, print_attack, print_clear, print_report, print_summary,
 };

@@ -5,9 +5,9 @@ ghost use Rattle.std.specs.Process.{exit_status};
 ghost use Rattle.ssh_wire.specs.Outside.{Rose, TakesAtMost, ReachesEnd};
 ghost use Rattle.ssh_wire.specs.declared.ssh_id.SshId.TheVariants.{Standard};
 ghost use Rattle.ssh_script.specs.Parsing.{IsRefusal};
-ghost use Rattle.ssh_link.specs.Program.{AreWords, IsCommand, IsReading, AnswersCommand, AnswersLeft, reads, IsAnswer, Shows, ShowsNone, IsWritten, answer_text, shown_clear, shown_report, shown_refused};
+ghost use Rattle.ssh_link.specs.Program.{AreWords, IsAttackable, IsCommand, IsReading, AnswersCommand, AnswersLeft, reads, IsAnswer, Shows, ShowsNone, IsWritten, answer_text, shown_attack, shown_clear, shown_report, shown_refused};
 ghost use Rattle.ssh_script.specs.Script.{clear_script, longest_script};
-ghost use Rattle.ssh_link.specs.Statuses.{no_command, source_failed, sink_failed, want_of_memory};
+ghost use Rattle.ssh_link.specs.Statuses.{no_command, report_written, source_failed, sink_failed, want_of_memory};
 ghost use Rattle.ssh_link.specs.declared.answer.Answer.{Answer};
 ghost use Rattle.ssh_link.specs.declared.stream.ReadError.TheVariants.{Failed, Memory};
 
@@ -59,6 +59,7 @@ pub fn link_main<S: Source, K: Sink>(
     ensures answered { result.status ≢ source_failed → result.status ≢ want_of_memory → (answer : Answer) × IsAnswer words.now (S.left source.old) answer × Shows answer result × IsWritten answer result.status (K.held sink.old) (K.held sink.new) (K.faults sink.old) (K.faults sink.new) }
     ensures run_end { OnSome result.clear (ReachesEnd (S.left source.old) (S.left source.new)) }
     ensures link_end { IsReading words.now → OnSome result.report (ReachesEnd (S.left source.old) (S.left source.new)) }
+    ensures attack_end { OnSome result.attack (ReachesEnd (S.left source.old) (S.left source.new)) }
     ensures refused_end { IsReading words.now → OnSome result.refused (ReachesEnd (S.left source.old) (S.left source.new)) }
     ensures source_failed { result.status ≡ source_failed → Rose (S.faults source.old) (S.faults source.new) }
     ensures silent { (result.status ≡ source_failed) ⊎ (result.status ≡ want_of_memory) → ShowsNone result × (K.held sink.new ≡ K.held sink.old) }
@@ -69,6 +70,7 @@ pub fn link_main<S: Source, K: Sink>(
     ensures sink_unfailed { result.status ≢ sink_failed → K.faults sink.new ≡ K.faults sink.old }
     ensures unread { ¬ (IsReading words.now) → S.left source.new ≡ S.left source.old }
     ensures bounded { TakesAtMost (longest_script + 1) (S.left source.old) (S.left source.new) }
+    ensures attacked { IsAttackable words.now (S.left source.old) → result.status ≢ source_failed → result.status ≢ sink_failed → (result.status ≡ report_written) ⊎ (result.status ≡ want_of_memory) }
 {
     let Some(command) = command_of(words) else {
         return write_answer(sink, Answer::Usage, USAGE);
@@ -90,6 +92,7 @@ fn command_answer<S: Source>(
     ensures answer { IfOk result (λ answer. AnswersCommand command (S.left source.old) answer) }
     ensures run_end { IfOk result (λ answer. OnSome (shown_clear answer) (ReachesEnd (S.left source.old) (S.left source.new))) }
     ensures link_end { IfOk result (λ answer. reads command ≡ true → OnSome (shown_report answer) (ReachesEnd (S.left source.old) (S.left source.new))) }
+    ensures attack_end { IfOk result (λ answer. OnSome (shown_attack answer) (ReachesEnd (S.left source.old) (S.left source.new))) }
     ensures refused_end { IfOk result (λ answer. reads command ≡ true → OnSome (shown_refused answer) (ReachesEnd (S.left source.old) (S.left source.new))) }
     ensures failed { IfErr result (λ e. e ≡ Failed → Rose (S.faults source.old) (S.faults source.new) × (reads command ≡ true)) }
     ensures unfailed { result ≢ Err Failed → S.faults source.new ≡ S.faults source.old }
@@ -111,6 +114,7 @@ fn read_answer<S: Source>(
     ensures answer { IfOk result (λ answer. AnswersLeft command (S.left source.old) answer) }
     ensures run_end { IfOk result (λ answer. OnSome (shown_clear answer) (ReachesEnd (S.left source.old) (S.left source.new))) }
     ensures link_end { IfOk result (λ answer. OnSome (shown_report answer) (ReachesEnd (S.left source.old) (S.left source.new))) }
+    ensures attack_end { IfOk result (λ answer. OnSome (shown_attack answer) (ReachesEnd (S.left source.old) (S.left source.new))) }
     ensures refused_end { IfOk result (λ answer. OnSome (shown_refused answer) (ReachesEnd (S.left source.old) (S.left source.new))) }
     ensures failed { IfErr result (λ e. e ≡ Failed → Rose (S.faults source.old) (S.faults source.new)) }
     ensures unfailed { result ≢ Err Failed → S.faults source.new ≡ S.faults source.old }

@@ -1,19 +1,19 @@
 //! What a command answers to the text of a script, or to a seed.
 
-ghost use Rattle.std.specs.Prelude.{◌≡◌, Ok, IfOk, IfErr};
+ghost use Rattle.std.specs.Prelude.{◌≡◌, Ok, IfOk, IfErr, true, false};
 ghost use Rattle.ssh_wire.specs.declared.ssh_id.SshId.TheVariants.{Standard};
 ghost use Rattle.ssh_script.specs.Parsing.{IsRefusal as IsScriptRefusal};
 ghost use Rattle.ssh_script.specs.Plans.{HasSmallGroups};
 ghost use Rattle.ssh_script.specs.Generated.{generated_plan};
-ghost use Rattle.ssh_link.specs.Program.{AnswersGen, AnswersSteps, AnswersScript, AnswersLinkScript, AnswersPlan, AnswersText, IsRefusal};
+ghost use Rattle.ssh_link.specs.Program.{AnswersAttack, AnswersAttackScript, AnswersGen, AnswersSteps, AnswersScript, AnswersLinkScript, AnswersPlan, AnswersText, IsRefusal};
 ghost use Rattle.ssh_script.specs.Script.{clear_script};
-ghost use Rattle.ssh_script.specs.RunScript.{run_script};
+ghost use Rattle.ssh_script.specs.RunScript.{link_script};
 ghost use Rattle.ssh_vectors.specs.Primes.{IsLawful};
 ghost use Rattle.ssh_link.specs.declared.stream.ReadError.TheVariants.{Memory};
 
 use crate::answer::Answer;
 use crate::command::ScriptCommand;
-use crate::script_run::run_script;
+use crate::script_run::{run_attack, run_script};
 use crate::stream::ReadError;
 use ssh_run::run_clear;
 use ssh_script::{ClearStep, Script, ScriptError, generated_script, parse_clear, parse_script};
@@ -32,6 +32,7 @@ pub(crate) fn text_answer(
     match command {
         ScriptCommand::Clear => clear_answer(alloc, text),
         ScriptCommand::Run => link_answer(alloc, text),
+        ScriptCommand::Attack => attack_answer(alloc, text),
     }
 }
 
@@ -78,23 +79,35 @@ fn standard_id(alloc: Global, text: &str) -> Result<SshId, AllocError>
 /// What is answered to a script of the command `run`.
 #[tactic(auto, using(crate::proofs::SmallGroups::script_lawful))]
 fn link_answer(alloc: Global, text: Vec<u8>) -> Result<Answer, ReadError>
-    ensures answer { IfOk result (λ answer. AnswersLinkScript (run_script text.items) answer) }
+    ensures answer { IfOk result (λ answer. AnswersLinkScript (link_script false text.items) answer) }
     ensures err { IfErr result (λ e. e ≡ Memory) }
 {
-    match take_script(alloc, text) {
+    match take_script(alloc, false, text) {
         Ok(script) => script_answer(alloc, script),
         Err(ScriptError::Fault(fault)) => Ok(Answer::Faulty(fault)),
         Err(ScriptError::Memory) => Err(ReadError::Memory),
     }
 }
 
-/// The script. The text is freed before it is run.
-fn take_script(alloc: Global, text: Vec<u8>) -> Result<Script, ScriptError>
-    ensures read { IfOk result (λ script. run_script text.items ≡ Ok script) }
-    ensures small { IfOk result HasSmallGroups }
-    ensures fault { IfErr result (λ error. IsScriptRefusal (run_script text.items) error) }
+/// What is answered to a script of the command `attack`.
+fn attack_answer(alloc: Global, text: Vec<u8>) -> Result<Answer, ReadError>
+    ensures answer { IfOk result (λ answer. AnswersAttackScript (link_script true text.items) answer) }
+    ensures err { IfErr result (λ e. e ≡ Memory) }
 {
-    parse_script(alloc, text.as_slice())
+    match take_script(alloc, true, text) {
+        Ok(script) => attacked_answer(alloc, script),
+        Err(ScriptError::Fault(fault)) => Ok(Answer::Faulty(fault)),
+        Err(ScriptError::Memory) => Err(ReadError::Memory),
+    }
+}
+
+/// The script. The text is freed before it is run.
+fn take_script(alloc: Global, attacked: bool, text: Vec<u8>) -> Result<Script, ScriptError>
+    ensures read { IfOk result (λ script. link_script attacked text.items ≡ Ok script) }
+    ensures small { IfOk result HasSmallGroups }
+    ensures fault { IfErr result (λ error. IsScriptRefusal (link_script attacked text.items) error) }
+{
+    parse_script(alloc, attacked, text.as_slice())
 }
 
 /// What is answered to a seed and a number of turns.
@@ -121,6 +134,17 @@ fn script_answer(alloc: Global, script: Script) -> Result<Answer, ReadError>
 {
     match run_script(alloc, &script) {
         Ok(report) => Ok(Answer::RanLink(report)),
+        Err(error) => refused(error),
+    }
+}
+
+/// Runs the script of any bytes, which is freed before the report is printed.
+fn attacked_answer(alloc: Global, script: Script) -> Result<Answer, ReadError>
+    ensures answer { IfOk result (λ answer. AnswersAttack script answer) }
+    ensures err { IfErr result (λ e. e ≡ Memory) }
+{
+    match run_attack(alloc, &script) {
+        Ok(report) => Ok(Answer::RanAttack(report)),
         Err(error) => refused(error),
     }
 }

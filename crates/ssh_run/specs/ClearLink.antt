@@ -20,7 +20,7 @@ pub record IsFresh (id : SshId) (side : ClearEnd) : Type 0 where
   pub number : side.writer.number ≡ 0
   pub sealing : side.writer.sealing ≡ Clear
   pub line : side.receiver.id ≡ Waiting [] 0
-  pub reader : side.receiver.reader ≡ record { waiting = []; spent = 0; number = 0; count = 0; failed = false }
+  pub reader : side.receiver.reader ≡ record { waiting = []; spent = 0; number = 0; count = 0; failed = false; handed = []; window = 0 }
   pub delivered : side.receiver.delivered.items ≡ []
   pub taken : side.taken ≡ 0
 

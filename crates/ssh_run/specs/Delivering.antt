@@ -27,7 +27,7 @@ pub record DeliversOne (old new : Reader) (delivered delivered' : List (List ℕ
 pub record DeliversNone (old new : Reader) (delivered delivered' : List (List ℕ)) : Type 0 where
   pub front : front_of Clear old.number old.waiting ≡ Unfinished
   pub live : old.failed ≡ false
-  pub same : new ≡ old
+  pub same : new ≡ record old { handed = [] }
   pub delivers : delivered' ≡ delivered
 
 -- the reader has failed, or refuses what stands at the front

@@ -1,16 +1,16 @@
 -- The sizes of groups that a script sets are at most 65536.
-use Rattle.std.proofs.Common.{◌≡◌, ℕ, ◌+◌, ◌≤◌, Bool, true, false, if◌then◌else◌, nat_lt, List, [], ◌∷◌, codes, Option, Some, None, Result, Ok, Err, refl, sym, subst, arith}
+use Rattle.std.proofs.Common.{◌≡◌, ℕ, ◌+◌, ◌≤◌, Bool, true, false, if◌then◌else◌, nat_lt, List, [], ◌∷◌, ◌++◌, codes, Option, Some, None, Result, Ok, Err, refl, sym, subst, arith}
 use Rattle.std.proofs.lemmas.Bool.Decides.{nat_tests}
 use Rattle.std.specs.Option.{option_map}
 use Rattle.std.specs.Str.{bytes_eq}
 use Rattle.ssh_wire.specs.declared.side.Side.{Side}
 use Rattle.ssh_wire.specs.declared.side.Side.TheVariants.{Client, Server}
 use Rattle.ssh_kex.specs.declared.group.GexParams.{GexParams}
+use Rattle.ssh_rules.specs.declared.link.AttackStep.{AttackStep}
 use Rattle.ssh_rules.specs.declared.link.Step.{Step}
-use Rattle.ssh_rules.specs.declared.link.Step.TheVariants.{Submit, Deliver}
 use Rattle.ssh_script.specs.Plans.{Plan, HasSmallGroups, HasSmallSizes}
-use Rattle.ssh_script.specs.RunScript.{all_three, both, first_plan, form_makes, from_three, from_two, from_word, plan_from, plan_then, part_of, rekey_by, run_form, run_line, set_before, set_by, set_server, set_side, set_words, setting_of, settle_of, size_from, size_of, sizes, with_default_key, with_limits, with_refusal, with_step}
-use Rattle.ssh_script.specs.Script.{hex_of, is_comment, number_of, pieces, side_of, words_of}
+use Rattle.ssh_script.specs.RunScript.{all_three, attack_step, both, first_plan, form_makes, from_three, from_two, from_word, link_form, link_line, plan_from, plan_then, part_of, run_step, set_before, set_by, set_server, set_side, set_words, setting_of, size_from, size_of, sizes, with_attack, with_default_key, with_limits, with_refusal, with_step}
+use Rattle.ssh_script.specs.Script.{is_comment, number_of, pieces, side_of, words_of}
 use Rattle.ssh_script.specs.declared.script.ScriptKind.{ScriptKind}
 use Rattle.ssh_script.specs.declared.setting.Part.{Part}
 use Rattle.ssh_script.specs.declared.setting.Part.TheVariants as part
@@ -128,33 +128,35 @@ set_small [] p p' h e = cc
 set_small (side ∷ []) p p' h e = cc
 set_small (side ∷ what ∷ words) p p' h e = by_small (side_of side) (setting_of what) words p p' h e
 
-before_small : (steps : List Step) (words : List (List ℕ)) (p p' : Plan) → HasSmallGroups p → set_before steps words p ≡ Some p' → HasSmallGroups p'
-before_small [] words p p' h e = set_small words p p' h e
-before_small (step ∷ steps) words p p' h e = cc
+before_small : (steps : List Step) (attacks : List AttackStep) (words : List (List ℕ)) (p p' : Plan) → HasSmallGroups p → set_before steps attacks words p ≡ Some p' → HasSmallGroups p'
+before_small [] [] words p p' h e = set_small words p p' h e
+before_small [] (step ∷ steps) words p p' h e = cc
+before_small (step ∷ steps) attacks words p p' h e = cc
 
-step_small : (o : Option Step) (p p' : Plan) → HasSmallGroups p → form_makes (option_map (with_step p) o) ≡ Ok p' → HasSmallGroups p'
-step_small None p p' h e = cc
-step_small (Some step) p p' h e = let same : with_step p step ≡ p' = cc in subst HasSmallGroups same (record { client = h.client; server = h.server })
+step_small : (r : Result Step ScriptKind) (p p' : Plan) → HasSmallGroups p → with_step p r ≡ Ok p' → HasSmallGroups p'
+step_small (Err kind) p p' h e = cc
+step_small (Ok step) p p' h e = let q : record p { steps = p.steps ++ step ∷ [] } ≡ p' = cc in subst HasSmallGroups q (record { client = h.client; server = h.server })
 
-form_small : (p : Plan) (word : List ℕ) (words : List (List ℕ)) (p' : Plan) → HasSmallGroups p → run_form p word words ≡ Ok p' → HasSmallGroups p'
-form_small p word words p' h e =
-    if_ok HasSmallGroups (bytes_eq word (codes "set")) _ _ p' (some_ok HasSmallGroups (set_before p.steps words p) p' (before_small p.steps words p p' h))
-    (if_ok HasSmallGroups (bytes_eq word (codes "submit")) _ _ p' (step_small (from_two Submit side_of hex_of words) p p' h)
-    (if_ok HasSmallGroups (bytes_eq word (codes "deliver")) _ _ p' (step_small (from_two Deliver side_of number_of words) p p' h)
-    (if_ok HasSmallGroups (bytes_eq word (codes "rekey")) _ _ p' (step_small (from_word (λ (w : List ℕ). rekey_by (side_of w)) words) p p' h)
-    (if_ok HasSmallGroups (bytes_eq word (codes "settle")) _ _ p' (step_small (settle_of words) p p' h) (λ f. cc))))) e
+attack_small : (r : Result AttackStep ScriptKind) (p p' : Plan) → HasSmallGroups p → with_attack p r ≡ Ok p' → HasSmallGroups p'
+attack_small (Err kind) p p' h e = cc
+attack_small (Ok step) p p' h e = let q : record p { attack = p.attack ++ step ∷ [] } ≡ p' = cc in subst HasSmallGroups q (record { client = h.client; server = h.server })
 
-line_small : (words : List (List ℕ)) (p p' : Plan) → HasSmallGroups p → run_line p words ≡ Ok p' → HasSmallGroups p'
-line_small [] p p' h e = let same : p ≡ p' = cc in subst HasSmallGroups same h
-line_small (word ∷ words) p p' h e = if_ok HasSmallGroups (is_comment word) _ _ p' (λ f. let same : p ≡ p' = cc in subst HasSmallGroups same h) (form_small p word words p' h) e
+form_small : (attacked : Bool) (p : Plan) (word : List ℕ) (words : List (List ℕ)) (p' : Plan) → HasSmallGroups p → link_form attacked p word words ≡ Ok p' → HasSmallGroups p'
+form_small attacked p word words p' h e =
+    if_ok HasSmallGroups (bytes_eq word (codes "set")) _ _ p' (some_ok HasSmallGroups (set_before p.steps p.attack words p) p' (before_small p.steps p.attack words p p' h))
+    (if_ok HasSmallGroups attacked _ _ p' (attack_small (attack_step word words) p p' h) (step_small (run_step word words) p p' h)) e
 
-lines_small : (lines : List (List ℕ)) (n : ℕ) (p p' : Plan) → HasSmallGroups p → plan_from n p lines ≡ Ok p' → HasSmallGroups p'
-lines_small [] n p p' h e = let same : p ≡ p' = cc in subst HasSmallGroups same h
-lines_small (line ∷ lines) n p p' h e = by_line (run_line p (words_of line)) (line_small (words_of line) p) (λ q k. lines_small lines (n + 1) q p' k) e
+line_small : (attacked : Bool) (words : List (List ℕ)) (p p' : Plan) → HasSmallGroups p → link_line attacked p words ≡ Ok p' → HasSmallGroups p'
+line_small attacked [] p p' h e = let same : p ≡ p' = cc in subst HasSmallGroups same h
+line_small attacked (word ∷ words) p p' h e = if_ok HasSmallGroups (is_comment word) _ _ p' (λ f. let same : p ≡ p' = cc in subst HasSmallGroups same h) (form_small attacked p word words p' h) e
+
+lines_small : (attacked : Bool) (lines : List (List ℕ)) (n : ℕ) (p p' : Plan) → HasSmallGroups p → plan_from attacked n p lines ≡ Ok p' → HasSmallGroups p'
+lines_small attacked [] n p p' h e = let same : p ≡ p' = cc in subst HasSmallGroups same h
+lines_small attacked (line ∷ lines) n p p' h e = by_line (link_line attacked p (words_of line)) (line_small attacked (words_of line) p) (λ q k. lines_small attacked lines (n + 1) q p' k) e
   where
     by_line : (r : Result Plan ScriptKind) → ((q : Plan) → HasSmallGroups p → r ≡ Ok q → HasSmallGroups q)
-        → ((q : Plan) → HasSmallGroups q → plan_from (n + 1) q lines ≡ Ok p' → HasSmallGroups p')
-        → plan_then n r (λ (q : Plan). plan_from (n + 1) q lines) ≡ Ok p' → HasSmallGroups p'
+        → ((q : Plan) → HasSmallGroups q → plan_from attacked (n + 1) q lines ≡ Ok p' → HasSmallGroups p')
+        → plan_then n r (λ (q : Plan). plan_from attacked (n + 1) q lines) ≡ Ok p' → HasSmallGroups p'
     by_line (Err kind) f more e = cc
     by_line (Ok q) f more e = more q (f q h refl) e
 
@@ -168,7 +170,7 @@ first_small = record {
 }
 
 -- what all lines make of the first plan, with the key of a server that no line gives one
-pub taken_small : (text : List ℕ) (first q p : Plan) → first ≡ first_plan → plan_from 1 first (pieces 10 text) ≡ Ok q → p ≡ with_default_key q → HasSmallGroups p
-taken_small text first q p b e d =
-    let h = lines_small (pieces 10 text) 1 first q (subst HasSmallGroups (sym b) first_small) e in
+pub taken_small : (attacked : Bool) (text : List ℕ) (first q p : Plan) → first ≡ first_plan → plan_from attacked 1 first (pieces 10 text) ≡ Ok q → p ≡ with_default_key q → HasSmallGroups p
+taken_small attacked text first q p b e d =
+    let h = lines_small attacked (pieces 10 text) 1 first q (subst HasSmallGroups (sym b) first_small) e in
     subst HasSmallGroups (sym d) (record { client = h.client; server = record { preferred = h.server.preferred; group = h.server.group } })

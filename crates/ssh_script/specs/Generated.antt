@@ -61,6 +61,7 @@ generated_plan seed count = record (with_default_key first_plan) {
   client = with_limits (with_default_key first_plan).client generated_limit generated_limit;
   server = with_limits (with_default_key first_plan).server generated_limit generated_limit;
   steps = generated_steps seed count;
+  attack = [];
 }
 
 none-example : generated_steps 7 0 ≡ Settle ∷ []

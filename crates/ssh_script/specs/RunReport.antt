@@ -1,5 +1,5 @@
--- The text of a link's report.
-use Rattle.std.specs.Prelude.{◌≡◌, ℕ, ◌+◌, if◌then◌else◌, List, [], ◌∷◌, ◌++◌, length, codes, refl}
+-- The text of a link's report, and of an attacked run's.
+use Rattle.std.specs.Prelude.{◌≡◌, ℕ, ◌+◌, if◌then◌else◌, List, [], ◌∷◌, ◌++◌, length, codes, refl, Result, Ok, Err}
 use Rattle.std.specs.Fmt.{decimal, digits}
 use Rattle.std.specs.List.{join_with_byte}
 use Rattle.hex.specs.Hex.{encode_with}
@@ -11,9 +11,12 @@ use Rattle.ssh_packet.specs.Names.{cipher_name}
 use Rattle.ssh_negotiate.specs.Tables.{kex_text}
 use Rattle.ssh_negotiate.specs.declared.negotiation.Names.{Names}
 use Rattle.ssh_kex.specs.declared.exchange.FinishedExchange.{FinishedExchange}
+use Rattle.ssh_rules.specs.declared.link.AttackReport.{AttackReport}
 use Rattle.ssh_rules.specs.declared.link.SideReport.{SideReport}
 use Rattle.ssh_rules.specs.declared.link.LinkReport.{LinkReport}
-use Rattle.ssh_script.specs.Report.{side_name, hex_word, report_line, delivered_lines}
+use Rattle.ssh_wire.specs.declared.error.Error.{Error}
+use Rattle.ssh_wire.specs.declared.error.Error.TheVariants as errors
+use Rattle.ssh_script.specs.Report.{side_name, hex_word, report_line, delivered_lines, error_text}
 
 -- KEY: the type of the certificate where one was chosen
 abbrev pub key_word : Names → List ℕ
@@ -51,6 +54,28 @@ link_side_lines side report =
 -- the report of a link: the client, then the server
 abbrev pub link_report_text : LinkReport → List ℕ
 link_report_text report = link_side_lines Client report.client ++ link_side_lines Server report.server
+
+-- TEXT of an answer
+abbrev pub answer_word : Result (Unit {0}) Error → List ℕ
+answer_word (Ok u) = codes "ok"
+answer_word (Err e) = error_text e
+
+-- `answer I TEXT`
+abbrev pub answer_line : ℕ → Result (Unit {0}) Error → List ℕ
+answer_line k answer = (codes "answer " ++ decimal k) ++ 32 ∷ answer_word answer ++ 10 ∷ []
+
+-- one line for each answer, counted from k
+abbrev pub answer_lines : ℕ → List (Result (Unit {0}) Error) → List ℕ
+answer_lines k [] = []
+answer_lines k (answer ∷ answers) = answer_line k answer ++ answer_lines (k + 1) answers
+
+-- the report of an attacked run: the client, the server, then the answers
+abbrev pub attack_report_text : AttackReport → List ℕ
+attack_report_text report = link_side_lines Client report.client ++ link_side_lines Server report.server ++ answer_lines 1 report.answers
+
+answers-example : answer_lines 1 (Ok tt ∷ Err (errors.PacketSize 3) ∷ []) ≡ codes "answer 1 ok\nanswer 2 PacketSize 3\n"
+unfolding digits
+answers-example = refl
 
 side-example : link_side_lines Server (record { wire = 171 ∷ []; taken = 12; delivered = (1 ∷ []) ∷ []; exchanges = [] })
     ≡ codes "server wire ab\nserver taken 12\nserver finished 0\nserver delivered 01\n"

@@ -1,5 +1,5 @@
--- The text of a script of the command `run`: what each line says, and what it makes of those before it.
-use Rattle.std.specs.Prelude.{◌≡◌, ℕ, ◌+◌, ◌^◌, ◌||◌, nat_lt, Bool, ◌++◌, refl, if◌then◌else◌, List, [], ◌∷◌, length, find, codes, Option, Some, None, Result, Ok, Err}
+-- The text of a script of the commands `run` and `attack`: what each line says, and what it makes of those before it.
+use Rattle.std.specs.Prelude.{◌≡◌, ℕ, ◌+◌, ◌^◌, ◌||◌, nat_lt, Bool, true, false, ◌++◌, refl, if◌then◌else◌, List, [], ◌∷◌, length, find, codes, Option, Some, None, Result, Ok, Err}
 use Rattle.std.specs.List.{list_any}
 use Rattle.std.specs.Option.{option_map}
 use Rattle.std.specs.Str.{bytes_eq, is_utf8}
@@ -24,6 +24,8 @@ use Rattle.ssh_negotiate.specs.declared.preferred.HostKey.{HostKey}
 use Rattle.ssh_negotiate.specs.declared.preferred.HostCertificate.{HostCertificate}
 use Rattle.ssh_kex.specs.declared.config.Config.{Config}
 use Rattle.ssh_kex.specs.declared.group.GexParams.{GexParams}
+use Rattle.ssh_rules.specs.declared.link.AttackStep.{AttackStep}
+use Rattle.ssh_rules.specs.declared.link.AttackStep.TheVariants as fed
 use Rattle.ssh_rules.specs.declared.link.Step.{Step}
 use Rattle.ssh_rules.specs.declared.link.Step.TheVariants.{Submit, Deliver, Rekey, Settle}
 use Rattle.ssh_script.specs.Plans.{Plan}
@@ -246,42 +248,65 @@ set_words (side ∷ []) plan = None
 set_words (side ∷ what ∷ words) plan = set_by (side_of side) (setting_of what) words plan
 
 -- the words behind `set`: nothing is set behind a step
-abbrev pub set_before : List Step → List (List ℕ) → Plan → Option Plan
-set_before [] words plan = set_words words plan
-set_before (step ∷ steps) words plan = None
+abbrev pub set_before : List Step → List AttackStep → List (List ℕ) → Plan → Option Plan
+set_before [] [] words plan = set_words words plan
+set_before [] (step ∷ steps) words plan = None
+set_before (step ∷ steps) attacks words plan = None
 
 -- the words behind `settle`: none
 abbrev pub settle_of : List (List ℕ) → Option Step
 settle_of [] = Some Settle
 settle_of (word ∷ words) = None
 
-abbrev pub rekey_by : Option Side → Option Step
-rekey_by None = None
-rekey_by (Some side) = Some (Rekey side)
-
--- one step more
-abbrev pub with_step : Plan → Step → Plan
-with_step plan step = record plan { steps = plan.steps ++ step ∷ [] }
-
--- a form's words make a plan, or are wrong
-abbrev pub form_makes : Option Plan → Result Plan ScriptKind
+-- a form's words make something, or are wrong
+abbrev pub form_makes : {X : Type 0} → Option X → Result X ScriptKind
 form_makes None = Err Malformed
-form_makes (Some plan) = Ok plan
+form_makes (Some made) = Ok made
 
--- what a line makes of a plan, by its first word and those behind it
-abbrev pub run_form : Plan → List ℕ → List (List ℕ) → Result Plan ScriptKind
-run_form plan word words =
-    if bytes_eq word (codes "set") then form_makes (set_before plan.steps words plan)
-    else if bytes_eq word (codes "submit") then form_makes (option_map (with_step plan) (from_two Submit side_of hex_of words))
-    else if bytes_eq word (codes "deliver") then form_makes (option_map (with_step plan) (from_two Deliver side_of number_of words))
-    else if bytes_eq word (codes "rekey") then form_makes (option_map (with_step plan) (from_word (λ word. rekey_by (side_of word)) words))
-    else if bytes_eq word (codes "settle") then form_makes (option_map (with_step plan) (settle_of words))
+abbrev pub side_with : Side → List ℕ → Side × List ℕ
+side_with side bytes = (side, bytes)
+
+-- SIDE HEX
+abbrev pub side_bytes : List (List ℕ) → Option (Side × List ℕ)
+side_bytes words = from_two side_with side_of hex_of words
+
+-- a line of the command `run` that sets nothing, by its first word and those behind it
+abbrev pub run_step : List ℕ → List (List ℕ) → Result Step ScriptKind
+run_step word words =
+    if bytes_eq word (codes "submit") then form_makes (option_map (λ said. Submit said.0 said.1) (side_bytes words))
+    else if bytes_eq word (codes "deliver") then form_makes (from_two Deliver side_of number_of words)
+    else if bytes_eq word (codes "rekey") then form_makes (from_word (λ word. option_map Rekey (side_of word)) words)
+    else if bytes_eq word (codes "settle") then form_makes (settle_of words)
     else Err NotBuilt
 
+-- one of the command `attack`
+abbrev pub attack_step : List ℕ → List (List ℕ) → Result AttackStep ScriptKind
+attack_step word words =
+    if bytes_eq word (codes "submit") then form_makes (option_map (λ said. fed.Submit said.0 said.1) (side_bytes words))
+    else if bytes_eq word (codes "feed") then form_makes (option_map (λ said. fed.Feed said.0 said.1) (side_bytes words))
+    else if bytes_eq word (codes "rekey") then form_makes (from_word (λ word. option_map fed.Rekey (side_of word)) words)
+    else Err NotBuilt
+
+-- one step more
+abbrev pub with_step : Plan → Result Step ScriptKind → Result Plan ScriptKind
+with_step plan (Err kind) = Err kind
+with_step plan (Ok step) = Ok (record plan { steps = plan.steps ++ step ∷ [] })
+
+abbrev pub with_attack : Plan → Result AttackStep ScriptKind → Result Plan ScriptKind
+with_attack plan (Err kind) = Err kind
+with_attack plan (Ok step) = Ok (record plan { attack = plan.attack ++ step ∷ [] })
+
+-- what a line makes of a plan, by its first word and those behind it; the flag is that of the command `attack`
+abbrev pub link_form : Bool → Plan → List ℕ → List (List ℕ) → Result Plan ScriptKind
+link_form attacked plan word words =
+    if bytes_eq word (codes "set") then form_makes (set_before plan.steps plan.attack words plan)
+    else if attacked then with_attack plan (attack_step word words)
+    else with_step plan (run_step word words)
+
 -- what the words of a line make of a plan
-abbrev pub run_line : Plan → List (List ℕ) → Result Plan ScriptKind
-run_line plan [] = Ok plan
-run_line plan (word ∷ words) = if is_comment word then Ok plan else run_form plan word words
+abbrev pub link_line : Bool → Plan → List (List ℕ) → Result Plan ScriptKind
+link_line attacked plan [] = Ok plan
+link_line attacked plan (word ∷ words) = if is_comment word then Ok plan else link_form attacked plan word words
 
 -- line n, before the lines behind it: the first faulty line decides
 abbrev pub plan_then : ℕ → Result Plan ScriptKind → (Plan → Result Plan ScriptFault) → Result Plan ScriptFault
@@ -289,9 +314,10 @@ plan_then n (Err kind) more = Err (record { line = n; kind = kind })
 plan_then n (Ok plan) more = more plan
 
 -- what lines that count from n make of a plan
-abbrev pub plan_from : ℕ → Plan → List (List ℕ) → Result Plan ScriptFault
-plan_from n plan [] = Ok plan
-plan_from n plan (line ∷ lines) = plan_then n (run_line plan (words_of line)) (λ next. plan_from (n + 1) next lines)
+abbrev pub plan_from : Bool → ℕ → Plan → List (List ℕ) → Result Plan ScriptFault
+plan_from attacked n plan [] = Ok plan
+plan_from attacked n plan (line ∷ lines) =
+    plan_then n (link_line attacked plan (words_of line)) (λ next. plan_from attacked (n + 1) next lines)
 
 -- a side of which a script says nothing
 abbrev pub first_setup : List ℕ → ℕ → SideSetup
@@ -316,6 +342,7 @@ first_plan = record {
   client = first_setup (codes "SSH-2.0-sshlink_client") 1;
   server = first_setup (codes "SSH-2.0-sshlink_server") 2;
   steps = [];
+  attack = [];
 }
 
 -- the server's key where no line gives it one
@@ -331,19 +358,35 @@ completed (Err fault) = Err fault
 completed (Ok plan) = Ok (with_default_key plan)
 
 -- what a whole script asks for, or its fault
-abbrev pub run_script : List ℕ → Result Plan ScriptFault
-run_script text = if nat_lt longest_script (length text) then Err (record { line = 0; kind = TooLong }) else completed (plan_from 1 first_plan (pieces 10 text))
+abbrev pub link_script : Bool → List ℕ → Result Plan ScriptFault
+link_script attacked text =
+    if nat_lt longest_script (length text) then Err (record { line = 0; kind = TooLong })
+    else completed (plan_from attacked 1 first_plan (pieces 10 text))
 
 -- a step of each kind, behind a line that sets the client's seed
-plan-example : run_script (codes "set client seed 7\nrekey server\nsettle")
+plan-example : link_script false (codes "set client seed 7\nrekey server\nsettle")
     ≡ Ok (record (with_default_key first_plan) { client = record (first_plan.client) { seed = 7 }; steps = Rekey Server ∷ Settle ∷ [] })
 plan-example = refl
 
-behind-example : run_script (codes "settle\nset client seed 1") ≡ Err (record { line = 2; kind = Malformed })
+behind-example : link_script false (codes "settle\nset client seed 1") ≡ Err (record { line = 2; kind = Malformed })
 behind-example = refl
 
-again-example : run_script (codes "set server host ssh-rsa -\nset server hostcert ssh-rsa - -") ≡ Err (record { line = 2; kind = Malformed })
+again-example : link_script false (codes "set server host ssh-rsa -\nset server hostcert ssh-rsa - -") ≡ Err (record { line = 2; kind = Malformed })
 again-example = refl
 
-unknown-example : run_script (codes "fly") ≡ Err (record { line = 1; kind = NotBuilt })
+unknown-example : link_script false (codes "fly") ≡ Err (record { line = 1; kind = NotBuilt })
 unknown-example = refl
+
+-- the same of the command `attack`
+attack-example : link_script true (codes "feed server -\nrekey client")
+    ≡ Ok (record (with_default_key first_plan) { attack = fed.Feed Server [] ∷ fed.Rekey Client ∷ [] })
+attack-example = refl
+
+other-example : link_script true (codes "settle") ≡ Err (record { line = 1; kind = NotBuilt })
+other-example = refl
+
+fed-example : link_script false (codes "feed client -") ≡ Err (record { line = 1; kind = NotBuilt })
+fed-example = refl
+
+late-example : link_script true (codes "feed client -\nset client seed 1") ≡ Err (record { line = 2; kind = Malformed })
+late-example = refl

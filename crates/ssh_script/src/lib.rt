@@ -26,7 +26,7 @@ pub use crate::clear_report::print_clear;
 pub use crate::clear_script::parse_clear;
 pub use crate::fields::number;
 pub use crate::generated::generated_script;
-pub use crate::link_report::print_report;
+pub use crate::link_report::{print_attack, print_report};
 pub use crate::link_script::parse_script;
 pub use crate::refusal::{print_fault, print_refusal};
 pub use crate::report::{ClearReport, ClearSide};

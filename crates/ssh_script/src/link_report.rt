@@ -1,17 +1,18 @@
-//! The text of a link's report.
+//! The texts of a link's report and of an attacked run's.
 
 ghost use Rattle.std.specs.Prelude.{◌≡◌, ◌++◌, ◌∷◌, IfOk, IfErr, OnOk};
 ghost use Rattle.std.specs.List.{flat_map};
 ghost use Rattle.ssh_wire.specs.declared.error.Error.TheVariants.{Memory};
-ghost use Rattle.ssh_script.specs.RunReport.{key_word, names_words, exchange_line, exchange_lines, link_side_lines, link_report_text};
+ghost use Rattle.ssh_script.specs.RunReport.{key_word, names_words, exchange_line, exchange_lines, link_side_lines, link_report_text, answer_line, answer_lines, answer_word, attack_report_text};
 
-use crate::print::{push_decimal, push_hex, push_text};
+use crate::print::{push_decimal, push_hex, push_numbered, push_text};
+use crate::refusal::push_error;
 use crate::report_line::{
     push_delivered, push_hex_line, push_line_head, push_number_line, room_of,
 };
 use ssh_kex::FinishedExchange;
 use ssh_negotiate::Names;
-use ssh_rules::link::{LinkReport, SideReport};
+use ssh_rules::link::{AttackReport, LinkReport, SideReport};
 use ssh_wire::{Error, Side, put_u8};
 use std::alloc::Global;
 
@@ -29,6 +30,59 @@ pub fn print_report(alloc: Global, report: &LinkReport) -> Result<Vec<u8>, Error
     push_side(&mut text, Side::Client, &report.client)?;
     push_side(&mut text, Side::Server, &report.server)?;
     Ok(text)
+}
+
+/// The report's text of a run in which both sides were fed any bytes: what both did, as of `print_report`, and then what each
+/// step was answered, counted from 1. Memory where there is no room for it.
+pub fn print_attack(alloc: Global, report: &AttackReport) -> Result<Vec<u8>, Error>
+    ensures text { IfOk result (λ text. text.items ≡ attack_report_text report.now) }
+    ensures err { IfErr result (λ e. e ≡ Memory) }
+{
+    let mut text = Vec::with_capacity(
+        alloc,
+        text_room(&report.client).saturating_add(text_room(&report.server)),
+    )?;
+    push_side(&mut text, Side::Client, &report.client)?;
+    push_side(&mut text, Side::Server, &report.server)?;
+    push_answers(&mut text, report.answers.as_slice())?;
+    Ok(text)
+}
+
+/// One line for each answer; they count from 1.
+fn push_answers(out: &mut Vec<u8>, answers: &[Result<(), Error>]) -> Result<(), Error>
+    ensures ok { OnOk result (out.new.items ≡ out.old.items ++ answer_lines 1 answers.now) }
+    ensures err { IfErr result (λ e. e ≡ Memory) }
+{
+    let mut k = 1;
+    let mut rest = answers;
+    while let Some((answer, behind)) = rest.split_first() {
+        push_answer(out, k, answer)?;
+        k += 1;
+        rest = behind;
+    }
+    Ok(())
+}
+
+/// What step k was answered.
+fn push_answer(out: &mut Vec<u8>, k: u64, answer: &Result<(), Error>) -> Result<(), Error>
+    ensures ok { OnOk result (out.new.items ≡ out.old.items ++ answer_line k answer.now) }
+    ensures err { IfErr result (λ e. e ≡ Memory) }
+{
+    push_numbered(out, b"answer ", k)?;
+    put_u8(out, b' ')?;
+    push_answer_word(out, answer)?;
+    put_u8(out, b'\n')
+}
+
+/// `ok`, or the error.
+fn push_answer_word(out: &mut Vec<u8>, answer: &Result<(), Error>) -> Result<(), Error>
+    ensures ok { OnOk result (out.new.items ≡ out.old.items ++ answer_word answer.now) }
+    ensures err { IfErr result (λ e. e ≡ Memory) }
+{
+    match answer {
+        Ok(()) => push_text(out, b"ok"),
+        Err(error) => push_error(out, error),
+    }
 }
 
 /// More than the length of the longest line of an exchange.

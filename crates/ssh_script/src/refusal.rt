@@ -10,7 +10,7 @@ use ssh_wire::{AlgorithmKind, ConfigFault, EncodingFault, Error, NameList, put_u
 use std::alloc::Global;
 
 /// The refusal's name, and what it carries.
-fn push_error(out: &mut Vec<u8>, error: &Error) -> Result<(), Error>
+pub(crate) fn push_error(out: &mut Vec<u8>, error: &Error) -> Result<(), Error>
     ensures ok { OnOk result (out.new.items ≡ out.old.items ++ error_text error.now) }
     ensures err { IfErr result (λ e. e ≡ Memory) }
 {

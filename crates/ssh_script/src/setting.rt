@@ -108,10 +108,10 @@ pub(crate) fn set(
 ) -> Result<(), LineFault>
     requires { AreBlobsOf script.old.server.config.host given.old }
     ensures given { OnOk result (AreBlobsOf script.new.server.config.host given.new) }
-    ensures ok { OnOk result (set_before script.old.steps words.entry script.old ≡ Some script.new) }
-    ensures fault { IfErr result (AreWrong (set_before script.old.steps words.entry script.old)) }
+    ensures ok { OnOk result (set_before script.old.steps script.old.attack words.entry script.old ≡ Some script.new) }
+    ensures fault { IfErr result (AreWrong (set_before script.old.steps script.old.attack words.entry script.old)) }
 {
-    if !script.steps.is_empty() {
+    if !script.steps.is_empty() || !script.attack.is_empty() {
         return Err(LineFault::Malformed);
     }
     let (Some(side_word), Some(setting_word)) = (words.take(), words.take()) else {

@@ -6,7 +6,7 @@ ghost use Rattle.ssh_script.specs.RunScript.{first_setup, first_plan, with_defau
 
 use ssh_kex::{Config, GexParams};
 use ssh_negotiate::{HostKey, Preferred, ServerKeys};
-use ssh_rules::link::Step;
+use ssh_rules::link::{AttackStep, Step};
 use ssh_wire::{Algorithm, Blob, Error, Limits, SshId, Text};
 use std::alloc::{AllocError, Global};
 use std::marker::Model;
@@ -27,12 +27,15 @@ pub struct SideSetup {
     pub group_bits: u32,
 }
 
-/// A script of the command `run`.
+/// A script of the command `run` or `attack`.
 #[derive(Debug, Drop)]
 pub struct Script {
     pub client: SideSetup,
     pub server: SideSetup,
+    /// The steps of a script of `run`.
     pub steps: Vec<Step>,
+    /// The steps of a script of `attack`.
+    pub attack: Vec<AttackStep>,
 }
 
 impl Model for Script {
@@ -40,7 +43,7 @@ impl Model for Script {
 
     ghost Value = { Plan };
 
-    ghost view = { λ s. record { client = s.client; server = s.server; steps = s.steps.items } };
+    ghost view = { λ s. record { client = s.client; server = s.server; steps = s.steps.items; attack = s.attack.items } };
 }
 
 /// The blob of the server's host key where a script names none.
@@ -56,6 +59,7 @@ impl Script {
             client: SideSetup::new(alloc, "SSH-2.0-sshlink_client", 1)?,
             server: SideSetup::new(alloc, "SSH-2.0-sshlink_server", 2)?,
             steps: Vec::new(alloc),
+            attack: Vec::new(alloc),
         })
     }
 

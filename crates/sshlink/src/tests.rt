@@ -10,7 +10,7 @@ use std::test::Fail;
 
 /// The words, the calls at which source and sink fail, the sink's room, the status, and what is written.
 const FAULTS: [(&str, &[u64], &[u64], usize, u8, &str); 15] = [
-    ("attack", &[1], &[], 64, 2, "usage\n"),
+    ("attacks", &[1], &[], 64, 2, "usage\n"),
     ("hop", &[], &[1], 64, 5, ""),
     ("hop", &[], &[], 4, 5, "usag"),
     ("hop", &[], &[], 0, 5, ""),

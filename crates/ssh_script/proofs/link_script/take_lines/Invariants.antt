@@ -7,7 +7,7 @@ use Rattle.ssh_script.proofs.link_script.take_lines.Given as goal
 
 abbrev pub invariant-loop-rest : goal.invariant-loop-rest
 invariant-loop-rest l = record {
-  read : plan_from 1 l.initial.script (pieces 10 l.text) ≡ plan_from l.line_number l.script (lines_left l.rest);
+  read : plan_from l.attacked 1 l.initial.script (pieces 10 l.text) ≡ plan_from l.attacked l.line_number l.script (lines_left l.rest);
   small : l.line_number + size_left l.rest ≤ length l.text + 2;
   given : AreBlobsOf l.script.server.config.host l.given;
 }
