@@ -22,7 +22,7 @@ pub record IsOnItsWay (w w' : Writer) (r r' : Reader) (k : Sealing) (payload : L
   pub number : r'.number ≡ r.number
   pub live : r'.failed ≡ r.failed
 
-pub on_its_way : (w w' : Writer) (r r' : Reader) (k : Sealing) (payload piece : List ℕ) (stream : Stream) → 0 < length payload → IsInStep w r k → Sends w payload stream w' → (0 < length payload → IsAdmissible w.sealing (item_of w.sealing payload stream)) → piece ≡ w'.output → r' ≡ record r { waiting = r.waiting ++ piece; spent = r'.spent } → IsOnItsWay w w' r r' k payload stream
+pub on_its_way : (w w' : Writer) (r r' : Reader) (k : Sealing) (payload piece : List ℕ) (stream : Stream) → 0 < length payload → IsInStep w r k → Sends w payload stream w' → (0 < length payload → IsAdmissible w.sealing (item_of w.sealing payload stream)) → piece ≡ w'.output → r' ≡ record r { waiting = r.waiting ++ piece; handed = []; spent = r'.spent } → IsOnItsWay w w' r r' k payload stream
 on_its_way w w' r r' k payload piece stream some step sent admissible out push = record {
   some = some;
   step = step;

@@ -1,1 +1,4 @@
 pub mod Carrying
+pub mod Lines
+pub mod Joining
+pub mod FedAlike

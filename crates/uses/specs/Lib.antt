@@ -1,3 +1,5 @@
 pub mod InStep
 pub mod OneGroup
 pub mod OneGroupLaws
+pub mod Streams
+pub mod FedAlike

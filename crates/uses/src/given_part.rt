@@ -4,7 +4,9 @@ ghost use Rattle.std.specs.Prelude.{◌≡◌, ◌+◌, ◌<◌, ◌^◌, length
 ghost use Rattle.ssh_kex.specs.declared.parts.Refusal.TheVariants.{Memory};
 
 use rand_core::Rng;
-use ssh_kex::{Agreed, Agreement, DhGroup, HostKeys, Refusal, ServerHost, Started};
+use ssh_kex::{
+    Agreed, Agreement, DhGroup, GexParams, GroupLookup, HostKeys, Refusal, ServerHost, Started,
+};
 use ssh_mac::HashValue;
 use ssh_negotiate::{HostKey, kex};
 use ssh_wire::{Algorithm, Blob, Error};
@@ -239,4 +241,69 @@ impl HostKeys for GivenHosts {
     ghost obliging_trusts = { λ v s host key obliging. absurd obliging };
 
     ghost obliging_accepts = { λ v s host hash signature obliging. absurd obliging };
+}
+
+/// Answers the groups of exchanges, one after the other, whatever sizes are asked; the last one stays. No value of it is
+/// lawful.
+#[derive(Drop)]
+pub struct GivenGroups {
+    groups: Vec<DhGroup>,
+    at: usize,
+}
+
+impl GivenGroups {
+    /// One that has no groups yet, and answers want of memory.
+    pub fn new(alloc: Global) -> GivenGroups {
+        GivenGroups {
+            groups: Vec::new(alloc),
+            at: 0,
+        }
+    }
+
+    /// Adds the group of another exchange. Memory.
+    pub fn push(&mut self, group: DhGroup) -> Result<(), Error> {
+        self.groups.push(group)?;
+        Ok(())
+    }
+}
+
+impl GroupLookup for GivenGroups {
+    ghost use Rattle.std.specs.Prelude.{[]};
+
+    ghost group = { λ given sizes. record { prime = []; generator = [] } };
+
+    ghost lawful = { λ given setup. ⊥ };
+
+    ghost obliging = { λ given setup. ⊥ };
+
+    ghost refusals = { λ given. 0 };
+
+    ghost calls = { λ given. 0 };
+
+    fn lookup_dh_gex_group(
+        &mut self,
+        alloc: Global,
+        _gex_params: &GexParams,
+    ) -> Result<DhGroup, Refusal> {
+        let Some(group) = self.groups.get(self.at) else {
+            return Err(Refusal::Memory);
+        };
+        let given = DhGroup {
+            prime: again(alloc, group.prime.as_slice())?,
+            generator: again(alloc, group.generator.as_slice())?,
+        };
+        let next = self.at.saturating_add(1);
+        if next < self.groups.len() {
+            self.at = next;
+        }
+        Ok(given)
+    }
+
+    ghost canonical = { λ v s sizes lawful. absurd lawful };
+
+    ghost small = { λ v s lawful. absurd lawful };
+
+    ghost fitting = { λ v s obliging. absurd obliging };
+
+    ghost obliging_lawful = { λ v s obliging. obliging };
 }

@@ -2,15 +2,19 @@
 #![tactic(auto)]
 
 mod agreeing;
+mod attacked;
 mod ciphers;
 mod given_part;
 mod own_part;
 mod running;
 mod sealing;
+mod streams;
 
 pub use crate::agreeing::{Secrets, agree, agree_in_group};
+pub use crate::attacked::attack_twice;
 pub use crate::ciphers::ciphers_of_both;
-pub use crate::given_part::{GivenAgreement, GivenHosts};
+pub use crate::given_part::{GivenAgreement, GivenGroups, GivenHosts};
 pub use crate::own_part::OneGroup;
 pub use crate::running::{own_tag_accepted, there_and_back};
 pub use crate::sealing::{carry, carry_three};
+pub use crate::streams::read_stream;

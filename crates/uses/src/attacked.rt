@@ -1,0 +1,51 @@
+//! Two runs in which both sides are fed any bytes.
+
+ghost use Rattle.std.specs.Prelude.{◌≡◌, IfOk};
+ghost use Rattle.ssh_rules.specs.Attacked.{fed_to, first_refusal};
+ghost use Rattle.ssh_wire.specs.declared.side.Side.TheVariants.{Client, Server};
+ghost use Rattle.uses.specs.FedAlike.{IsByReader};
+
+use rand_core::Rng;
+use ssh_attack::run_attacked;
+use ssh_kex::{Agreement, Config, GroupLookup, HostKeys, Parts};
+use ssh_rules::link::{AttackReport, AttackStep};
+use ssh_rules::same_delivered;
+use ssh_wire::Error;
+use std::alloc::Global;
+
+/// Runs two sides of these configurations twice, by either list of steps, each time with parts of their own. What a side is
+/// delivered rests on the bytes that it was fed and on the exchanges that it recorded, and not on where the bytes were cut.
+///
+/// InvalidConfig where a configuration falls; Memory.
+pub fn attack_twice<A: Agreement, H: HostKeys, G: GroupLookup, R: Rng>(
+    alloc: Global,
+    client: &Config,
+    server: &Config,
+    client_parts: &mut Parts<A, H, G, R>,
+    server_parts: &mut Parts<A, H, G, R>,
+    other_client: &mut Parts<A, H, G, R>,
+    other_server: &mut Parts<A, H, G, R>,
+    steps: &[AttackStep],
+    other_steps: &[AttackStep],
+) -> Result<(AttackReport, AttackReport), Error>
+    ensures client { fed_to Client steps.now ≡ fed_to Client other_steps.now
+        → IfOk result (λ both. both.0.client.exchanges ≡ both.1.client.exchanges
+        → IsByReader (first_refusal Client steps.now both.0.answers) → IsByReader (first_refusal Client other_steps.now both.1.answers)
+        → both.0.client.delivered ≡ both.1.client.delivered) }
+    ensures server { fed_to Server steps.now ≡ fed_to Server other_steps.now
+        → IfOk result (λ both. both.0.server.exchanges ≡ both.1.server.exchanges
+        → IsByReader (first_refusal Server steps.now both.0.answers) → IsByReader (first_refusal Server other_steps.now both.1.answers)
+        → both.0.server.delivered ≡ both.1.server.delivered) }
+{
+    same_delivered::<A, H>();
+    let report = run_attacked(alloc, client, server, client_parts, server_parts, steps)?;
+    let other = run_attacked(
+        alloc,
+        client,
+        server,
+        other_client,
+        other_server,
+        other_steps,
+    )?;
+    Ok((report, other))
+}
