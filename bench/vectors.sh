@@ -15,6 +15,7 @@ build() {
   local program=$top/crates/$1/out/$1
   if [ ! -x "$program" ] || [ -n "$(find "$top/crates.txt" "$top"/crates -name out -prune -o \
     \( -name '*.rt' -o -name '*.antt' -o -name crates.txt \) -newer "$program" -print -quit)" ]; then
+    mkdir -p "$top/crates/$1/out"
     (cd "$top/crates/$1" && rt run </dev/null) >"$program.log" 2>&1
     touch -c "$program"
   fi
@@ -35,9 +36,9 @@ read_by() {
     echo "$2: no answer of $1"
   fi
   [ "$written" = "${written##*$'\n'}" ] || { echo "$2"; echo "${written%$'\n'*}"; }
-  # replay_check learns from the rows of what stood on a wire, and answers the two others
+  # replay_check learns from the rows of what stood on a wire, and answers the four others
   local rows='^[a-z]'
-  [ "$1" != replay_check ] || rows='^(agreed|carried) '
+  [ "$1" != replay_check ] || rows='^(agreed|carried|polled|damaged) '
   written=$(sed -E "/$rows/s/ = /&spoiled /" "$2" | "$top/crates/$1/out/$1")
   if [[ ! ${written##*$'\n'} =~ ^0\ passed,\ [1-9] ]]; then
     failed=$((failed + 1))

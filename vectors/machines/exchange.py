@@ -136,7 +136,7 @@ class Reader:
         for place, name in enumerate(items):
             if not name or not name.isascii():
                 raise encoding("CharacterEncoding")
-            if place >= 1025:
+            if place >= 1024:
                 raise encoding("Length")
         return items
 
@@ -232,7 +232,8 @@ class Names:
         read = Reader(payload[17:])
         own_kex = [n for n in config.preferred["kex"] if n not in EXTENSIONS]
         theirs = read.names()
-        self.kex, first_kex = self.choose("Kex", own_kex, theirs)
+        compared = [n for n in theirs if n not in EXTENSIONS]
+        self.kex, first_kex = self.choose("Kex", own_kex, compared)
         other = "server" if config.side == "client" else "client"
         requested = STRICT[config.side] in config.preferred["kex"]
         self.strict = requested and STRICT[other] in theirs or cause[0] == "strict"
@@ -379,12 +380,16 @@ class Machine:
         self.config, self.parts, self.cause = config, parts, cause
         self.is_client = config.side == "client"
         self.text = {"client_id": ids[0], "server_id": ids[1], config.side: config.kexinit()}
-        self.names, self.group, self.sizes, self.done, self.guess_ignored = None, None, None, False, False
+        self.names, self.group, self.sizes, self.done = None, None, None, False
+        self.ignore_guessed, self.guess_ignored = False, False
         self.state = self.created
 
     def step(self, payload, number):
         if payload is None:
             raise Refused("KexInit")
+        if self.ignore_guessed:
+            self.ignore_guessed, self.guess_ignored = False, True
+            return [], False
         return self.state(payload, number)
 
     def created(self, payload, number):
@@ -414,12 +419,6 @@ class Machine:
         self.value, self.state = self.parts.agreement.start(), self.reply_awaited
         return [bytes([message]) + string(self.value)]
 
-    def is_guess(self):
-        """Whether this message is dropped, which can happen once."""
-        dropped, self.ignore_guessed = self.ignore_guessed, False
-        self.guess_ignored |= dropped and not self.is_client
-        return dropped
-
     def expect(self, payload, message):
         if payload[:1] != bytes([message]):
             raise Refused("KexInit")
@@ -443,8 +442,6 @@ class Machine:
         return [bytes([31]) + b"".join(map(mpint, self.group))], False
 
     def value_awaited(self, payload, _):
-        if self.is_guess():
-            return [], False
         read = self.expect(payload, 32 if self.by_group else 30)
         client = read.string()
         read.end()
@@ -465,8 +462,6 @@ class Machine:
         return next((blob, blob) for k, blob in self.config.keys if is_compatible(k, self.names.key))
 
     def reply_awaited(self, payload, _):
-        if self.is_guess():
-            return [], False
         read = self.expect(payload, 33 if self.by_group else 31)
         self.host, server = read.string(), read.string()
         secret = self.parts.agreement.agree(self.names.kex, self.group, self.value, server, server)

@@ -10,9 +10,10 @@ one at least.
 It was written from RFC 4251 (forms), RFC 4253 (version lines, packets, KEXINIT, hash and keys), RFC 4419 (group exchange),
 RFC 5647 (padding under Galois counter mode), OpenSSH's strict key exchange and the order of refusals that this repository
 decided on, and not from its code. It keeps whole lists where the code keeps cursors. It can't encrypt: under keys it
-knows how long what a side writes is, and takes a packet that comes for one that nobody sealed. All that is drawn is zeros.
+knows how long what a side writes is. Under Galois counter mode it opens what comes; under another cipher it takes a packet
+that comes for one that nobody sealed. All that is drawn is zeros.
 
-`exchange.py` has the machines, `transport.py` the transport, and this file the rows.
+`exchange.py` has the machines, `transport.py` the transport, `galois.py` the cipher, and this file the rows.
 """
 
 import sys
@@ -158,15 +159,27 @@ def calls(words):
         return str(refused)
     found = []
     for call in asked:
-        name, _, argument = call.partition(":")
+        name, *given = call.split(":")
         try:
-            getattr(transport, name)(*([hexadecimal(argument)] if argument else []))
-            found.append("ok")
+            if name == "pieces":
+                pieces(transport, int(given[0]), hexadecimal(given[1]), found)
+            else:
+                found.append(getattr(transport, name)(*map(hexadecimal, given)) or "ok")
         except Refused as refused:
             found.append(str(refused))
     state = ["failed"] if transport.failed else ["inside"] if transport.inside() else []
     counts = (len(transport.waiting), transport.finished, transport.delivered, transport.written)
     return " ".join(found + state + [str(c) for c in counts])
+
+
+def pieces(transport, size, text, found):
+    """Takes the bytes in pieces, and polls behind each until none is delivered."""
+    for at in range(0, len(text), size):
+        if transport.take(text[at:at + size]) != str(len(text[at:at + size])):
+            raise Unmodelled("a piece that doesn't fit")
+        while (payload := transport.poll()) != "none":
+            found.append(payload)
+    found.append("none")
 
 
 KINDS = {"play": play, "calls": calls}

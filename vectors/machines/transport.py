@@ -1,12 +1,15 @@
 """The part of the model that is one side's transport (RFC 4253 sections 4.2, 7 and 9; OpenSSH's strict key exchange).
 `model.py` says what it is for."""
 
+import galois
 from exchange import LONGEST_PACKET, LONGEST_PAYLOAD, MACS, Machine, Refused, Unmodelled, late, names, packet_size
 
 # The messages of the first exchange under strict key exchange, by who sends them.
 ORDERS = {"client": ((20, 30, 21), (20, 34, 32, 21)), "server": ((20, 31, 21), (20, 31, 33, 21))}
 OTHER_LINES = 20
 LONGEST_LINE = 255
+# What is kept of the input at most: a packet length, the longest packet, the longest tag.
+LONGEST_INPUT = 4 + LONGEST_PACKET + 64
 
 
 def line_of(kind, text):
@@ -25,7 +28,7 @@ def judge_config(config, kind, text, limits):
         ("Limit", any(not 1 <= l <= 2 ** 30 for l in limits)),
         ("GroupSizes", not config.sizes[0] <= config.sizes[1] <= config.sizes[2]),
         ("KexNone", "none" in config.preferred["kex"]),
-        ("NameList", any(len(l) > 1025 for l in config.advertised()) or any(len(l) > 16384 for l in lists)),
+        ("NameList", any(len(l) > 1024 for l in config.advertised()) or any(len(l) > 16384 for l in lists)),
         ("HostBlob", any(len(b) > 65536 for b in blobs)),
     )
     for fault, holds in tests:
@@ -44,6 +47,7 @@ class Transport:
         self.finished, self.first = 0, None
         self.number, self.read_count, self.write_count = 0, 0, 0
         self.cipher, self.own_mac, self.peer_mac = "clear", "none", "none"
+        self.peer_nonce, self.peer_key = b"", b""
 
     def inside(self):
         return self.machine is not None or not self.finished
@@ -88,14 +92,34 @@ class Transport:
         if self.failed:
             raise Refused("Disconnect")
         self.waiting += piece
+        while self.next_delivered() is not None:
+            self.delivered += 1
+
+    def take(self, piece):
+        if self.failed:
+            raise Refused("Disconnect")
+        count = min(len(piece), LONGEST_INPUT - len(self.waiting))
+        self.waiting += piece[:count]
+        return str(count)
+
+    def poll(self):
+        if self.failed:
+            raise Refused("Disconnect")
+        payload = self.next_delivered()
+        return "none" if payload is None else payload.hex()
+
+    def next_delivered(self):
+        """Handles what waits up to a payload that is delivered: that, or nothing."""
         try:
             while self.peer_id is None and self.take_line():
                 pass
             while self.peer_id is not None:
                 payload = self.opened()
                 if payload is None:
-                    break
-                self.handle(payload)
+                    return None
+                if self.handle(payload):
+                    return payload
+            return None
         except Refused:
             self.failed, self.waiting = True, b""
             raise
@@ -136,9 +160,16 @@ class Transport:
             raise Refused(f"PacketSize({length})")
         if len(self.waiting) < 4 + length + tag:
             return None
+        if by_block:
+            raise Refused("PacketAuth")
+        packet, behind = self.waiting[4:4 + length], self.waiting[4 + length:]
         if not in_clear:
-            raise Refused("PacketAuth" if by_block else "DecryptionError")
-        packet, self.waiting = self.waiting[4:4 + length], self.waiting[4 + length:]
+            packet = galois.opened(self.peer_key, self.peer_nonce, self.waiting[:4], packet, behind[:tag])
+            if packet is None:
+                raise Refused("DecryptionError")
+            count = int.from_bytes(self.peer_nonce[4:], "big") + 1
+            self.peer_nonce = self.peer_nonce[:4] + (count % 2 ** 64).to_bytes(8, "big")
+        self.waiting = behind[tag:]
         padding = packet[0] if packet else 0
         if padding > length:
             raise Refused("IndexOutOfBounds")
@@ -150,7 +181,8 @@ class Transport:
         return payload
 
     def handle(self, payload):
-        message = payload[0]
+        """Whether it is delivered."""
+        message, delivers = payload[0], False
         if message == 1:
             raise Refused("Disconnect")
         machine = self.machine
@@ -170,11 +202,12 @@ class Transport:
         elif 5 <= message <= 7 or message >= 50:
             if self.inside() and not (self.finished and not machine.names):
                 raise Refused("Inconsistent")
-            self.delivered += 1
+            delivers = True
         else:
             raise Refused("Inconsistent")
         if not self.inside():
             self.judge_limits()
+        return delivers
 
     def carry(self, payload):
         machine = self.machine
@@ -188,6 +221,7 @@ class Transport:
         self.cipher = machine.names.cipher
         self.own_mac = machine.names.macs[self.config.side]
         self.peer_mac = machine.names.macs["client" if self.config.side == "server" else "server"]
+        self.peer_nonce, self.peer_key = machine.keys[self.config.side == "client"], machine.keys[2 + (self.config.side == "client")]
         if machine.names.strict:
             self.number = 0
         self.read_count = self.write_count = 0

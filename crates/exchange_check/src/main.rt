@@ -1,11 +1,12 @@
 //! Compares rows of values with what the public calls of the exchange answer (sizes, groups, secrets, canonical
-//! signatures, lengths of keys), the parts of the tests, and proved callers. The status is 0 where none failed and at least
-//! one passed.
+//! signatures, lengths of keys), the parts of the tests, proved callers, and links whose sides hold given secrets. The
+//! status is 0 where none failed and at least one passed.
 #![tactic(auto)]
 
 mod callers;
 mod forms;
 mod handed;
+mod joined;
 
 use std::process::ExitCode;
 use vector_rows::{Answers, Fault, Row, check};
@@ -28,7 +29,8 @@ impl Answers for Exchanges {
         Ok(
             forms::answer(kind, row, found)?
                 || handed::answer(kind, row, found)?
-                || callers::answer(kind, row, found)?,
+                || callers::answer(kind, row, found)?
+                || joined::answer(kind, row, found)?,
         )
     }
 }

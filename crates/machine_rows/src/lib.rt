@@ -8,4 +8,4 @@ mod transport;
 
 pub use crate::config::{config_of, key_of, keys_of, side_of, times, trusted_by};
 pub use crate::machine::{Machine, Progress};
-pub use crate::transport::{feed, rekey, submit};
+pub use crate::transport::{feed, poll_payload, rekey, submit, take_input};

@@ -6,6 +6,7 @@ use rand_core::Rng;
 use ssh_kex::{Agreement, GroupLookup, HostKeys, Parts};
 use ssh_transport::Transport;
 use ssh_wire::Error;
+use vector_rows::{Fault, say_shown};
 
 /// Feeds it a piece of the peer's bytes.
 pub fn feed<A: Agreement, H: HostKeys, G: GroupLookup, R: Rng>(
@@ -31,4 +32,26 @@ pub fn rekey<A: Agreement, H: HostKeys, G: GroupLookup, R: Rng>(
     parts: &mut Parts<A, H, G, R>,
 ) -> Result<(), Error> {
     transport.rekey(parts)
+}
+
+/// Lets it keep a piece of the peer's bytes: how many it has room for.
+pub fn take_input(transport: &mut Transport<'_>, piece: &[u8]) -> Result<usize, Error> {
+    transport.take_input(piece)
+}
+
+/// A copy of the payload that it lends next. Where there is none, a refusal is appended to what was found.
+pub fn poll_payload<A: Agreement, H: HostKeys, G: GroupLookup, R: Rng>(
+    transport: &mut Transport<'_>,
+    parts: &mut Parts<A, H, G, R>,
+    found: &mut String,
+) -> Result<Option<Vec<u8>>, Fault> {
+    let alloc = *found.allocator();
+    match transport.poll_payload(parts) {
+        Ok(Some(payload)) => Ok(Some(Vec::from_slice(alloc, payload)?)),
+        Ok(None) => Ok(None),
+        Err(refusal) => {
+            say_shown(found, refusal)?;
+            Ok(None)
+        }
+    }
 }

@@ -1,14 +1,13 @@
 //! The parts of a side that answer what was agreed.
 
 use crate::talk::Agreed;
-use ssh_kex::Parts;
-use ssh_vectors::TestGroups;
-use ssh_wire::Side;
+use ssh_kex::{DhGroup, Parts};
+use ssh_wire::{Blob, Side};
 use std::alloc::Global;
-use uses::{GivenAgreement, GivenHosts};
+use uses::{GivenAgreement, GivenGroups, GivenHosts};
 use vector_rows::{Fault, Words};
 
-pub(crate) type Given<'w> = Parts<GivenAgreement, GivenHosts, TestGroups, Words<'w>>;
+pub(crate) type Given<'w> = Parts<GivenAgreement, GivenHosts, GivenGroups, Words<'w>>;
 
 /// Parts that answer what these exchanges agreed on, one after the other, and draw these words.
 pub(crate) fn parts_of<'w>(
@@ -20,7 +19,7 @@ pub(crate) fn parts_of<'w>(
     let mut parts = Parts {
         agreement: GivenAgreement::new(alloc),
         hosts: GivenHosts::new(alloc),
-        groups: TestGroups { bits: 0 },
+        groups: GivenGroups::new(alloc),
         rng: Words::of(words),
     };
     for agreed in exchanges {
@@ -28,6 +27,12 @@ pub(crate) fn parts_of<'w>(
         parts
             .hosts
             .push(Vec::from_slice(alloc, agreed.signature.as_slice())?)?;
+        if let Some(group) = &agreed.group {
+            parts.groups.push(DhGroup {
+                prime: Blob::copy_of(alloc, group.prime.as_slice())?,
+                generator: Blob::copy_of(alloc, group.generator.as_slice())?,
+            })?;
+        }
     }
     Ok(parts)
 }

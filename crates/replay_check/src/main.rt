@@ -4,7 +4,10 @@
 #![tactic(auto)]
 
 mod carried;
+mod damaged;
 mod given;
+mod place;
+mod polled;
 mod replay;
 mod talk;
 
@@ -19,15 +22,16 @@ struct Connections {
 }
 
 impl Answers for Connections {
-    /// What stands on the wire is learned; keys, and what is left over, are for the check of packets.
+    /// What stands on the wire is learned; what is left over is for the check of packets.
     fn passes_over(&mut self, kind: &str, row: &mut Row<'_>, wanted: &str) -> Result<bool, Fault> {
-        Ok(kind == "keys" || kind == "left" || self.talk.learn(kind, row, wanted)?)
+        Ok(kind == "left" || self.talk.learn(kind, row, wanted)?)
     }
 
     fn answer(&mut self, kind: &str, row: &mut Row<'_>, found: &mut String) -> Result<bool, Fault> {
         Ok(
             replay::answer(kind, &mut self.talk, row, found)?
-                || carried::answer(kind, &self.talk, row, found)?,
+                || carried::answer(kind, &self.talk, row, found)?
+                || damaged::answer(kind, &self.talk, row, found)?,
         )
     }
 }

@@ -7,11 +7,11 @@ use crate::given::{Given, parts_of};
 use crate::talk::{Agreed, Packet, Speaker, Talk, last_of};
 use machine_rows::{Machine, Progress, config_of, side_of};
 use rand_core::Rng;
-use ssh_kex::{Agreement, Config, GexParams, GroupLookup, HostKeys, NewKeys, Parts};
+use ssh_kex::{Agreement, Config, DhGroup, GexParams, GroupLookup, HostKeys, NewKeys, Parts};
 use ssh_mac::HashValue;
-use ssh_negotiate::{HostKey, KexCause, Preferred, ServerKeys};
+use ssh_negotiate::{HostCertificate, HostKey, HostName, KexCause, Preferred, ServerKeys};
 use ssh_packet::{Incoming, OpenKey, PacketReader, PacketWriter, clear};
-use ssh_wire::{Blob, NameList, Reader, Side};
+use ssh_wire::{Algorithm, Blob, NameList, Reader, Side, put_string};
 use std::alloc::Global;
 use vector_rows::preferences::{Named, named_all};
 use vector_rows::{Fault, Row, say, say_bytes, say_shown, words_of};
@@ -204,6 +204,7 @@ fn agreed_by(talk: &Talk, secret: Vec<u8>) -> Result<Agreed, Fault> {
     let mut value = last_of(talk.client.last_exchange()?, (30, 32))?;
     let mut reply = last_of(talk.server.last_exchange()?, (31, 33))?;
     Ok(Agreed {
+        group: group_of(alloc, talk)?,
         client: Vec::from_slice(alloc, value.read_string()?)?,
         host: Vec::from_slice(alloc, reply.read_string()?)?,
         server: Vec::from_slice(alloc, reply.read_string()?)?,
@@ -211,6 +212,26 @@ fn agreed_by(talk: &Talk, secret: Vec<u8>) -> Result<Agreed, Fault> {
         secret,
         hash: HashValue::empty(),
     })
+}
+
+/// The group of the last exchange, where its client asked for one (RFC 4419 section 3).
+fn group_of(alloc: Global, talk: &Talk) -> Result<Option<DhGroup>, Fault> {
+    if last_of(talk.client.last_exchange()?, (34, 34)).is_err() {
+        return Ok(None);
+    }
+    let mut group = last_of(talk.server.last_exchange()?, (31, 31))?;
+    Ok(Some(DhGroup {
+        prime: Blob::copy_of(alloc, magnitude(group.read_string()?))?,
+        generator: Blob::copy_of(alloc, magnitude(group.read_string()?))?,
+    }))
+}
+
+/// The bytes of a positive number, less the zero that stands before a high first one (RFC 4251 section 5).
+fn magnitude(bytes: &[u8]) -> &[u8] {
+    match bytes.split_first() {
+        Some((0, rest)) => rest,
+        _ => bytes,
+    }
 }
 
 /// The cookie of the KEXINIT that stands first.
@@ -234,21 +255,58 @@ pub(crate) fn set_up(
         Ok(mut request) => GexParams::decode(&mut request)?,
         Err(_) => GexParams::new(2048, 3072, 8192)?,
     };
-    let mut keys = Vec::new(alloc);
-    if side == Side::Server {
-        let Some(algorithm) = preferred.key.first() else {
-            return Err(Fault::Malformed);
-        };
-        keys.push(HostKey {
-            algorithm: *algorithm,
-            blob: Blob::copy_of(alloc, host)?,
-        })?;
-    }
-    let host = ServerKeys {
-        keys,
-        certificates: Vec::new(alloc),
+    let host = match side {
+        Side::Client => no_keys(alloc),
+        Side::Server => keys_of(alloc, &preferred, host)?,
     };
     config_of(alloc, text_of(own.id.as_slice())?, preferred, gex, host)
+}
+
+/// No host keys.
+fn no_keys(alloc: Global) -> ServerKeys {
+    ServerKeys {
+        keys: Vec::new(alloc),
+        certificates: Vec::new(alloc),
+    }
+}
+
+/// The keys of a server that presents this host: a key, or a certificate and the key that it contains.
+fn keys_of(alloc: Global, preferred: &Preferred, host: &[u8]) -> Result<ServerKeys, Fault> {
+    let Some(algorithm) = preferred.key.first() else {
+        return Err(Fault::Malformed);
+    };
+    let mut hosts = no_keys(alloc);
+    let mut fields = Reader::new(host);
+    let name = text_of(fields.read_string()?)?;
+    let key_blob = if Algorithm::new_certificate_ext(name).is_some() {
+        let key_blob = certified(alloc, &mut fields)?;
+        hosts.certificates.push(HostCertificate {
+            algorithm: *algorithm,
+            blob: Blob::copy_of(alloc, host)?,
+            key_blob: Blob::copy_of(alloc, key_blob.as_slice())?,
+        })?;
+        key_blob
+    } else {
+        Vec::from_slice(alloc, host)?
+    };
+    hosts.keys.push(HostKey {
+        algorithm: *algorithm,
+        blob: Blob::new(key_blob),
+    })?;
+    Ok(hosts)
+}
+
+/// The key's blob that an Ed25519 certificate contains, of which the name was read: a nonce and the key follow.
+fn certified(alloc: Global, fields: &mut Reader<'_>) -> Result<Vec<u8>, Fault> {
+    fields.read_string()?;
+    let public = fields.read_string()?;
+    if public.len() != 32 {
+        return Err(Fault::Malformed);
+    }
+    let mut blob = Vec::new(alloc);
+    put_string(&mut blob, b"ssh-ed25519")?;
+    put_string(&mut blob, public)?;
+    Ok(blob)
 }
 
 fn text_of(bytes: &[u8]) -> Result<&str, Fault> {
@@ -265,20 +323,34 @@ fn preferences_of(alloc: Global, packets: &[Packet]) -> Result<Preferred, Fault>
         _ => return Err(Fault::Malformed),
     };
     let kex = listed(alloc, &mut lists)?;
-    let key = listed(alloc, &mut lists)?;
+    let hosts: Vec<HostName> = listed(alloc, &mut lists)?;
     let cipher = listed(alloc, &mut lists)?;
     NameList::decode(alloc, &mut lists)?;
     let mac = listed(alloc, &mut lists)?;
     NameList::decode(alloc, &mut lists)?;
     let compression = listed(alloc, &mut lists)?;
+    let (key, host_key_certificates) = split(alloc, hosts.as_slice())?;
     Ok(Preferred {
         kex,
         key,
-        host_key_certificates: Vec::new(alloc),
+        host_key_certificates,
         cipher,
         mac,
         compression,
     })
+}
+
+/// The algorithms of keys among these names, and those of certificates.
+fn split(alloc: Global, hosts: &[HostName]) -> Result<(Vec<Algorithm>, Vec<Algorithm>), Fault> {
+    let mut keys = Vec::new(alloc);
+    let mut certificates = Vec::new(alloc);
+    for host in hosts {
+        match host {
+            HostName::Plain(algorithm) => keys.push(*algorithm)?,
+            HostName::Certificate(algorithm) => certificates.push(*algorithm)?,
+        }
+    }
+    Ok((keys, certificates))
 }
 
 /// The next list.

@@ -1,17 +1,20 @@
 //! What both sides of a recorded connection sent, and what was agreed.
 
+use crate::place::{Place, Places};
+use ssh_kex::DhGroup;
 use ssh_mac::HashValue;
 use ssh_negotiate::KexCause;
 use ssh_wire::{Reader, Side};
 use std::alloc::Global;
 use vector_rows::{Fault, Row};
 
-/// A packet: its message, its number plus one, and its padding where that was drawn.
+/// A packet: its message, its number plus one, its padding where that was drawn, and where it stands on the wire.
 #[derive(Drop)]
 pub(crate) struct Packet {
     pub payload: Vec<u8>,
     pub seqn: u32,
     pub padding: Vec<u8>,
+    pub place: Place,
 }
 
 impl Packet {
@@ -23,18 +26,24 @@ impl Packet {
         }
     }
 
+    /// Whether it is a payload that is handed up.
+    pub(crate) fn is_payload(&self) -> bool {
+        matches!(self.message_type(), 5..=7 | 50..)
+    }
+
     /// Whether it is a message of an exchange.
     pub(crate) fn is_kex(&self) -> bool {
         matches!(self.message_type(), 20 | 21 | 30..=34)
     }
 }
 
-/// What a side sent: its version line's text, all its bytes, its packets.
+/// What a side sent: its version line's text, all its bytes, its packets, and how far these reach on the wire.
 #[derive(Drop)]
 pub(crate) struct Speaker {
     pub id: Vec<u8>,
     pub wire: Vec<u8>,
     pub packets: Vec<Packet>,
+    places: Places,
 }
 
 impl Speaker {
@@ -43,7 +52,22 @@ impl Speaker {
             id: Vec::new(alloc),
             wire: Vec::new(alloc),
             packets: Vec::new(alloc),
+            places: Places::new(),
         }
+    }
+
+    /// Learns of the next packet: its number plus one, its payload, its padding. Malformed where it isn't on the wire.
+    fn push(&mut self, seqn: u32, payload: Vec<u8>, padding: Vec<u8>) -> Result<(), Fault> {
+        let place = self
+            .places
+            .next_place(self.wire.as_slice(), payload.len(), padding.len())?;
+        self.packets.push(Packet {
+            payload,
+            seqn,
+            padding,
+            place,
+        })?;
+        Ok(())
     }
 
     /// The packets from the last KEXINIT on.
@@ -78,9 +102,10 @@ pub(crate) fn last_of(packets: &[Packet], types: (u8, u8)) -> Result<Reader<'_>,
     last
 }
 
-/// What an exchange agreed on: its values, its secret, its signature, and its hash.
+/// What an exchange agreed on: its group where one was looked up, its values, its secret, its signature, and its hash.
 #[derive(Drop)]
 pub(crate) struct Agreed {
+    pub group: Option<DhGroup>,
     pub client: Vec<u8>,
     pub server: Vec<u8>,
     pub host: Vec<u8>,
@@ -119,7 +144,7 @@ impl Talk {
         }
     }
 
-    /// Learns of a row of a connection: its begin, a side's bytes, a packet. False where the kind is another.
+    /// Learns of a row of a connection: its begin, a side's bytes, its keys, a packet. False where the kind is another.
     pub(crate) fn learn(
         &mut self,
         kind: &str,
@@ -131,29 +156,29 @@ impl Talk {
             *self = Talk::new(alloc);
             return Ok(true);
         }
-        if kind != "wire" && kind != "packet" && kind != "padded" {
+        if kind != "wire" && kind != "keys" && kind != "packet" && kind != "padded" {
             return Ok(false);
         }
-        let is_client = row.word()? == "c2s";
-        let bytes = row.bytes()?;
-        let speaker = if is_client {
+        let speaker = if row.word()? == "c2s" {
             &mut self.client
         } else {
             &mut self.server
         };
+        if kind == "keys" {
+            speaker.places.set_tag(row)?;
+            return Ok(true);
+        }
+        let bytes = row.bytes()?;
         let mut told = Row::of(alloc, wanted)?;
         let number = told.number32()?;
         let payload = told.bytes()?;
         if kind == "wire" {
             speaker.wire = bytes;
             speaker.id = payload;
-        } else {
-            speaker.packets.push(Packet {
-                payload,
-                seqn: number,
-                padding: bytes,
-            })?;
+            speaker.places.begin(number);
+            return Ok(true);
         }
+        speaker.push(number, payload, bytes)?;
         Ok(true)
     }
 }

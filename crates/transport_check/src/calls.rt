@@ -1,6 +1,8 @@
 //! Rows of one side's transport: its configuration, and calls one after the other.
 
-use machine_rows::{feed, key_of, keys_of, rekey, side_of, submit, times, trusted_by};
+use machine_rows::{
+    feed, key_of, keys_of, poll_payload, rekey, side_of, submit, take_input, times, trusted_by,
+};
 use rand_core::Rng;
 use ssh_kex::{Agreement, Config, GexParams, GroupLookup, HostKeys, Parts};
 use ssh_mac::mac;
@@ -10,12 +12,13 @@ use ssh_vectors::{TestAgreement, TestGroups, TestHosts};
 use ssh_wire::{Blob, Error, Limits, Side, SshId, Text};
 use std::alloc::Global;
 use vector_rows::preferences::{preferred, settings};
-use vector_rows::{Fault, Row, Words, say, say_number, say_shown};
+use vector_rows::{Fault, Row, Words, say, say_bytes, say_number, say_shown};
 
-/// `calls SIDE PREFERENCES SETTINGS CALL..`: what a transport of the side answers to `feed:BYTES`, `submit:BYTES` and
-/// `rekey`, one after the other; whether it has failed or is inside an exchange; and how many bytes of input are unfinished,
-/// how many exchanges are finished, how many payloads are delivered, and how many bytes are written. A configuration that is
-/// refused stands in their place. A client trusts the host key of its own configuration.
+/// `calls SIDE PREFERENCES SETTINGS CALL..`: what a transport of the side answers to `feed:BYTES`, `submit:BYTES`, `rekey`,
+/// `take:BYTES`, `poll` and `pieces:SIZE:BYTES`, one after the other; whether it has failed or is inside an exchange; and
+/// how many bytes of input are unfinished, how many exchanges are finished, how many payloads are delivered, and how many
+/// bytes are written. A configuration that is refused stands in their place. A client trusts the host key of its own
+/// configuration.
 pub(crate) fn answer(kind: &str, row: &mut Row<'_>, found: &mut String) -> Result<bool, Fault> {
     if kind != "calls" {
         return Ok(false);
@@ -126,14 +129,24 @@ fn say_answers<A: Agreement, H: HostKeys, G: GroupLookup, R: Rng>(
     row: &mut Row<'_>,
     found: &mut String,
 ) -> Result<(), Fault> {
-    let alloc = row.alloc();
     for _ in 0..row.left() {
-        match answer_to(alloc, transport, parts, row.word()?)? {
-            Ok(()) => say(found, "ok")?,
-            Err(error) => say_shown(found, &error)?,
+        match row.word()? {
+            "rekey" => say_done(rekey(transport, parts), found)?,
+            "poll" => say_poll(transport, parts, found)?,
+            call => match call.split_once(':') {
+                Some((name, given)) => say_given(transport, parts, name, given, found)?,
+                None => return Err(Fault::Malformed),
+            },
         }
     }
     Ok(())
+}
+
+fn say_done(answer: Result<(), Error>, found: &mut String) -> Result<(), Fault> {
+    match answer {
+        Ok(()) => say(found, "ok"),
+        Err(error) => say_shown(found, &error),
+    }
 }
 
 /// Appends how a transport stands.
@@ -149,22 +162,93 @@ fn say_state(transport: &mut Transport<'_>, found: &mut String) -> Result<(), Fa
     say_number(found, transport.output().len() as u64)
 }
 
-fn answer_to<A: Agreement, H: HostKeys, G: GroupLookup, R: Rng>(
-    alloc: Global,
+/// Appends what a call answers that is given bytes.
+fn say_given<A: Agreement, H: HostKeys, G: GroupLookup, R: Rng>(
     transport: &mut Transport<'_>,
     parts: &mut Parts<A, H, G, R>,
     call: &str,
-) -> Result<Result<(), Error>, Fault> {
-    if call == "rekey" {
-        return Ok(rekey(transport, parts));
-    }
-    let Some((call, digits)) = call.split_once(':') else {
-        return Err(Fault::Malformed);
-    };
+    given: &str,
+    found: &mut String,
+) -> Result<(), Fault> {
+    let alloc = *found.allocator();
+    let (size, digits) = given.split_once(':').unwrap_or(("0", given));
+    let size = Row::of(alloc, size)?.count()?;
     let bytes = Row::of(alloc, digits)?.bytes()?;
     match call {
-        "feed" => Ok(feed(transport, parts, bytes.as_slice())),
-        "submit" => Ok(submit(transport, parts, bytes.as_slice())),
+        "feed" => say_done(feed(transport, parts, bytes.as_slice()), found),
+        "submit" => say_done(submit(transport, parts, bytes.as_slice()), found),
+        "take" => say_taken(take_input(transport, bytes.as_slice()), found),
+        "pieces" => say_pieces(transport, parts, size, bytes.as_slice(), found),
         _ => Err(Fault::Malformed),
     }
+}
+
+fn say_taken(answer: Result<usize, Error>, found: &mut String) -> Result<(), Fault> {
+    match answer {
+        Ok(count) => say_number(found, count as u64),
+        Err(error) => say_shown(found, &error),
+    }
+}
+
+/// Appends the payload that is lent next, `none`, or the refusal.
+fn say_poll<A: Agreement, H: HostKeys, G: GroupLookup, R: Rng>(
+    transport: &mut Transport<'_>,
+    parts: &mut Parts<A, H, G, R>,
+    found: &mut String,
+) -> Result<(), Fault> {
+    if !say_lent(transport, parts, found)? && !transport.failed() {
+        say(found, "none")?;
+    }
+    Ok(())
+}
+
+/// Appends the payload that is lent next, or the refusal. Whether one is lent.
+fn say_lent<A: Agreement, H: HostKeys, G: GroupLookup, R: Rng>(
+    transport: &mut Transport<'_>,
+    parts: &mut Parts<A, H, G, R>,
+    found: &mut String,
+) -> Result<bool, Fault> {
+    match poll_payload(transport, parts, found)? {
+        Some(payload) => {
+            say_bytes(found, payload.as_slice())?;
+            Ok(true)
+        }
+        None => Ok(false),
+    }
+}
+
+/// Takes the bytes in pieces of a size, and polls behind each until none is lent. Appends each payload, and `none` at last
+/// or the refusal; or how much of a piece there is room for, where that isn't all of it.
+fn say_pieces<A: Agreement, H: HostKeys, G: GroupLookup, R: Rng>(
+    transport: &mut Transport<'_>,
+    parts: &mut Parts<A, H, G, R>,
+    size: usize,
+    bytes: &[u8],
+    found: &mut String,
+) -> Result<(), Fault> {
+    for piece in bytes.chunks(size.max(1)) {
+        match take_input(transport, piece) {
+            Ok(count) if count == piece.len() => {}
+            taken => return say_taken(taken, found),
+        }
+        say_all_lent(transport, parts, found)?;
+        if transport.failed() {
+            return Ok(());
+        }
+    }
+    say(found, "none")
+}
+
+/// Appends the payloads that are lent until none is, or until the refusal.
+fn say_all_lent<A: Agreement, H: HostKeys, G: GroupLookup, R: Rng>(
+    transport: &mut Transport<'_>,
+    parts: &mut Parts<A, H, G, R>,
+    found: &mut String,
+) -> Result<(), Fault> {
+    for _ in 0..=transport.unfinished() {
+        if !say_lent(transport, parts, found)? {
+            return Ok(());
+        }
+    }
+    Ok(())
 }

@@ -10,6 +10,7 @@ mod negotiation;
 mod packets;
 mod recorded;
 mod tables;
+mod windows;
 
 use crate::recorded::Connection;
 use std::process::ExitCode;
@@ -29,7 +30,7 @@ impl Answers for Below {
         _row: &mut Row<'_>,
         _wanted: &str,
     ) -> Result<bool, Fault> {
-        Ok(kind == "agreed" || kind == "carried")
+        Ok(matches!(kind, "agreed" | "carried" | "polled" | "damaged"))
     }
 
     fn answer(&mut self, kind: &str, row: &mut Row<'_>, found: &mut String) -> Result<bool, Fault> {
@@ -39,6 +40,7 @@ impl Answers for Below {
                 || tables::answer(kind, row, found)?
                 || ciphers::answer(kind, row, found)?
                 || packets::answer(kind, row, found)?
+                || windows::answer(kind, row, found)?
                 || negotiation::answer(kind, row, found)?
                 || recorded::answer(kind, &mut self.connection, row, found)?,
         )

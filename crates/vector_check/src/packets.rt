@@ -298,7 +298,7 @@ fn reader_behind(alloc: Global, number: usize) -> Result<PacketReader, Fault> {
 
 /// What a reader did.
 #[derive(Clone, Copy, Debug, PartialEq, Eq)]
-enum ReadStep {
+pub(crate) enum ReadStep {
     Packet,
     Waits,
     Refused,
@@ -321,7 +321,7 @@ fn read_packets(
 }
 
 /// Appends the next packet, or the refusal.
-fn read_one(
+pub(crate) fn read_one(
     reader: &mut PacketReader,
     key: &mut OpenKey,
     found: &mut String,

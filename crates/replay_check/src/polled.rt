@@ -1,0 +1,110 @@
+//! A transport that keeps the other side's bytes in pieces, and lends its payloads.
+
+use crate::talk::Packet;
+use machine_rows::{poll_payload, rekey, submit, take_input};
+use rand_core::Rng;
+use ssh_kex::{Agreement, GroupLookup, HostKeys, Parts};
+use ssh_transport::Transport;
+use ssh_wire::Error;
+use vector_rows::{Fault, say_shown};
+
+/// What is still to come, and how many bytes come at once.
+#[derive(Clone, Copy)]
+struct Pieces<'w> {
+    wire: &'w [u8],
+    size: usize,
+}
+
+impl<'w> Pieces<'w> {
+    /// The next piece, until none is left.
+    fn next_piece(&mut self) -> Option<&'w [u8]> {
+        if self.wire.is_empty() {
+            return None;
+        }
+        let (piece, rest) = self.wire.split_at(self.size.max(1).min(self.wire.len()));
+        self.wire = rest;
+        Some(piece)
+    }
+}
+
+/// Lets a transport send its side's payloads, and begin its exchanges, each where it stands. It keeps the peer's bytes
+/// in pieces: those that it needs to the end of an exchange where one runs, and all that are left at last. The payloads
+/// that it lends are appended to those that it lent; a refusal to what was found.
+pub(crate) fn polled<A: Agreement, H: HostKeys, G: GroupLookup, R: Rng>(
+    transport: &mut Transport<'_>,
+    parts: &mut Parts<A, H, G, R>,
+    packets: &[Packet],
+    wire: &[u8],
+    size: usize,
+    lent: &mut Vec<Vec<u8>>,
+    found: &mut String,
+) -> Result<(), Fault> {
+    let mut pieces = Pieces { wire, size };
+    for packet in packets {
+        if packet.is_payload() || packet.message_type() == 20 && transport.finished() > 0 {
+            poll_pieces(transport, parts, false, &mut pieces, lent, found)?;
+            if let Err(error) = send(transport, parts, packet) {
+                return say_shown(found, &error);
+            }
+        }
+    }
+    poll_pieces(transport, parts, true, &mut pieces, lent, found)
+}
+
+/// Submits a packet's payload, or begins the exchange that it begins.
+fn send<A: Agreement, H: HostKeys, G: GroupLookup, R: Rng>(
+    transport: &mut Transport<'_>,
+    parts: &mut Parts<A, H, G, R>,
+    packet: &Packet,
+) -> Result<(), Error> {
+    if packet.is_payload() {
+        submit(transport, parts, packet.payload.as_slice())
+    } else {
+        rekey(transport, parts)
+    }
+}
+
+/// Polls, and keeps piece after piece, until the transport is outside an exchange, or to the end of all.
+fn poll_pieces<A: Agreement, H: HostKeys, G: GroupLookup, R: Rng>(
+    transport: &mut Transport<'_>,
+    parts: &mut Parts<A, H, G, R>,
+    is_last: bool,
+    pieces: &mut Pieces<'_>,
+    lent: &mut Vec<Vec<u8>>,
+    found: &mut String,
+) -> Result<(), Fault> {
+    for _ in 0..=pieces.wire.len() {
+        poll_kept(transport, parts, is_last, lent, found)?;
+        if transport.failed() || !is_last && !transport.inside() {
+            return Ok(());
+        }
+        let Some(piece) = pieces.next_piece() else {
+            return Ok(());
+        };
+        match take_input(transport, piece) {
+            Ok(count) if count == piece.len() => {}
+            _ => return Err(Fault::Refused),
+        }
+    }
+    Ok(())
+}
+
+/// Polls until nothing is lent, or until the transport is outside an exchange.
+fn poll_kept<A: Agreement, H: HostKeys, G: GroupLookup, R: Rng>(
+    transport: &mut Transport<'_>,
+    parts: &mut Parts<A, H, G, R>,
+    is_last: bool,
+    lent: &mut Vec<Vec<u8>>,
+    found: &mut String,
+) -> Result<(), Fault> {
+    for _ in 0..=transport.unfinished() {
+        if !is_last && !transport.inside() {
+            return Ok(());
+        }
+        match poll_payload(transport, parts, found)? {
+            Some(payload) => lent.push(payload)?,
+            None => return Ok(()),
+        }
+    }
+    Ok(())
+}
