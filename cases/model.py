@@ -2,9 +2,9 @@
 """Usage: cases/model.py [FOLDER..]
 
 A plain model of the program, written from docs/SCRIPTS.md and RFC 4253 alone, by which the values of the cases are
-made, those of the command `run` aside. It computes stdout and status of each other case below the folders (of all
-cases if none is given), prints each that differs from what stands there, and ends with status 1 then. With --write it
-writes them instead.
+made, those of the commands `run` and `attack` aside. It computes stdout and status of each other case below the folders
+(of all cases if none is given), prints each that differs from what stands there, and ends with status 1 then. With
+--write it writes them instead.
 """
 import pathlib
 import sys
@@ -109,7 +109,7 @@ def decimal(word):
 
 
 def answer(case):
-    """Status and text of a case: but for `run`, only the word `clear` and `gen SEED COUNT` are commands."""
+    """Status and text of a case: but for `run` and `attack`, only the word `clear` and `gen SEED COUNT` are commands."""
     words = (case / "args").read_bytes().removesuffix(b"\n").split(b"\n")
     if len(words) == 3 and words[0] == b"gen":
         seed, count = decimal(words[1]), decimal(words[2])
@@ -128,7 +128,7 @@ def main():
     differ = 0
     for args in sorted(args for folder in folders for args in folder.rglob("args")):
         case = args.parent
-        if args.read_bytes() == b"run\n":
+        if args.read_bytes() in (b"run\n", b"attack\n"):
             continue
         status, text = answer(case)
         if "--write" in sys.argv:
