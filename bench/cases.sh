@@ -3,9 +3,13 @@
 # Runs the program on each case of the folder, or, if none is given, on those of cases/ and on the examples, and
 # compares what it writes and its exit status. A case is a folder with `args` (one word a line), `stdin`, `stdout` and
 # `status`; in place of `stdin` a line `COUNT TEXT` in `repeat` stands for so many lines of the text. An example is a
-# script NAME.txt of the command `clear`, or of `run` where its name begins so, with NAME.stdout and NAME.status beside it.
+# script NAME.txt of the command `clear`, or of `run` or `attack` where its name begins so, with NAME.stdout and NAME.status
+# beside it.
 set -u
 cd "$(dirname "$0")/.." || exit 1
+# The proved program, with nothing beside its own answers.
+[ -x crates/sshlink/out/sshlink ] || ./sshlink --prove || exit 1
+export SSHLINK_QUIET=1
 agree=0
 differ=0
 written=$(mktemp)
@@ -38,6 +42,7 @@ if [ "$#" = 0 ]; then
   for script in examples/*.txt; do
     case $(basename "$script") in
     run*) word=run ;;
+    attack*) word=attack ;;
     *) word=clear ;;
     esac
     ./sshlink "$word" <"$script" >"$written"

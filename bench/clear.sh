@@ -4,7 +4,7 @@
 # on each, and prints bytes, seconds, peak memory and what each is for a byte of script. Needs python3.
 set -eu
 cd "$(dirname "$0")/.."
-./sshlink clear </dev/null >/dev/null
+[ -x crates/sshlink/out/sshlink ] || ./sshlink --prove
 python3 - crates/sshlink/out/sshlink <<'PYTHON'
 import os, random, sys, tempfile, time
 
