@@ -45,10 +45,8 @@ impl<'c> AttackEnd<'c> {
         parts: &mut Parts<A, H, G, R>,
         payload: &[u8],
     ) -> Result<(), Error>
-        ensures submits { (result ≡ Err Memory → ⊥) → SubmitsBy self.old.transport.failed (tells_by A.lawful A.obliging A.offered A.client_makes A.server_makes A.agrees A.refusals A.calls H.lawful H.obliging H.accepts H.trusts H.makes H.refused_sign H.refused_verify H.refused_check H.calls G.lawful G.obliging G.group G.refusals G.calls self.old.transport.config parts.old.agreement parts.new.agreement parts.old.hosts parts.new.hosts parts.old.groups parts.new.groups) (end_of self.old (counted_by A.calls H.calls G.calls parts.old.agreement parts.old.hosts parts.old.groups)) payload.now result (end_of self.new (counted_by A.calls H.calls G.calls parts.new.agreement parts.new.hosts parts.new.groups)) }
-        ensures agreement { KeepsAgreement A.lawful A.obliging A.offered A.refusals A.calls parts.old.agreement parts.new.agreement }
-        ensures hosts { KeepsHosts H.lawful H.obliging H.accepts H.trusts H.refused_sign H.refused_verify H.refused_check H.calls parts.old.hosts parts.new.hosts }
-        ensures groups { KeepsGroups G.lawful G.obliging G.group G.refusals G.calls parts.old.groups parts.new.groups }
+        ensures submits { (result ≡ Err Memory → ⊥) → SubmitsBy self.old.transport.failed (tells_by A.lawful A.obliging A.offered A.client_makes A.server_makes A.agrees A.refusals A.calls H.lawful H.obliging H.accepts H.trusts H.makes H.refused_sign H.refused_verify H.refused_check H.calls G.lawful G.obliging G.group G.refusals G.calls self.old.transport.config parts.old.agreement parts.new.agreement parts.old.hosts parts.new.hosts parts.old.groups parts.new.groups) (end_of self.old (⟦<Parts<A, H, G, R> as Handed>⟧.calls parts.old)) payload.now result (end_of self.new (⟦<Parts<A, H, G, R> as Handed>⟧.calls parts.new)) }
+        ensures keeps { ⟦<Parts<A, H, G, R> as Handed>⟧.keeps parts.old parts.new }
     {
         self.transport.submit(parts, payload)
     }
@@ -58,10 +56,8 @@ impl<'c> AttackEnd<'c> {
         &mut self,
         parts: &mut Parts<A, H, G, R>,
     ) -> Result<(), Error>
-        ensures rekeys { (result ≡ Err Memory → ⊥) → RekeysBy self.old.transport.failed (tells_by A.lawful A.obliging A.offered A.client_makes A.server_makes A.agrees A.refusals A.calls H.lawful H.obliging H.accepts H.trusts H.makes H.refused_sign H.refused_verify H.refused_check H.calls G.lawful G.obliging G.group G.refusals G.calls self.old.transport.config parts.old.agreement parts.new.agreement parts.old.hosts parts.new.hosts parts.old.groups parts.new.groups) (end_of self.old (counted_by A.calls H.calls G.calls parts.old.agreement parts.old.hosts parts.old.groups)) result (end_of self.new (counted_by A.calls H.calls G.calls parts.new.agreement parts.new.hosts parts.new.groups)) }
-        ensures agreement { KeepsAgreement A.lawful A.obliging A.offered A.refusals A.calls parts.old.agreement parts.new.agreement }
-        ensures hosts { KeepsHosts H.lawful H.obliging H.accepts H.trusts H.refused_sign H.refused_verify H.refused_check H.calls parts.old.hosts parts.new.hosts }
-        ensures groups { KeepsGroups G.lawful G.obliging G.group G.refusals G.calls parts.old.groups parts.new.groups }
+        ensures rekeys { (result ≡ Err Memory → ⊥) → RekeysBy self.old.transport.failed (tells_by A.lawful A.obliging A.offered A.client_makes A.server_makes A.agrees A.refusals A.calls H.lawful H.obliging H.accepts H.trusts H.makes H.refused_sign H.refused_verify H.refused_check H.calls G.lawful G.obliging G.group G.refusals G.calls self.old.transport.config parts.old.agreement parts.new.agreement parts.old.hosts parts.new.hosts parts.old.groups parts.new.groups) (end_of self.old (⟦<Parts<A, H, G, R> as Handed>⟧.calls parts.old)) result (end_of self.new (⟦<Parts<A, H, G, R> as Handed>⟧.calls parts.new)) }
+        ensures keeps { ⟦<Parts<A, H, G, R> as Handed>⟧.keeps parts.old parts.new }
     {
         self.transport.rekey(parts)
     }
@@ -72,10 +68,8 @@ impl<'c> AttackEnd<'c> {
         parts: &mut Parts<A, H, G, R>,
         bytes: &[u8],
     ) -> Result<(), Error>
-        ensures feeds { (result ≡ Err Memory → ⊥) → FeedsEnd (tells_by A.lawful A.obliging A.offered A.client_makes A.server_makes A.agrees A.refusals A.calls H.lawful H.obliging H.accepts H.trusts H.makes H.refused_sign H.refused_verify H.refused_check H.calls G.lawful G.obliging G.group G.refusals G.calls self.old.transport.config parts.old.agreement parts.new.agreement parts.old.hosts parts.new.hosts parts.old.groups parts.new.groups) (end_of self.old (counted_by A.calls H.calls G.calls parts.old.agreement parts.old.hosts parts.old.groups)) bytes.now result (end_of self.new (counted_by A.calls H.calls G.calls parts.new.agreement parts.new.hosts parts.new.groups)) }
-        ensures agreement { KeepsAgreement A.lawful A.obliging A.offered A.refusals A.calls parts.old.agreement parts.new.agreement }
-        ensures hosts { KeepsHosts H.lawful H.obliging H.accepts H.trusts H.refused_sign H.refused_verify H.refused_check H.calls parts.old.hosts parts.new.hosts }
-        ensures groups { KeepsGroups G.lawful G.obliging G.group G.refusals G.calls parts.old.groups parts.new.groups }
+        ensures feeds { (result ≡ Err Memory → ⊥) → FeedsEnd (tells_by A.lawful A.obliging A.offered A.client_makes A.server_makes A.agrees A.refusals A.calls H.lawful H.obliging H.accepts H.trusts H.makes H.refused_sign H.refused_verify H.refused_check H.calls G.lawful G.obliging G.group G.refusals G.calls self.old.transport.config parts.old.agreement parts.new.agreement parts.old.hosts parts.new.hosts parts.old.groups parts.new.groups) (end_of self.old (⟦<Parts<A, H, G, R> as Handed>⟧.calls parts.old)) bytes.now result (end_of self.new (⟦<Parts<A, H, G, R> as Handed>⟧.calls parts.new)) }
+        ensures keeps { ⟦<Parts<A, H, G, R> as Handed>⟧.keeps parts.old parts.new }
     {
         see_bytes(bytes);
         let Some(taken) = self.taken.checked_add(bytes.len() as u64) else {

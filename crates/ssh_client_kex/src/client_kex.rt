@@ -17,11 +17,11 @@ ghost use Rattle.ssh_client_kex.specs.ClientViews.{behind_guess, client_machine,
 ghost use Rattle.ssh_client_kex.specs.declared.client_kex.ClientState.TheVariants.{AwaitsGroup as awaits_group};
 ghost use Rattle.ssh_kex.specs.declared.progress.KexProgress.TheVariants.{NeedsReply};
 ghost use Rattle.ssh_kex.specs.Messages.{is_gex, request_message};
-ghost use Rattle.ssh_kex.specs.Parts.{IsSmall, KeepsAgreement, KeepsGroups, KeepsHosts, Setup};
+ghost use Rattle.ssh_kex.specs.Parts.{IsSmall, KeepsAgreement, Setup};
 ghost use Rattle.ssh_kex.specs.Fields.{IsInside, IsOutside};
 ghost use Rattle.ssh_kex.specs.Setting.{offers_of};
 ghost use Rattle.ssh_kex.specs.Stages.{Created as created, has_ignored, names_of, is_strict};
-ghost use Rattle.ssh_kex.specs.Stepping.{at_kexinit, asks_agreement, asks_hosts, asks_groups, next_of, says_of, denies_of, Progresses, RefusesStep, Puts, PutsFront};
+ghost use Rattle.ssh_kex.specs.Stepping.{at_kexinit, asks_agreement, asks_hosts, asks_groups, next_of, Progresses, RefusesStep, Puts, PutsFront};
 ghost use Rattle.ssh_kex.specs.Views.{HasShortSides};
 
 use crate::client_reply::take_reply;
@@ -33,7 +33,7 @@ use ssh_kex::last_message::{end_at_once, last};
 use ssh_kex::message::{has_type, put_message};
 use ssh_kex::{
     Agreement, Config, DhGroup, Exchange, FinishedExchange, GexChosen, GexParams, GroupLookup,
-    HostKeys, KexAlgorithm, KexProgress, Parts, ServerHost, copy_of_group,
+    Handed, HostKeys, KexAlgorithm, KexProgress, Parts, ServerHost, copy_of_group,
 };
 use ssh_negotiate::{KexCause, Names, kex};
 use ssh_packet::{CipherPair, Incoming, PacketWriter};
@@ -113,8 +113,8 @@ impl<'c> ClientKex<'c> {
         })
     }
 
-    /// One message of the peer. What each stage takes, refuses and writes is said of the stages; a wrong guess is dropped. A
-    /// refusal leaves the output as it was.
+    /// One message of the peer. What each stage takes, refuses and writes is said of the stages; a wrong guess is
+    /// dropped. A refusal leaves the output as it was.
     pub fn step<A: Agreement, H: HostKeys, G: GroupLookup, R: Rng>(
         self,
         parts: &mut Parts<A, H, G, R>,
@@ -122,24 +122,17 @@ impl<'c> ClientKex<'c> {
         output: &mut PacketWriter,
     ) -> Result<KexProgress<ClientKex<'c>>, Error>
         requires { IfSome input (λ i. length i.payload.now < 2 ^ 31) }
-        ensures agreement { KeepsAgreement A.lawful A.obliging A.offered A.refusals A.calls parts.old.agreement
-            parts.new.agreement }
-        ensures hosts { KeepsHosts H.lawful H.obliging H.accepts H.trusts H.refused_sign H.refused_verify
-            H.refused_check H.calls parts.old.hosts parts.new.hosts }
-        ensures groups { KeepsGroups G.lawful G.obliging G.group G.refusals G.calls parts.old.groups parts.new.groups }
+        ensures keeps { ⟦<Parts<A, H, G, R> as Handed>⟧.keeps parts.old parts.new }
         ensures agreement_calls { A.calls parts.new.agreement ≤ A.calls parts.old.agreement + asks_agreement
             self.entry.setting.side self.entry.stage (next_of result) }
         ensures hosts_calls { H.calls parts.new.hosts ≤ H.calls parts.old.hosts + asks_hosts self.entry.stage }
         ensures groups_calls { G.calls parts.new.groups ≤ G.calls parts.old.groups + asks_groups self.entry.stage }
-        ensures goes { IfOk result (λ p. Progresses (says_of A.lawful A.offered A.client_makes A.server_makes A.agrees
-            H.lawful H.obliging H.accepts H.trusts H.makes G.lawful G.group self.entry.setting.config
-            parts.old.agreement parts.old.hosts parts.old.groups) self.entry input.entry output.old p output.new) }
-        ensures causes { IfErr result (λ e. RefusesStep (says_of A.lawful A.offered A.client_makes A.server_makes
-            A.agrees H.lawful H.obliging H.accepts H.trusts H.makes G.lawful G.group self.entry.setting.config
-            parts.old.agreement parts.old.hosts parts.old.groups)
-            (denies_of A.obliging A.offered A.client_makes A.server_makes A.refusals H.obliging H.accepts H.refused_sign
-            H.refused_verify G.obliging G.refusals parts.old.agreement parts.new.agreement parts.old.hosts
-            parts.new.hosts parts.old.groups parts.new.groups) self.entry input.entry e) }
+        ensures goes { IfOk result (λ p. Progresses (⟦<Parts<A, H, G, R> as Handed>⟧.says self.entry.setting.config
+            parts.old)
+            self.entry input.entry output.old p output.new) }
+        ensures causes { IfErr result (λ e. RefusesStep (⟦<Parts<A, H, G, R> as Handed>⟧.says self.entry.setting.config
+            parts.old)
+            (⟦<Parts<A, H, G, R> as Handed>⟧.denies parts.old parts.new) self.entry input.entry e) }
         ensures front { OnErr result (PutsFront self.entry.stage output.old output.new) }
         ensures unchanged { IfErr result (λ e. (e ≡ Memory → ⊥) → SameButRoom output.old output.new) }
     {
@@ -199,8 +192,8 @@ impl<'c> ClientKex<'c> {
         }
     }
 
-    /// Sends the own KEXINIT, with 16 drawn bytes as cookie, and keeps it. It is for a machine before the server's. Memory, and
-    /// then machine and writer are as they were.
+    /// Sends the own KEXINIT, with 16 drawn bytes as cookie, and keeps it. It is for a machine before the server's.
+    /// Memory, and then machine and writer are as they were.
     pub fn kexinit<R: Rng>(&mut self, rng: &mut R, output: &mut PacketWriter) -> Result<(), Error>
         requires { IsCreated self.old.stage }
         ensures ok { OnOk result (self.new ≡ record self.old {
@@ -319,8 +312,8 @@ pub(crate) fn waits<'c>(
     }
 }
 
-/// Makes the client's value, keeps it, and sends it. Kex where the agreement refused; PacketSize; Memory. A refusal leaves
-/// the output as it was.
+/// Makes the client's value, keeps it, and sends it. Kex where the agreement refused; PacketSize; Memory. A refusal
+/// leaves the output as it was.
 fn send_value<A: Agreement, R: Rng>(
     alloc: Global,
     algorithm: &mut KexAlgorithm,
@@ -394,8 +387,8 @@ fn ask_group<'c, R: Rng>(
     }
 }
 
-/// Sends the client's value, of no group. Kex where the agreement refused; PacketSize; Memory. A refusal leaves the output
-/// as it was.
+/// Sends the client's value, of no group. Kex where the agreement refused; PacketSize; Memory. A refusal leaves the
+/// output as it was.
 fn open_with_value<'c, A: Agreement, R: Rng>(
     alloc: Global,
     config: &'c Config,
@@ -446,7 +439,8 @@ fn open_with_value<'c, A: Agreement, R: Rng>(
     }
 }
 
-/// The peer's KEXINIT: the client asks for a group, or sends its value; where no values are exchanged, all is at its end.
+/// The peer's KEXINIT: the client asks for a group, or sends its value; where no values are exchanged, all is at its
+/// end.
 fn take_kexinit<'c, A: Agreement, R: Rng>(
     alloc: Global,
     config: &'c Config,
@@ -507,8 +501,8 @@ fn algorithm_of(alloc: Global, name: kex::Name, group: &DhGroup) -> Result<KexAl
     }
 }
 
-/// The client's value of a group within its sizes. Kex where the agreement refused; PacketSize; Memory. A refusal leaves the
-/// output as it was.
+/// The client's value of a group within its sizes. Kex where the agreement refused; PacketSize; Memory. A refusal
+/// leaves the output as it was.
 fn answer_group<'c, A: Agreement, R: Rng>(
     alloc: Global,
     config: &'c Config,
@@ -566,8 +560,8 @@ fn answer_group<'c, A: Agreement, R: Rng>(
     }
 }
 
-/// The server's group: the client sends its value of it. KexInit where it is another message or not within the own sizes;
-/// SshEncoding; Kex where the agreement refused; PacketSize; Memory. A refusal leaves the output as it was.
+/// The server's group: the client sends its value of it. KexInit where it is another message or not within the own
+/// sizes; SshEncoding; Kex where the agreement refused; PacketSize; Memory. A refusal leaves the output as it was.
 fn take_group<'c, A: Agreement, R: Rng>(
     alloc: Global,
     config: &'c Config,

@@ -131,8 +131,8 @@ fn verify_signature<H: HostKeys>(
     }
 }
 
-/// A reply on whose value is agreed: its signature is verified, and NEWKEYS sent. WrongServerSig where the signature was
-/// refused; Memory. A refusal leaves the output as it was.
+/// A reply on whose value is agreed: its signature is verified, and NEWKEYS sent. WrongServerSig where the signature
+/// was refused; Memory. A refusal leaves the output as it was.
 fn accept_reply<'c, H: HostKeys, R: Rng>(
     alloc: Global,
     config: &'c Config,
@@ -186,8 +186,8 @@ fn accept_reply<'c, H: HostKeys, R: Rng>(
     }
 }
 
-/// The server's reply. KexInit where it is another message; SshEncoding; Kex where the agreement refused; WrongServerSig;
-/// Memory. A refusal leaves the output as it was.
+/// The server's reply. KexInit where it is another message; SshEncoding; Kex where the agreement refused;
+/// WrongServerSig; Memory. A refusal leaves the output as it was.
 pub(crate) fn take_reply<'c, A: Agreement, H: HostKeys, R: Rng>(
     alloc: Global,
     config: &'c Config,

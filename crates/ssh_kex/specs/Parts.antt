@@ -67,6 +67,12 @@ pub record KeepsGroups {G : Type 0} (lawful obliging : G → Setup → Type 0) (
   pub obliging_kept : (s : Setup) → obliging old s → obliging new s
   pub group_kept : group new ≡ group old
 
+-- what each call keeps of all parts of a side: of each part what its own calls keep
+pub record KeepsParts (agreement_keeps hosts_keep groups_keep : Type 0) : Type 0 where
+  pub agreement : agreement_keeps
+  pub hosts : hosts_keep
+  pub groups : groups_keep
+
 -- a host that a server presents, whose key signs under this algorithm
 pub record Presents (server : Config) (host : ServerHost) (key : HostKey) (algorithm : Algorithm) : Type 0 where
   pub shown : presented server.host host.is_certificate host.algorithm ≡ Some (record { signer = key; blob = host.blob })

@@ -8,6 +8,7 @@ mod config;
 mod exchange;
 pub mod first_message;
 mod group;
+mod handed;
 mod hashing;
 pub mod kexinit_message;
 mod keys;
@@ -25,6 +26,7 @@ pub use crate::exchange::{
     Exchange, FinishedExchange, GexChosen, Keys, NewCiphers, NewKeys, ServerHost, SharedSecret,
 };
 pub use crate::group::{DhGroup, GexParams, copy_of_group};
+pub use crate::handed::Handed;
 pub use crate::keys::compute_keys;
 pub use crate::laws::{canonical_once, ciphers_meet, keys_are_well, memory_alone, rows_exclude};
 pub use crate::parts::{Agreed, Agreement, GroupLookup, HostKeys, Parts, Refusal, Started};

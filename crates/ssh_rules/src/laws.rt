@@ -1,16 +1,14 @@
 //! Laws of the rules, for proofs above to cite. Each holds of what the handed-in parts say by their members.
 
-ghost use Rattle.ssh_kex.specs.Parts.{KeepsAgreement, KeepsGroups, KeepsHosts};
-ghost use Rattle.ssh_kex.specs.Stepping.{denies_of, says_of};
 ghost use Rattle.ssh_rules.specs.AttackLaws.{SameDelivered};
 ghost use Rattle.ssh_rules.specs.Laws.{RecordsAgree};
-ghost use Rattle.ssh_rules.specs.LinkCauses.{AnyRefusals, NoneRefusedInLink, RefusalsHaveCauses, rises_of};
+ghost use Rattle.ssh_rules.specs.LinkCauses.{AnyRefusals, NoneRefusedInLink, RefusalsHaveCauses};
 ghost use Rattle.ssh_rules.specs.Refused.{HostTrusted, NothingRefused, PartsRefuseAlone};
 ghost use Rattle.ssh_rules.specs.RefusedTurn.{OnlyMessagesRefused};
-ghost use Rattle.ssh_rules.specs.Refusing.{untrusted_of};
 ghost use Rattle.ssh_rules.specs.RunLaws.{EachRun, HonestLink, KeyedRun, NoViolation, RestedRun, SignedRun};
 ghost use Rattle.ssh_rules.specs.Valid.{HasSizes};
 
+use crate::spoken::Spoken;
 use ssh_kex::{Agreement, Config, GroupLookup, HostKeys};
 
 /// The sizes of a configuration's groups are below 2^32, as their type says.
@@ -25,119 +23,89 @@ pub fn sizes_are_u32(config: &Config)
 /// From the same messages both sides of a link make the same record, where the agreements of both and the server's
 /// lookup are lawful.
 pub fn records_agree<A: Agreement, H: HostKeys, G: GroupLookup>()
-    ensures { RecordsAgree A.lawful G.lawful (says_of A.lawful A.offered A.client_makes A.server_makes A.agrees H.lawful H.obliging H.accepts H.trusts H.makes G.lawful G.group) }
+    ensures { RecordsAgree A.lawful G.lawful ⟦<(A, H, G) as Spoken>⟧.says }
 {}
 
 /// Each run of a side, whatever it is fed and whatever its parts are, has its wire in blocks, the exchanges that it
 /// read, and no epoch in which a number, a nonce or a counter block comes twice.
 pub fn each_run<A: Agreement, H: HostKeys, G: GroupLookup>()
-    ensures { EachRun (says_of A.lawful A.offered A.client_makes A.server_makes A.agrees H.lawful H.obliging H.accepts H.trusts H.makes G.lawful G.group) }
+    ensures { EachRun ⟦<(A, H, G) as Spoken>⟧.says }
 {}
 
 /// A run that leaves nothing to do and nothing whole to read has handled all that can be opened, and is prompt.
 pub fn rested_run<A: Agreement, H: HostKeys, G: GroupLookup>()
-    ensures { RestedRun (says_of A.lawful A.offered A.client_makes A.server_makes A.agrees H.lawful H.obliging H.accepts H.trusts H.makes G.lawful G.group) }
+    ensures { RestedRun ⟦<(A, H, G) as Spoken>⟧.says }
 {}
 
 /// Where a side's agreement is lawful, the hash and the keys that it records are those of one agreed secret.
 pub fn keyed_run<A: Agreement, H: HostKeys, G: GroupLookup>()
-    ensures { KeyedRun A.lawful A.agrees (says_of A.lawful A.offered A.client_makes A.server_makes A.agrees H.lawful H.obliging H.accepts H.trusts H.makes G.lawful G.group) }
+    ensures { KeyedRun A.lawful A.agrees ⟦<(A, H, G) as Spoken>⟧.says }
 {}
 
 /// What a client records was signed by a host that it trusts, whatever the parts are.
 pub fn signed_run<A: Agreement, H: HostKeys, G: GroupLookup>()
-    ensures { SignedRun H.accepts H.trusts (says_of A.lawful A.offered A.client_makes A.server_makes A.agrees H.lawful H.obliging H.accepts H.trusts H.makes G.lawful G.group) }
+    ensures { SignedRun H.accepts H.trusts ⟦<(A, H, G) as Spoken>⟧.says }
 {}
 
 /// What a loop over the steps of a link keeps is all of what its report says, where the agreements of both and the
 /// server's lookup are lawful.
 pub fn honest_link<A: Agreement, H: HostKeys, G: GroupLookup>()
-    ensures { HonestLink A.lawful G.lawful A.client_makes A.server_makes A.agrees (says_of A.lawful A.offered A.client_makes A.server_makes A.agrees H.lawful H.obliging H.accepts H.trusts H.makes G.lawful G.group) }
+    ensures { HonestLink A.lawful G.lawful A.client_makes A.server_makes A.agrees ⟦<(A, H, G) as Spoken>⟧.says }
 {}
 
-/// Over an honest carrier a reader without a record never meets a violation of the strict order, whatever the parts are.
+/// Over an honest carrier a reader without a record never meets a violation of the strict order, whatever the parts
+/// are.
 pub fn no_violation<A: Agreement, H: HostKeys, G: GroupLookup>()
-    ensures { NoViolation (says_of A.lawful A.offered A.client_makes A.server_makes A.agrees H.lawful H.obliging H.accepts H.trusts H.makes G.lawful G.group) }
+    ensures { NoViolation ⟦<(A, H, G) as Spoken>⟧.says }
 {}
 
 /// Where the parts of both sides are lawful, what they decide is all that is refused of the next message of an honest
 /// peer, and want of memory.
 pub fn parts_refuse_alone<A: Agreement, H: HostKeys, G: GroupLookup>()
-    ensures { PartsRefuseAlone A.lawful H.lawful G.lawful
-        (says_of A.lawful A.offered A.client_makes A.server_makes A.agrees H.lawful H.obliging H.accepts H.trusts
-        H.makes G.lawful G.group)
-        (denies_of A.obliging A.offered A.client_makes A.server_makes A.refusals H.obliging H.accepts H.refused_sign
-        H.refused_verify G.obliging G.refusals) }
+    ensures { PartsRefuseAlone A.lawful H.lawful G.lawful ⟦<(A, H, G) as Spoken>⟧.says ⟦<(A, H, G) as Spoken>⟧.denies }
 {}
 
 /// Where they are obliging, and offer the name that is chosen, nothing is refused of it but for want of memory.
 pub fn nothing_refused<A: Agreement, H: HostKeys, G: GroupLookup>()
-    ensures { NothingRefused A.obliging H.obliging G.obliging A.offered
-        (KeepsAgreement A.lawful A.obliging A.offered A.refusals A.calls)
-        (KeepsHosts H.lawful H.obliging H.accepts H.trusts H.refused_sign H.refused_verify H.refused_check H.calls)
-        (KeepsGroups G.lawful G.obliging G.group G.refusals G.calls)
-        (says_of A.lawful A.offered A.client_makes A.server_makes A.agrees H.lawful H.obliging H.accepts H.trusts
-        H.makes G.lawful G.group)
-        (denies_of A.obliging A.offered A.client_makes A.server_makes A.refusals H.obliging H.accepts H.refused_sign
-        H.refused_verify G.obliging G.refusals) }
+    ensures { NothingRefused A.obliging H.obliging G.obliging A.offered ⟦<(A, H, G) as Spoken>⟧.agreement_keeps
+        ⟦<(A, H, G) as Spoken>⟧.hosts_keep ⟦<(A, H, G) as Spoken>⟧.groups_keep ⟦<(A, H, G) as Spoken>⟧.says
+        ⟦<(A, H, G) as Spoken>⟧.denies }
 {}
 
 /// When the last message of an exchange comes, the host that the client has accepted is one that the server presents,
 /// and obliging host keys trust it.
 pub fn host_trusted<A: Agreement, H: HostKeys, G: GroupLookup>()
-    ensures { HostTrusted A.lawful G.lawful H.obliging H.trusts
-        (says_of A.lawful A.offered A.client_makes A.server_makes A.agrees H.lawful H.obliging H.accepts H.trusts
-        H.makes G.lawful G.group) }
+    ensures { HostTrusted A.lawful G.lawful H.obliging H.trusts ⟦<(A, H, G) as Spoken>⟧.says }
 {}
 
-/// Where the agreements of both sides and the server's lookup are lawful, a message of an exchange is all that is refused
-/// of a piece of an honest peer's wire, and want of memory.
+/// Where the agreements of both sides and the server's lookup are lawful, a message of an exchange is all that is
+/// refused of a piece of an honest peer's wire, and want of memory.
 pub fn only_messages_refused<A: Agreement, H: HostKeys, G: GroupLookup>()
-    ensures { OnlyMessagesRefused A.lawful G.lawful
-        (says_of A.lawful A.offered A.client_makes A.server_makes A.agrees H.lawful H.obliging H.accepts H.trusts
-        H.makes G.lawful G.group)
-        (denies_of A.obliging A.offered A.client_makes A.server_makes A.refusals H.obliging H.accepts H.refused_sign
-        H.refused_verify G.obliging G.refusals)
-        (untrusted_of H.obliging H.trusts H.refused_check) }
+    ensures { OnlyMessagesRefused A.lawful G.lawful ⟦<(A, H, G) as Spoken>⟧.says ⟦<(A, H, G) as Spoken>⟧.denies
+        ⟦<(A, H, G) as Spoken>⟧.distrusts }
 {}
 
-/// Where the parts of both sides are lawful, each refusal of a piece of an honest peer's wire has its cause: the lists of
-/// both configurations, what the side's agreement offers, the group of the client's sizes, or a count of refusals of the
-/// side's parts that rose.
+/// Where the parts of both sides are lawful, each refusal of a piece of an honest peer's wire has its cause: the lists
+/// of both configurations, what the side's agreement offers, the group of the client's sizes, or a count of refusals of
+/// the side's parts that rose.
 pub fn refusals_have_causes<A: Agreement, H: HostKeys, G: GroupLookup>()
-    ensures { RefusalsHaveCauses A.lawful H.lawful G.lawful A.offered G.group
-        (says_of A.lawful A.offered A.client_makes A.server_makes A.agrees H.lawful H.obliging H.accepts H.trusts
-        H.makes G.lawful G.group)
-        (denies_of A.obliging A.offered A.client_makes A.server_makes A.refusals H.obliging H.accepts H.refused_sign
-        H.refused_verify G.obliging G.refusals)
-        (untrusted_of H.obliging H.trusts H.refused_check)
-        (rises_of A.refusals H.refused_sign H.refused_verify H.refused_check G.refusals) }
+    ensures { RefusalsHaveCauses A.lawful H.lawful G.lawful A.offered G.group ⟦<(A, H, G) as Spoken>⟧.says
+        ⟦<(A, H, G) as Spoken>⟧.denies ⟦<(A, H, G) as Spoken>⟧.distrusts ⟦<(A, H, G) as Spoken>⟧.rises }
 {}
 
 /// Where they are obliging, the configurations valid and the chosen key exchange offered, nothing of it is refused but
 /// for want of memory.
 pub fn none_refused_in_link<A: Agreement, H: HostKeys, G: GroupLookup>()
-    ensures { NoneRefusedInLink A.obliging H.obliging G.obliging A.offered
-        (KeepsAgreement A.lawful A.obliging A.offered A.refusals A.calls)
-        (KeepsHosts H.lawful H.obliging H.accepts H.trusts H.refused_sign H.refused_verify H.refused_check H.calls)
-        (KeepsGroups G.lawful G.obliging G.group G.refusals G.calls)
-        (says_of A.lawful A.offered A.client_makes A.server_makes A.agrees H.lawful H.obliging H.accepts H.trusts
-        H.makes G.lawful G.group)
-        (denies_of A.obliging A.offered A.client_makes A.server_makes A.refusals H.obliging H.accepts H.refused_sign
-        H.refused_verify G.obliging G.refusals)
-        (untrusted_of H.obliging H.trusts H.refused_check) }
+    ensures { NoneRefusedInLink A.obliging H.obliging G.obliging A.offered ⟦<(A, H, G) as Spoken>⟧.agreement_keeps
+        ⟦<(A, H, G) as Spoken>⟧.hosts_keep ⟦<(A, H, G) as Spoken>⟧.groups_keep ⟦<(A, H, G) as Spoken>⟧.says
+        ⟦<(A, H, G) as Spoken>⟧.denies ⟦<(A, H, G) as Spoken>⟧.distrusts }
 {}
 
 /// Of an honest peer's wire no version line is refused, nothing is out of the strict order, and host keys refuse only
 /// where their own count rose, whatever the parts are.
 pub fn any_refusals<A: Agreement, H: HostKeys, G: GroupLookup>()
-    ensures { AnyRefusals
-        (says_of A.lawful A.offered A.client_makes A.server_makes A.agrees H.lawful H.obliging H.accepts H.trusts
-        H.makes G.lawful G.group)
-        (denies_of A.obliging A.offered A.client_makes A.server_makes A.refusals H.obliging H.accepts H.refused_sign
-        H.refused_verify G.obliging G.refusals)
-        (untrusted_of H.obliging H.trusts H.refused_check)
-        (rises_of A.refusals H.refused_sign H.refused_verify H.refused_check G.refusals) }
+    ensures { AnyRefusals ⟦<(A, H, G) as Spoken>⟧.says ⟦<(A, H, G) as Spoken>⟧.denies ⟦<(A, H, G) as Spoken>⟧.distrusts
+        ⟦<(A, H, G) as Spoken>⟧.rises }
 {}
 
 /// What a side of an attacked run delivers is told by the bytes that it was fed and the exchanges that it recorded, however

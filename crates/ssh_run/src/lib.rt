@@ -1,4 +1,5 @@
-//! A client and a server, joined: what a run of steps does, with both sides' bytes in clear, and with exchanges of keys.
+//! A client and a server, joined: what a run of steps does, with both sides' bytes in clear, and with exchanges of
+//! keys.
 #![tactic(auto)]
 
 mod clear_link;
@@ -6,6 +7,8 @@ mod link;
 mod link_end;
 mod receiver;
 mod run;
+mod told;
 
 pub use crate::link::run_link;
 pub use crate::run::run_clear;
+pub use crate::told::Told;

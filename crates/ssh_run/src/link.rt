@@ -2,25 +2,24 @@
 
 ghost use Rattle.std.specs.Prelude.{◌≡◌, ◌⊎◌, ◌≤◌, ◌<◌, ◌^◌, [], Err, IfErr, IfOk, IfSome, None, OnErr, OnOk, false, length, true};
 ghost use Rattle.std.specs.Str.{is_utf8};
-ghost use Rattle.ssh_kex.specs.Stepping.{says_of};
 ghost use Rattle.ssh_rules.specs.AnyParts.{IsReadLink};
 ghost use Rattle.ssh_rules.specs.Headline.{IsLink};
 ghost use Rattle.ssh_rules.specs.Valid as valid;
 ghost use Rattle.ssh_rules.specs.Valid.{HasSizes, first_config_fault};
 ghost use Rattle.ssh_run.specs.Asking.{CarriedAsks, RunAsks};
-ghost use Rattle.ssh_rules.specs.Asking.{counted_by};
 ghost use Rattle.ssh_run.specs.Carrying.{IsCarried, text_of_id};
 ghost use Rattle.ssh_run.specs.Reports.{IsWholeReport};
-ghost use Rattle.ssh_run.specs.RefusedCarrying.{RefusesLink, telling_of};
+ghost use Rattle.ssh_run.specs.RefusedCarrying.{RefusesLink};
 ghost use Rattle.ssh_run.specs.RunCauses.{IsAnyRunCause, IsRunCause, IsValidRun, all_submits_good, offered_by, rises_by};
-ghost use Rattle.ssh_rules.specs.LinkCauses.{rises_of};
 ghost use Rattle.ssh_rules.specs.RunLaws.{config_of};
 ghost use Rattle.ssh_wire.specs.declared.error.Error.TheVariants.{InvalidConfig, Memory};
 ghost use Rattle.ssh_wire.specs.declared.side.Side.TheVariants.{Client as client_side, Server as server_side};
 
 use crate::link_end::LinkEnd;
+use crate::told::Told;
 use rand_core::Rng;
-use ssh_kex::{Agreement, Config, GroupLookup, HostKeys, Parts};
+use ssh_kex::{Agreement, Config, GroupLookup, Handed, HostKeys, Parts};
+use ssh_rules::Asked;
 use ssh_rules::link::{LinkReport, Mark, MarkList, Step};
 use ssh_transport::{Transport, config_fault};
 use ssh_wire::{ConfigFault, Error, Side, SshId};
@@ -40,11 +39,11 @@ const TURNS: u128 = 32;
 
 /// Runs a client and a server with these configurations over an honest carrier, by these steps.
 ///
-/// InvalidConfig where a configuration is refused, the client's first, before memory is taken. The first step that is refused
-/// ends the run: PacketSize where a payload has no byte or over 262157, Inconsistent where its first byte is neither 5
-/// to 7 nor at least 50, and while bytes are taken what `Transport::feed` answers. Settling answers Disconnect where its
-/// turns have run out, where a side has begun more exchanges than were asked for, or where nothing waits while an exchange
-/// is open or input is unfinished; only parts that break their laws bring that about. Memory.
+/// InvalidConfig where a configuration is refused, the client's first, before memory is taken. The first step that is
+/// refused ends the run: PacketSize where a payload has no byte or over 262157, Inconsistent where its first byte is
+/// neither 5 to 7 nor at least 50, and while bytes are taken what `Transport::feed` answers. Settling answers
+/// Disconnect where its turns have run out, where a side has begun more exchanges than were asked for, or where nothing
+/// waits while an exchange is open or input is unfinished; only parts that break their laws bring that about. Memory.
 pub fn run_link<A: Agreement, H: HostKeys, G: GroupLookup, R: Rng>(
     alloc: Global,
     client: &Config,
@@ -59,27 +58,37 @@ pub fn run_link<A: Agreement, H: HostKeys, G: GroupLookup, R: Rng>(
         → A.lawful server_parts.old.agreement (record { client = client.now; server = server.now })
         → G.lawful server_parts.old.groups (record { client = client.now; server = server.now })
         → IfOk result (IsLink A.client_makes A.server_makes A.agrees client.now server.now steps.now) }
-    ensures configs { IfSome (first_config_fault (valid.config_fault client_side client.now) (valid.config_fault server_side server.now)) (λ f. result ≡ Err (InvalidConfig f)) }
-    ensures refused { IfErr result (IsAnyRunCause (rises_by (rises_of A.refusals H.refused_sign H.refused_verify H.refused_check G.refusals client_parts.old.agreement client_parts.new.agreement client_parts.old.hosts client_parts.new.hosts client_parts.old.groups client_parts.new.groups) (rises_of A.refusals H.refused_sign H.refused_verify H.refused_check G.refusals server_parts.old.agreement server_parts.new.agreement server_parts.old.hosts server_parts.new.hosts server_parts.old.groups server_parts.new.groups)) (config_of (record { client = client.now; server = server.now })) steps.now) }
+    ensures configs { IfSome (first_config_fault (valid.config_fault client_side client.now)
+        (valid.config_fault server_side server.now)) (λ f. result ≡ Err (InvalidConfig f)) }
+    ensures refused { IfErr result (IsAnyRunCause (rises_by (⟦<Parts<A, H, G, R> as Asked>⟧.rises client_parts.old
+        client_parts.new) (⟦<Parts<A, H, G, R> as Asked>⟧.rises server_parts.old server_parts.new))
+        (config_of (record { client = client.now; server = server.now })) steps.now) }
     ensures causes { A.lawful client_parts.old.agreement (record { client = client.now; server = server.now })
         → A.lawful server_parts.old.agreement (record { client = client.now; server = server.now })
         → H.lawful client_parts.old.hosts (record { client = client.now; server = server.now })
         → H.lawful server_parts.old.hosts (record { client = client.now; server = server.now })
         → G.lawful server_parts.old.groups (record { client = client.now; server = server.now })
-        → IfErr result (IsRunCause (rises_by (rises_of A.refusals H.refused_sign H.refused_verify H.refused_check G.refusals client_parts.old.agreement client_parts.new.agreement client_parts.old.hosts client_parts.new.hosts client_parts.old.groups client_parts.new.groups) (rises_of A.refusals H.refused_sign H.refused_verify H.refused_check G.refusals server_parts.old.agreement server_parts.new.agreement server_parts.old.hosts server_parts.new.hosts server_parts.old.groups server_parts.new.groups)) (config_of (record { client = client.now; server = server.now }))
-        (offered_by (A.offered client_parts.old.agreement) (A.offered server_parts.old.agreement)) (G.group server_parts.old.groups client.now.gex) steps.now) }
-    ensures complete { IsValidRun (config_of (record { client = client.now; server = server.now })) (offered_by (A.offered client_parts.old.agreement) (A.offered server_parts.old.agreement)) steps.now
+        → IfErr result (IsRunCause (rises_by (⟦<Parts<A, H, G, R> as Asked>⟧.rises client_parts.old client_parts.new)
+        (⟦<Parts<A, H, G, R> as Asked>⟧.rises server_parts.old server_parts.new))
+        (config_of (record { client = client.now; server = server.now }))
+        (offered_by (A.offered client_parts.old.agreement) (A.offered server_parts.old.agreement))
+        (G.group server_parts.old.groups client.now.gex) steps.now) }
+    ensures complete { IsValidRun (config_of (record { client = client.now; server = server.now }))
+        (offered_by (A.offered client_parts.old.agreement) (A.offered server_parts.old.agreement)) steps.now
         → A.obliging client_parts.old.agreement (record { client = client.now; server = server.now })
         → A.obliging server_parts.old.agreement (record { client = client.now; server = server.now })
         → H.obliging client_parts.old.hosts (record { client = client.now; server = server.now })
         → H.obliging server_parts.old.hosts (record { client = client.now; server = server.now })
         → G.obliging server_parts.old.groups (record { client = client.now; server = server.now })
         → IfErr result (λ e. e ≡ Memory) }
-    ensures read { IfOk result (IsReadLink (H.accepts client_parts.old.hosts) (H.trusts client_parts.old.hosts) client.now server.now) }
+    ensures read { IfOk result (IsReadLink (H.accepts client_parts.old.hosts) (H.trusts client_parts.old.hosts)
+        client.now server.now) }
     ensures calls { A.lawful client_parts.old.agreement (record { client = client.now; server = server.now })
         → A.lawful server_parts.old.agreement (record { client = client.now; server = server.now })
         → G.lawful server_parts.old.groups (record { client = client.now; server = server.now })
-        → RunAsks client.now server.now steps.now (counted_by A.calls H.calls G.calls client_parts.old.agreement client_parts.old.hosts client_parts.old.groups) (counted_by A.calls H.calls G.calls client_parts.new.agreement client_parts.new.hosts client_parts.new.groups) (counted_by A.calls H.calls G.calls server_parts.old.agreement server_parts.old.hosts server_parts.old.groups) (counted_by A.calls H.calls G.calls server_parts.new.agreement server_parts.new.hosts server_parts.new.groups) }
+        → RunAsks client.now server.now steps.now (⟦<Parts<A, H, G, R> as Asked>⟧.calls client_parts.old)
+        (⟦<Parts<A, H, G, R> as Asked>⟧.calls client_parts.new) (⟦<Parts<A, H, G, R> as Asked>⟧.calls server_parts.old)
+        (⟦<Parts<A, H, G, R> as Asked>⟧.calls server_parts.new) }
 {
     see_types(client);
     see_types(server);
@@ -109,7 +118,8 @@ fn id_text(id: &SshId) -> &str
 
 /// The first test that refuses one of two configurations, the client's tested first, if one does.
 fn first_fault(client: &Config, server: &Config) -> Option<ConfigFault>
-    ensures { result ≡ first_config_fault (valid.config_fault client_side client.now) (valid.config_fault server_side server.now) }
+    ensures { result ≡ first_config_fault (valid.config_fault client_side client.now)
+        (valid.config_fault server_side server.now) }
 {
     match config_fault(Side::Client, client) {
         Some(fault) => Some(fault),
@@ -128,11 +138,19 @@ fn carry_steps<A: Agreement, H: HostKeys, G: GroupLookup, R: Rng>(
 ) -> Result<LinkReport, Error>
     ensures client { OnOk result (valid.config_fault client_side client.now ≡ None) }
     ensures server { OnOk result (valid.config_fault server_side server.now ≡ None) }
-    ensures configs { IfSome (first_config_fault (valid.config_fault client_side client.now) (valid.config_fault server_side server.now)) (λ f. result ≡ Err (InvalidConfig f)) }
+    ensures configs { IfSome (first_config_fault (valid.config_fault client_side client.now)
+        (valid.config_fault server_side server.now)) (λ f. result ≡ Err (InvalidConfig f)) }
     ensures few { OnOk result (length steps.now < 2 ^ 64) }
-    ensures refused { IfErr result (λ e. RefusesLink (telling_of A.lawful A.obliging A.offered A.client_makes A.server_makes A.agrees A.refusals H.lawful H.obliging H.accepts H.trusts H.makes H.refused_sign H.refused_verify H.refused_check G.lawful G.obliging G.group G.refusals client.now client_parts.old.agreement client_parts.new.agreement client_parts.old.hosts client_parts.new.hosts client_parts.old.groups client_parts.new.groups) (telling_of A.lawful A.obliging A.offered A.client_makes A.server_makes A.agrees A.refusals H.lawful H.obliging H.accepts H.trusts H.makes H.refused_sign H.refused_verify H.refused_check G.lawful G.obliging G.group G.refusals server.now server_parts.old.agreement server_parts.new.agreement server_parts.old.hosts server_parts.new.hosts server_parts.old.groups server_parts.new.groups) client.now server.now steps.now e) }
-    ensures carried { IfOk result (IsCarried (says_of A.lawful A.offered A.client_makes A.server_makes A.agrees H.lawful H.obliging H.accepts H.trusts H.makes G.lawful G.group client.now client_parts.old.agreement client_parts.old.hosts client_parts.old.groups) (says_of A.lawful A.offered A.client_makes A.server_makes A.agrees H.lawful H.obliging H.accepts H.trusts H.makes G.lawful G.group server.now server_parts.old.agreement server_parts.old.hosts server_parts.old.groups) client.now server.now steps.now) }
-    ensures asks { CarriedAsks (says_of A.lawful A.offered A.client_makes A.server_makes A.agrees H.lawful H.obliging H.accepts H.trusts H.makes G.lawful G.group client.now client_parts.old.agreement client_parts.old.hosts client_parts.old.groups) (says_of A.lawful A.offered A.client_makes A.server_makes A.agrees H.lawful H.obliging H.accepts H.trusts H.makes G.lawful G.group server.now server_parts.old.agreement server_parts.old.hosts server_parts.old.groups) client.now server.now steps.now (counted_by A.calls H.calls G.calls client_parts.old.agreement client_parts.old.hosts client_parts.old.groups) (counted_by A.calls H.calls G.calls client_parts.new.agreement client_parts.new.hosts client_parts.new.groups) (counted_by A.calls H.calls G.calls server_parts.old.agreement server_parts.old.hosts server_parts.old.groups) (counted_by A.calls H.calls G.calls server_parts.new.agreement server_parts.new.hosts server_parts.new.groups) }
+    ensures refused { IfErr result (λ e. RefusesLink (⟦<Parts<A, H, G, R> as Told>⟧.telling client.now client_parts.old
+        client_parts.new) (⟦<Parts<A, H, G, R> as Told>⟧.telling server.now server_parts.old server_parts.new)
+        client.now server.now steps.now e) }
+    ensures carried { IfOk result (IsCarried (⟦<Parts<A, H, G, R> as Handed>⟧.says client.now client_parts.old)
+        (⟦<Parts<A, H, G, R> as Handed>⟧.says server.now server_parts.old) client.now server.now steps.now) }
+    ensures asks { CarriedAsks (⟦<Parts<A, H, G, R> as Handed>⟧.says client.now client_parts.old)
+        (⟦<Parts<A, H, G, R> as Handed>⟧.says server.now server_parts.old) client.now server.now steps.now
+        (⟦<Parts<A, H, G, R> as Asked>⟧.calls client_parts.old) (⟦<Parts<A, H, G, R> as Asked>⟧.calls client_parts.new)
+        (⟦<Parts<A, H, G, R> as Asked>⟧.calls server_parts.old) (⟦<Parts<A, H, G, R> as Asked>⟧.calls
+        server_parts.new) }
 {
     if let Some(fault) = first_fault(client, server) {
         return Err(Error::InvalidConfig(fault));
@@ -143,11 +161,10 @@ fn carry_steps<A: Agreement, H: HostKeys, G: GroupLookup, R: Rng>(
 }
 
 impl<'c> Link<'c> {
-    ghost use Rattle.ssh_kex.specs.Parts.{KeepsAgreement, KeepsGroups, KeepsHosts};
     ghost use Rattle.ssh_run.specs.Asking.{LinkAsks, PartAsks, SideAsks, TurnsAsk};
     ghost use Rattle.ssh_run.specs.Carrying.{HasWaiting, IsNewLink, RunsOn, SettlesAll, StepsLink, TakesTurns, reported_link};
     ghost use Rattle.ssh_run.specs.LinkEnds.{link_mark, link_of};
-    ghost use Rattle.ssh_run.specs.RefusedCarrying.{BeginTooMany, IsConfigFault, RefusesRun, RefusesSettle, RefusesStep, RefusesSubmit, RefusesTurn, begun_by, bound_behind, telling_of};
+    ghost use Rattle.ssh_run.specs.RefusedCarrying.{BeginTooMany, IsConfigFault, RefusesRun, RefusesSettle, RefusesStep, RefusesSubmit, RefusesTurn, begun_by, bound_behind};
     ghost use Rattle.ssh_wire.specs.declared.error.Error.TheVariants.{Memory};
     ghost use Rattle.ssh_rules.specs.declared.link.Step.TheVariants.{Deliver, Rekey, Submit};
 
@@ -185,9 +202,22 @@ impl<'c> Link<'c> {
         steps: &[Step],
     ) -> Result<Vec<Mark>, Error>
         ensures few { length steps.now < 2 ^ 64 }
-        ensures refused { self.old.bound ≡ 1 → self.old.client.transport.failed ≡ false → self.old.server.transport.failed ≡ false → IfErr result (λ e. RefusesRun (telling_of A.lawful A.obliging A.offered A.client_makes A.server_makes A.agrees A.refusals H.lawful H.obliging H.accepts H.trusts H.makes H.refused_sign H.refused_verify H.refused_check G.lawful G.obliging G.group G.refusals self.old.client.transport.config client_parts.old.agreement client_parts.new.agreement client_parts.old.hosts client_parts.new.hosts client_parts.old.groups client_parts.new.groups) (telling_of A.lawful A.obliging A.offered A.client_makes A.server_makes A.agrees A.refusals H.lawful H.obliging H.accepts H.trusts H.makes H.refused_sign H.refused_verify H.refused_check G.lawful G.obliging G.group G.refusals self.old.server.transport.config server_parts.old.agreement server_parts.new.agreement server_parts.old.hosts server_parts.new.hosts server_parts.old.groups server_parts.new.groups) steps.now (link_of self.old) e) }
-        ensures runs { IfOk result (λ marks. RunsOn (says_of A.lawful A.offered A.client_makes A.server_makes A.agrees H.lawful H.obliging H.accepts H.trusts H.makes G.lawful G.group self.old.client.transport.config client_parts.old.agreement client_parts.old.hosts client_parts.old.groups) (says_of A.lawful A.offered A.client_makes A.server_makes A.agrees H.lawful H.obliging H.accepts H.trusts H.makes G.lawful G.group self.old.server.transport.config server_parts.old.agreement server_parts.old.hosts server_parts.old.groups) steps.now (link_of self.old) (link_of self.new) marks.items) }
-        ensures asks { self.old.client.transport.failed ≡ false → self.old.server.transport.failed ≡ false → LinkAsks (says_of A.lawful A.offered A.client_makes A.server_makes A.agrees H.lawful H.obliging H.accepts H.trusts H.makes G.lawful G.group self.old.client.transport.config client_parts.old.agreement client_parts.old.hosts client_parts.old.groups) (says_of A.lawful A.offered A.client_makes A.server_makes A.agrees H.lawful H.obliging H.accepts H.trusts H.makes G.lawful G.group self.old.server.transport.config server_parts.old.agreement server_parts.old.hosts server_parts.old.groups) steps.now (link_of self.old) (counted_by A.calls H.calls G.calls client_parts.old.agreement client_parts.old.hosts client_parts.old.groups) (counted_by A.calls H.calls G.calls client_parts.new.agreement client_parts.new.hosts client_parts.new.groups) (counted_by A.calls H.calls G.calls server_parts.old.agreement server_parts.old.hosts server_parts.old.groups) (counted_by A.calls H.calls G.calls server_parts.new.agreement server_parts.new.hosts server_parts.new.groups) }
+        ensures refused { self.old.bound ≡ 1 → self.old.client.transport.failed ≡ false
+            → self.old.server.transport.failed ≡ false → IfErr result
+            (λ e. RefusesRun (⟦<Parts<A, H, G, R> as Told>⟧.telling self.old.client.transport.config client_parts.old
+            client_parts.new) (⟦<Parts<A, H, G, R> as Told>⟧.telling self.old.server.transport.config server_parts.old
+            server_parts.new) steps.now (link_of self.old) e) }
+        ensures runs { IfOk result (λ marks. RunsOn (⟦<Parts<A, H, G, R> as Handed>⟧.says
+            self.old.client.transport.config client_parts.old) (⟦<Parts<A, H, G, R> as Handed>⟧.says
+            self.old.server.transport.config server_parts.old) steps.now (link_of self.old) (link_of self.new)
+            marks.items) }
+        ensures asks { self.old.client.transport.failed ≡ false → self.old.server.transport.failed ≡ false → LinkAsks
+            (⟦<Parts<A, H, G, R> as Handed>⟧.says self.old.client.transport.config client_parts.old)
+            (⟦<Parts<A, H, G, R> as Handed>⟧.says self.old.server.transport.config server_parts.old) steps.now
+            (link_of self.old) (⟦<Parts<A, H, G, R> as Asked>⟧.calls client_parts.old)
+            (⟦<Parts<A, H, G, R> as Asked>⟧.calls client_parts.new)
+            (⟦<Parts<A, H, G, R> as Asked>⟧.calls server_parts.old)
+            (⟦<Parts<A, H, G, R> as Asked>⟧.calls server_parts.new) }
     {
         let mut marks = Vec::with_capacity(alloc, steps.len().saturating_add(1))?;
         marks.push(self.mark())?;
@@ -206,18 +236,29 @@ impl<'c> Link<'c> {
         server_parts: &mut Parts<A, H, G, R>,
         step: &Step,
     ) -> Result<(), Error>
-        ensures steps { OnOk result (StepsLink (says_of A.lawful A.offered A.client_makes A.server_makes A.agrees H.lawful H.obliging H.accepts H.trusts H.makes G.lawful G.group self.old.client.transport.config client_parts.old.agreement client_parts.old.hosts client_parts.old.groups) (says_of A.lawful A.offered A.client_makes A.server_makes A.agrees H.lawful H.obliging H.accepts H.trusts H.makes G.lawful G.group self.old.server.transport.config server_parts.old.agreement server_parts.old.hosts server_parts.old.groups) step.now (link_of self.old) (link_of self.new)) }
-        ensures refused { self.old.client.transport.failed ≡ false → self.old.server.transport.failed ≡ false → IfErr result (λ e. RefusesStep (telling_of A.lawful A.obliging A.offered A.client_makes A.server_makes A.agrees A.refusals H.lawful H.obliging H.accepts H.trusts H.makes H.refused_sign H.refused_verify H.refused_check G.lawful G.obliging G.group G.refusals self.old.client.transport.config client_parts.old.agreement client_parts.new.agreement client_parts.old.hosts client_parts.new.hosts client_parts.old.groups client_parts.new.groups) (telling_of A.lawful A.obliging A.offered A.client_makes A.server_makes A.agrees A.refusals H.lawful H.obliging H.accepts H.trusts H.makes H.refused_sign H.refused_verify H.refused_check G.lawful G.obliging G.group G.refusals self.old.server.transport.config server_parts.old.agreement server_parts.new.agreement server_parts.old.hosts server_parts.new.hosts server_parts.old.groups server_parts.new.groups) self.old.bound step.now (link_of self.old) e) }
+        ensures steps { OnOk result (StepsLink (⟦<Parts<A, H, G, R> as Handed>⟧.says self.old.client.transport.config
+            client_parts.old) (⟦<Parts<A, H, G, R> as Handed>⟧.says self.old.server.transport.config server_parts.old)
+            step.now (link_of self.old) (link_of self.new)) }
+        ensures refused { self.old.client.transport.failed ≡ false → self.old.server.transport.failed ≡ false → IfErr
+            result (λ e. RefusesStep (⟦<Parts<A, H, G, R> as Told>⟧.telling self.old.client.transport.config
+            client_parts.old client_parts.new) (⟦<Parts<A, H, G, R> as Told>⟧.telling self.old.server.transport.config
+            server_parts.old server_parts.new) self.old.bound step.now (link_of self.old) e) }
         ensures bound { self.new.bound ≡ bound_behind step.now self.old.bound }
-        ensures client_agreement { KeepsAgreement A.lawful A.obliging A.offered A.refusals A.calls client_parts.old.agreement client_parts.new.agreement }
-        ensures client_hosts { KeepsHosts H.lawful H.obliging H.accepts H.trusts H.refused_sign H.refused_verify H.refused_check H.calls client_parts.old.hosts client_parts.new.hosts }
-        ensures client_groups { KeepsGroups G.lawful G.obliging G.group G.refusals G.calls client_parts.old.groups client_parts.new.groups }
-        ensures server_agreement { KeepsAgreement A.lawful A.obliging A.offered A.refusals A.calls server_parts.old.agreement server_parts.new.agreement }
-        ensures server_hosts { KeepsHosts H.lawful H.obliging H.accepts H.trusts H.refused_sign H.refused_verify H.refused_check H.calls server_parts.old.hosts server_parts.new.hosts }
-        ensures server_groups { KeepsGroups G.lawful G.obliging G.group G.refusals G.calls server_parts.old.groups server_parts.new.groups }
-        ensures asks_client { OnOk result (SideAsks self.old.client.transport self.new.client.transport (counted_by A.calls H.calls G.calls client_parts.old.agreement client_parts.old.hosts client_parts.old.groups) (counted_by A.calls H.calls G.calls client_parts.new.agreement client_parts.new.hosts client_parts.new.groups)) }
-        ensures asks_server { OnOk result (SideAsks self.old.server.transport self.new.server.transport (counted_by A.calls H.calls G.calls server_parts.old.agreement server_parts.old.hosts server_parts.old.groups) (counted_by A.calls H.calls G.calls server_parts.new.agreement server_parts.new.hosts server_parts.new.groups)) }
-        ensures asked { self.old.client.transport.failed ≡ false → self.old.server.transport.failed ≡ false → OnErr result (TurnsAsk (says_of A.lawful A.offered A.client_makes A.server_makes A.agrees H.lawful H.obliging H.accepts H.trusts H.makes G.lawful G.group self.old.client.transport.config client_parts.old.agreement client_parts.old.hosts client_parts.old.groups) (says_of A.lawful A.offered A.client_makes A.server_makes A.agrees H.lawful H.obliging H.accepts H.trusts H.makes G.lawful G.group self.old.server.transport.config server_parts.old.agreement server_parts.old.hosts server_parts.old.groups) (link_of self.old) (counted_by A.calls H.calls G.calls client_parts.old.agreement client_parts.old.hosts client_parts.old.groups) (counted_by A.calls H.calls G.calls client_parts.new.agreement client_parts.new.hosts client_parts.new.groups) (counted_by A.calls H.calls G.calls server_parts.old.agreement server_parts.old.hosts server_parts.old.groups) (counted_by A.calls H.calls G.calls server_parts.new.agreement server_parts.new.hosts server_parts.new.groups)) }
+        ensures client_keeps { ⟦<Parts<A, H, G, R> as Handed>⟧.keeps client_parts.old client_parts.new }
+        ensures server_keeps { ⟦<Parts<A, H, G, R> as Handed>⟧.keeps server_parts.old server_parts.new }
+        ensures asks_client { OnOk result (SideAsks self.old.client.transport self.new.client.transport
+            (⟦<Parts<A, H, G, R> as Asked>⟧.calls client_parts.old)
+            (⟦<Parts<A, H, G, R> as Asked>⟧.calls client_parts.new)) }
+        ensures asks_server { OnOk result (SideAsks self.old.server.transport self.new.server.transport
+            (⟦<Parts<A, H, G, R> as Asked>⟧.calls server_parts.old)
+            (⟦<Parts<A, H, G, R> as Asked>⟧.calls server_parts.new)) }
+        ensures asked { self.old.client.transport.failed ≡ false → self.old.server.transport.failed ≡ false → OnErr
+            result (TurnsAsk (⟦<Parts<A, H, G, R> as Handed>⟧.says self.old.client.transport.config client_parts.old)
+            (⟦<Parts<A, H, G, R> as Handed>⟧.says self.old.server.transport.config server_parts.old) (link_of self.old)
+            (⟦<Parts<A, H, G, R> as Asked>⟧.calls client_parts.old)
+            (⟦<Parts<A, H, G, R> as Asked>⟧.calls client_parts.new)
+            (⟦<Parts<A, H, G, R> as Asked>⟧.calls server_parts.old)
+            (⟦<Parts<A, H, G, R> as Asked>⟧.calls server_parts.new)) }
     {
         match step {
             Step::Submit(side, payload) => {
@@ -230,7 +271,7 @@ impl<'c> Link<'c> {
     }
 
     /// Submits a payload to a side.
-    #[tactic(auto, using(ssh_transport::proofs::Lemmas::agreement_same, ssh_transport::proofs::Lemmas::hosts_same, ssh_transport::proofs::Lemmas::groups_same, crate::proofs::Asking::side_still, crate::proofs::Asking::side_same))]
+    #[tactic(auto, using(ssh_transport::proofs::Lemmas::parts_same, crate::proofs::Asking::side_still, crate::proofs::Asking::side_same))]
     fn submit<A: Agreement, H: HostKeys, G: GroupLookup, R: Rng>(
         &mut self,
         client_parts: &mut Parts<A, H, G, R>,
@@ -238,19 +279,24 @@ impl<'c> Link<'c> {
         side: Side,
         payload: &[u8],
     ) -> Result<(), Error>
-        ensures submits { OnOk result (StepsLink (says_of A.lawful A.offered A.client_makes A.server_makes A.agrees H.lawful H.obliging H.accepts H.trusts H.makes G.lawful G.group self.old.client.transport.config client_parts.old.agreement client_parts.old.hosts client_parts.old.groups) (says_of A.lawful A.offered A.client_makes A.server_makes A.agrees H.lawful H.obliging H.accepts H.trusts H.makes G.lawful G.group self.old.server.transport.config server_parts.old.agreement server_parts.old.hosts server_parts.old.groups) (Submit side payload.now) (link_of self.old) (link_of self.new)) }
-        ensures refused { self.old.client.transport.failed ≡ false → self.old.server.transport.failed ≡ false → IfErr result (λ e. RefusesSubmit payload.now e) }
+        ensures submits { OnOk result (StepsLink (⟦<Parts<A, H, G, R> as Handed>⟧.says self.old.client.transport.config
+            client_parts.old) (⟦<Parts<A, H, G, R> as Handed>⟧.says self.old.server.transport.config server_parts.old)
+            (Submit side payload.now) (link_of self.old) (link_of self.new)) }
+        ensures refused { self.old.client.transport.failed ≡ false → self.old.server.transport.failed ≡ false → IfErr
+            result (λ e. RefusesSubmit payload.now e) }
         ensures bound { self.new.bound ≡ bound_behind (Submit side payload.now) self.old.bound }
-        ensures client_agreement { KeepsAgreement A.lawful A.obliging A.offered A.refusals A.calls client_parts.old.agreement client_parts.new.agreement }
-        ensures client_hosts { KeepsHosts H.lawful H.obliging H.accepts H.trusts H.refused_sign H.refused_verify H.refused_check H.calls client_parts.old.hosts client_parts.new.hosts }
-        ensures client_groups { KeepsGroups G.lawful G.obliging G.group G.refusals G.calls client_parts.old.groups client_parts.new.groups }
-        ensures server_agreement { KeepsAgreement A.lawful A.obliging A.offered A.refusals A.calls server_parts.old.agreement server_parts.new.agreement }
-        ensures server_hosts { KeepsHosts H.lawful H.obliging H.accepts H.trusts H.refused_sign H.refused_verify H.refused_check H.calls server_parts.old.hosts server_parts.new.hosts }
-        ensures server_groups { KeepsGroups G.lawful G.obliging G.group G.refusals G.calls server_parts.old.groups server_parts.new.groups }
-        ensures asks_client { OnOk result (SideAsks self.old.client.transport self.new.client.transport (counted_by A.calls H.calls G.calls client_parts.old.agreement client_parts.old.hosts client_parts.old.groups) (counted_by A.calls H.calls G.calls client_parts.new.agreement client_parts.new.hosts client_parts.new.groups)) }
-        ensures asks_server { OnOk result (SideAsks self.old.server.transport self.new.server.transport (counted_by A.calls H.calls G.calls server_parts.old.agreement server_parts.old.hosts server_parts.old.groups) (counted_by A.calls H.calls G.calls server_parts.new.agreement server_parts.new.hosts server_parts.new.groups)) }
-        ensures calls_client { (counted_by A.calls H.calls G.calls client_parts.new.agreement client_parts.new.hosts client_parts.new.groups) ≡ (counted_by A.calls H.calls G.calls client_parts.old.agreement client_parts.old.hosts client_parts.old.groups) }
-        ensures calls_server { (counted_by A.calls H.calls G.calls server_parts.new.agreement server_parts.new.hosts server_parts.new.groups) ≡ (counted_by A.calls H.calls G.calls server_parts.old.agreement server_parts.old.hosts server_parts.old.groups) }
+        ensures client_keeps { ⟦<Parts<A, H, G, R> as Handed>⟧.keeps client_parts.old client_parts.new }
+        ensures server_keeps { ⟦<Parts<A, H, G, R> as Handed>⟧.keeps server_parts.old server_parts.new }
+        ensures asks_client { OnOk result (SideAsks self.old.client.transport self.new.client.transport
+            (⟦<Parts<A, H, G, R> as Asked>⟧.calls client_parts.old)
+            (⟦<Parts<A, H, G, R> as Asked>⟧.calls client_parts.new)) }
+        ensures asks_server { OnOk result (SideAsks self.old.server.transport self.new.server.transport
+            (⟦<Parts<A, H, G, R> as Asked>⟧.calls server_parts.old)
+            (⟦<Parts<A, H, G, R> as Asked>⟧.calls server_parts.new)) }
+        ensures calls_client { (⟦<Parts<A, H, G, R> as Asked>⟧.calls client_parts.new)
+            ≡ (⟦<Parts<A, H, G, R> as Asked>⟧.calls client_parts.old) }
+        ensures calls_server { (⟦<Parts<A, H, G, R> as Asked>⟧.calls server_parts.new)
+            ≡ (⟦<Parts<A, H, G, R> as Asked>⟧.calls server_parts.old) }
     {
         self.bound = self.bound.saturating_add(2);
         match side {
@@ -260,7 +306,7 @@ impl<'c> Link<'c> {
     }
 
     /// Carries bytes to a side.
-    #[tactic(auto, using(ssh_transport::proofs::Lemmas::agreement_same, ssh_transport::proofs::Lemmas::hosts_same, ssh_transport::proofs::Lemmas::groups_same, crate::proofs::Asking::side_still, crate::proofs::Asking::client_part, crate::proofs::Asking::server_part))]
+    #[tactic(auto, using(ssh_transport::proofs::Lemmas::parts_same, crate::proofs::Asking::side_still, crate::proofs::Asking::client_part, crate::proofs::Asking::server_part))]
     fn deliver<A: Agreement, H: HostKeys, G: GroupLookup, R: Rng>(
         &mut self,
         client_parts: &mut Parts<A, H, G, R>,
@@ -268,18 +314,29 @@ impl<'c> Link<'c> {
         side: Side,
         count: u64,
     ) -> Result<(), Error>
-        ensures delivers { OnOk result (StepsLink (says_of A.lawful A.offered A.client_makes A.server_makes A.agrees H.lawful H.obliging H.accepts H.trusts H.makes G.lawful G.group self.old.client.transport.config client_parts.old.agreement client_parts.old.hosts client_parts.old.groups) (says_of A.lawful A.offered A.client_makes A.server_makes A.agrees H.lawful H.obliging H.accepts H.trusts H.makes G.lawful G.group self.old.server.transport.config server_parts.old.agreement server_parts.old.hosts server_parts.old.groups) (Deliver side count) (link_of self.old) (link_of self.new)) }
-        ensures refused { self.old.client.transport.failed ≡ false → self.old.server.transport.failed ≡ false → IfErr result (λ e. RefusesStep (telling_of A.lawful A.obliging A.offered A.client_makes A.server_makes A.agrees A.refusals H.lawful H.obliging H.accepts H.trusts H.makes H.refused_sign H.refused_verify H.refused_check G.lawful G.obliging G.group G.refusals self.old.client.transport.config client_parts.old.agreement client_parts.new.agreement client_parts.old.hosts client_parts.new.hosts client_parts.old.groups client_parts.new.groups) (telling_of A.lawful A.obliging A.offered A.client_makes A.server_makes A.agrees A.refusals H.lawful H.obliging H.accepts H.trusts H.makes H.refused_sign H.refused_verify H.refused_check G.lawful G.obliging G.group G.refusals self.old.server.transport.config server_parts.old.agreement server_parts.new.agreement server_parts.old.hosts server_parts.new.hosts server_parts.old.groups server_parts.new.groups) self.old.bound (Deliver side count) (link_of self.old) e) }
+        ensures delivers { OnOk result (StepsLink (⟦<Parts<A, H, G, R> as Handed>⟧.says self.old.client.transport.config
+            client_parts.old) (⟦<Parts<A, H, G, R> as Handed>⟧.says self.old.server.transport.config server_parts.old)
+            (Deliver side count) (link_of self.old) (link_of self.new)) }
+        ensures refused { self.old.client.transport.failed ≡ false → self.old.server.transport.failed ≡ false → IfErr
+            result (λ e. RefusesStep (⟦<Parts<A, H, G, R> as Told>⟧.telling self.old.client.transport.config
+            client_parts.old client_parts.new) (⟦<Parts<A, H, G, R> as Told>⟧.telling self.old.server.transport.config
+            server_parts.old server_parts.new) self.old.bound (Deliver side count) (link_of self.old) e) }
         ensures bound { self.new.bound ≡ self.old.bound }
-        ensures client_agreement { KeepsAgreement A.lawful A.obliging A.offered A.refusals A.calls client_parts.old.agreement client_parts.new.agreement }
-        ensures client_hosts { KeepsHosts H.lawful H.obliging H.accepts H.trusts H.refused_sign H.refused_verify H.refused_check H.calls client_parts.old.hosts client_parts.new.hosts }
-        ensures client_groups { KeepsGroups G.lawful G.obliging G.group G.refusals G.calls client_parts.old.groups client_parts.new.groups }
-        ensures server_agreement { KeepsAgreement A.lawful A.obliging A.offered A.refusals A.calls server_parts.old.agreement server_parts.new.agreement }
-        ensures server_hosts { KeepsHosts H.lawful H.obliging H.accepts H.trusts H.refused_sign H.refused_verify H.refused_check H.calls server_parts.old.hosts server_parts.new.hosts }
-        ensures server_groups { KeepsGroups G.lawful G.obliging G.group G.refusals G.calls server_parts.old.groups server_parts.new.groups }
-        ensures asks_client { OnOk result (SideAsks self.old.client.transport self.new.client.transport (counted_by A.calls H.calls G.calls client_parts.old.agreement client_parts.old.hosts client_parts.old.groups) (counted_by A.calls H.calls G.calls client_parts.new.agreement client_parts.new.hosts client_parts.new.groups)) }
-        ensures asks_server { OnOk result (SideAsks self.old.server.transport self.new.server.transport (counted_by A.calls H.calls G.calls server_parts.old.agreement server_parts.old.hosts server_parts.old.groups) (counted_by A.calls H.calls G.calls server_parts.new.agreement server_parts.new.hosts server_parts.new.groups)) }
-        ensures asked { self.old.client.transport.failed ≡ false → self.old.server.transport.failed ≡ false → OnErr result (PartAsks (says_of A.lawful A.offered A.client_makes A.server_makes A.agrees H.lawful H.obliging H.accepts H.trusts H.makes G.lawful G.group self.old.client.transport.config client_parts.old.agreement client_parts.old.hosts client_parts.old.groups) (says_of A.lawful A.offered A.client_makes A.server_makes A.agrees H.lawful H.obliging H.accepts H.trusts H.makes G.lawful G.group self.old.server.transport.config server_parts.old.agreement server_parts.old.hosts server_parts.old.groups) (link_of self.old) (counted_by A.calls H.calls G.calls client_parts.old.agreement client_parts.old.hosts client_parts.old.groups) (counted_by A.calls H.calls G.calls client_parts.new.agreement client_parts.new.hosts client_parts.new.groups) (counted_by A.calls H.calls G.calls server_parts.old.agreement server_parts.old.hosts server_parts.old.groups) (counted_by A.calls H.calls G.calls server_parts.new.agreement server_parts.new.hosts server_parts.new.groups)) }
+        ensures client_keeps { ⟦<Parts<A, H, G, R> as Handed>⟧.keeps client_parts.old client_parts.new }
+        ensures server_keeps { ⟦<Parts<A, H, G, R> as Handed>⟧.keeps server_parts.old server_parts.new }
+        ensures asks_client { OnOk result (SideAsks self.old.client.transport self.new.client.transport
+            (⟦<Parts<A, H, G, R> as Asked>⟧.calls client_parts.old)
+            (⟦<Parts<A, H, G, R> as Asked>⟧.calls client_parts.new)) }
+        ensures asks_server { OnOk result (SideAsks self.old.server.transport self.new.server.transport
+            (⟦<Parts<A, H, G, R> as Asked>⟧.calls server_parts.old)
+            (⟦<Parts<A, H, G, R> as Asked>⟧.calls server_parts.new)) }
+        ensures asked { self.old.client.transport.failed ≡ false → self.old.server.transport.failed ≡ false → OnErr
+            result (PartAsks (⟦<Parts<A, H, G, R> as Handed>⟧.says self.old.client.transport.config client_parts.old)
+            (⟦<Parts<A, H, G, R> as Handed>⟧.says self.old.server.transport.config server_parts.old) (link_of self.old)
+            (⟦<Parts<A, H, G, R> as Asked>⟧.calls client_parts.old)
+            (⟦<Parts<A, H, G, R> as Asked>⟧.calls client_parts.new)
+            (⟦<Parts<A, H, G, R> as Asked>⟧.calls server_parts.old)
+            (⟦<Parts<A, H, G, R> as Asked>⟧.calls server_parts.new)) }
     {
         match side {
             Side::Client => self
@@ -292,26 +349,31 @@ impl<'c> Link<'c> {
     }
 
     /// Asks a side for new keys.
-    #[tactic(auto, using(ssh_transport::proofs::Lemmas::agreement_same, ssh_transport::proofs::Lemmas::hosts_same, ssh_transport::proofs::Lemmas::groups_same, crate::proofs::Asking::side_still, crate::proofs::Asking::side_same))]
+    #[tactic(auto, using(ssh_transport::proofs::Lemmas::parts_same, crate::proofs::Asking::side_still, crate::proofs::Asking::side_same))]
     fn rekey<A: Agreement, H: HostKeys, G: GroupLookup, R: Rng>(
         &mut self,
         client_parts: &mut Parts<A, H, G, R>,
         server_parts: &mut Parts<A, H, G, R>,
         side: Side,
     ) -> Result<(), Error>
-        ensures rekeys { OnOk result (StepsLink (says_of A.lawful A.offered A.client_makes A.server_makes A.agrees H.lawful H.obliging H.accepts H.trusts H.makes G.lawful G.group self.old.client.transport.config client_parts.old.agreement client_parts.old.hosts client_parts.old.groups) (says_of A.lawful A.offered A.client_makes A.server_makes A.agrees H.lawful H.obliging H.accepts H.trusts H.makes G.lawful G.group self.old.server.transport.config server_parts.old.agreement server_parts.old.hosts server_parts.old.groups) (Rekey side) (link_of self.old) (link_of self.new)) }
-        ensures refused { self.old.client.transport.failed ≡ false → self.old.server.transport.failed ≡ false → IfErr result (λ e. e ≡ Memory) }
+        ensures rekeys { OnOk result (StepsLink (⟦<Parts<A, H, G, R> as Handed>⟧.says self.old.client.transport.config
+            client_parts.old) (⟦<Parts<A, H, G, R> as Handed>⟧.says self.old.server.transport.config server_parts.old)
+            (Rekey side) (link_of self.old) (link_of self.new)) }
+        ensures refused { self.old.client.transport.failed ≡ false → self.old.server.transport.failed ≡ false → IfErr
+            result (λ e. e ≡ Memory) }
         ensures bound { self.new.bound ≡ bound_behind (Rekey side) self.old.bound }
-        ensures client_agreement { KeepsAgreement A.lawful A.obliging A.offered A.refusals A.calls client_parts.old.agreement client_parts.new.agreement }
-        ensures client_hosts { KeepsHosts H.lawful H.obliging H.accepts H.trusts H.refused_sign H.refused_verify H.refused_check H.calls client_parts.old.hosts client_parts.new.hosts }
-        ensures client_groups { KeepsGroups G.lawful G.obliging G.group G.refusals G.calls client_parts.old.groups client_parts.new.groups }
-        ensures server_agreement { KeepsAgreement A.lawful A.obliging A.offered A.refusals A.calls server_parts.old.agreement server_parts.new.agreement }
-        ensures server_hosts { KeepsHosts H.lawful H.obliging H.accepts H.trusts H.refused_sign H.refused_verify H.refused_check H.calls server_parts.old.hosts server_parts.new.hosts }
-        ensures server_groups { KeepsGroups G.lawful G.obliging G.group G.refusals G.calls server_parts.old.groups server_parts.new.groups }
-        ensures asks_client { OnOk result (SideAsks self.old.client.transport self.new.client.transport (counted_by A.calls H.calls G.calls client_parts.old.agreement client_parts.old.hosts client_parts.old.groups) (counted_by A.calls H.calls G.calls client_parts.new.agreement client_parts.new.hosts client_parts.new.groups)) }
-        ensures asks_server { OnOk result (SideAsks self.old.server.transport self.new.server.transport (counted_by A.calls H.calls G.calls server_parts.old.agreement server_parts.old.hosts server_parts.old.groups) (counted_by A.calls H.calls G.calls server_parts.new.agreement server_parts.new.hosts server_parts.new.groups)) }
-        ensures calls_client { (counted_by A.calls H.calls G.calls client_parts.new.agreement client_parts.new.hosts client_parts.new.groups) ≡ (counted_by A.calls H.calls G.calls client_parts.old.agreement client_parts.old.hosts client_parts.old.groups) }
-        ensures calls_server { (counted_by A.calls H.calls G.calls server_parts.new.agreement server_parts.new.hosts server_parts.new.groups) ≡ (counted_by A.calls H.calls G.calls server_parts.old.agreement server_parts.old.hosts server_parts.old.groups) }
+        ensures client_keeps { ⟦<Parts<A, H, G, R> as Handed>⟧.keeps client_parts.old client_parts.new }
+        ensures server_keeps { ⟦<Parts<A, H, G, R> as Handed>⟧.keeps server_parts.old server_parts.new }
+        ensures asks_client { OnOk result (SideAsks self.old.client.transport self.new.client.transport
+            (⟦<Parts<A, H, G, R> as Asked>⟧.calls client_parts.old)
+            (⟦<Parts<A, H, G, R> as Asked>⟧.calls client_parts.new)) }
+        ensures asks_server { OnOk result (SideAsks self.old.server.transport self.new.server.transport
+            (⟦<Parts<A, H, G, R> as Asked>⟧.calls server_parts.old)
+            (⟦<Parts<A, H, G, R> as Asked>⟧.calls server_parts.new)) }
+        ensures calls_client { (⟦<Parts<A, H, G, R> as Asked>⟧.calls client_parts.new)
+            ≡ (⟦<Parts<A, H, G, R> as Asked>⟧.calls client_parts.old) }
+        ensures calls_server { (⟦<Parts<A, H, G, R> as Asked>⟧.calls server_parts.new)
+            ≡ (⟦<Parts<A, H, G, R> as Asked>⟧.calls server_parts.old) }
     {
         self.bound = self.bound.saturating_add(1);
         match side {
@@ -321,26 +383,37 @@ impl<'c> Link<'c> {
     }
 
     /// Lets the server take all that waits for it, then the client, until nothing waits.
-    #[tactic(auto, using(ssh_transport::proofs::Lemmas::agreement_same, ssh_transport::proofs::Lemmas::hosts_same, ssh_transport::proofs::Lemmas::groups_same, crate::proofs::Asking::side_still, crate::proofs::Asking::turns_end))]
+    #[tactic(auto, using(ssh_transport::proofs::Lemmas::parts_same, crate::proofs::Asking::side_still, crate::proofs::Asking::turns_end))]
     fn settle<A: Agreement, H: HostKeys, G: GroupLookup, R: Rng>(
         &mut self,
         client_parts: &mut Parts<A, H, G, R>,
         server_parts: &mut Parts<A, H, G, R>,
     ) -> Result<(), Error>
-        ensures settles { OnOk result (SettlesAll (says_of A.lawful A.offered A.client_makes A.server_makes A.agrees H.lawful H.obliging H.accepts H.trusts H.makes G.lawful G.group self.old.client.transport.config client_parts.old.agreement client_parts.old.hosts client_parts.old.groups) (says_of A.lawful A.offered A.client_makes A.server_makes A.agrees H.lawful H.obliging H.accepts H.trusts H.makes G.lawful G.group self.old.server.transport.config server_parts.old.agreement server_parts.old.hosts server_parts.old.groups) (link_of self.old) (link_of self.new)) }
-        ensures refused { self.old.client.transport.failed ≡ false → self.old.server.transport.failed ≡ false → IfErr result (λ e. RefusesSettle (telling_of A.lawful A.obliging A.offered A.client_makes A.server_makes A.agrees A.refusals H.lawful H.obliging H.accepts H.trusts H.makes H.refused_sign H.refused_verify H.refused_check G.lawful G.obliging G.group G.refusals self.old.client.transport.config client_parts.old.agreement client_parts.new.agreement client_parts.old.hosts client_parts.new.hosts client_parts.old.groups client_parts.new.groups) (telling_of A.lawful A.obliging A.offered A.client_makes A.server_makes A.agrees A.refusals H.lawful H.obliging H.accepts H.trusts H.makes H.refused_sign H.refused_verify H.refused_check G.lawful G.obliging G.group G.refusals self.old.server.transport.config server_parts.old.agreement server_parts.new.agreement server_parts.old.hosts server_parts.new.hosts server_parts.old.groups server_parts.new.groups) self.old.bound (link_of self.old) e) }
+        ensures settles { OnOk result (SettlesAll (⟦<Parts<A, H, G, R> as Handed>⟧.says self.old.client.transport.config
+            client_parts.old) (⟦<Parts<A, H, G, R> as Handed>⟧.says self.old.server.transport.config server_parts.old)
+            (link_of self.old) (link_of self.new)) }
+        ensures refused { self.old.client.transport.failed ≡ false → self.old.server.transport.failed ≡ false → IfErr
+            result (λ e. RefusesSettle (⟦<Parts<A, H, G, R> as Told>⟧.telling self.old.client.transport.config
+            client_parts.old client_parts.new) (⟦<Parts<A, H, G, R> as Told>⟧.telling self.old.server.transport.config
+            server_parts.old server_parts.new) self.old.bound (link_of self.old) e) }
         ensures few_by_client { OnOk result (begun_by (link_of self.new).client ≤ self.old.bound) }
         ensures few_by_server { OnOk result (begun_by (link_of self.new).server ≤ self.old.bound) }
         ensures bound { self.new.bound ≡ self.old.bound }
-        ensures client_agreement { KeepsAgreement A.lawful A.obliging A.offered A.refusals A.calls client_parts.old.agreement client_parts.new.agreement }
-        ensures client_hosts { KeepsHosts H.lawful H.obliging H.accepts H.trusts H.refused_sign H.refused_verify H.refused_check H.calls client_parts.old.hosts client_parts.new.hosts }
-        ensures client_groups { KeepsGroups G.lawful G.obliging G.group G.refusals G.calls client_parts.old.groups client_parts.new.groups }
-        ensures server_agreement { KeepsAgreement A.lawful A.obliging A.offered A.refusals A.calls server_parts.old.agreement server_parts.new.agreement }
-        ensures server_hosts { KeepsHosts H.lawful H.obliging H.accepts H.trusts H.refused_sign H.refused_verify H.refused_check H.calls server_parts.old.hosts server_parts.new.hosts }
-        ensures server_groups { KeepsGroups G.lawful G.obliging G.group G.refusals G.calls server_parts.old.groups server_parts.new.groups }
-        ensures asks_client { OnOk result (SideAsks self.old.client.transport self.new.client.transport (counted_by A.calls H.calls G.calls client_parts.old.agreement client_parts.old.hosts client_parts.old.groups) (counted_by A.calls H.calls G.calls client_parts.new.agreement client_parts.new.hosts client_parts.new.groups)) }
-        ensures asks_server { OnOk result (SideAsks self.old.server.transport self.new.server.transport (counted_by A.calls H.calls G.calls server_parts.old.agreement server_parts.old.hosts server_parts.old.groups) (counted_by A.calls H.calls G.calls server_parts.new.agreement server_parts.new.hosts server_parts.new.groups)) }
-        ensures asked { self.old.client.transport.failed ≡ false → self.old.server.transport.failed ≡ false → OnErr result (TurnsAsk (says_of A.lawful A.offered A.client_makes A.server_makes A.agrees H.lawful H.obliging H.accepts H.trusts H.makes G.lawful G.group self.old.client.transport.config client_parts.old.agreement client_parts.old.hosts client_parts.old.groups) (says_of A.lawful A.offered A.client_makes A.server_makes A.agrees H.lawful H.obliging H.accepts H.trusts H.makes G.lawful G.group self.old.server.transport.config server_parts.old.agreement server_parts.old.hosts server_parts.old.groups) (link_of self.old) (counted_by A.calls H.calls G.calls client_parts.old.agreement client_parts.old.hosts client_parts.old.groups) (counted_by A.calls H.calls G.calls client_parts.new.agreement client_parts.new.hosts client_parts.new.groups) (counted_by A.calls H.calls G.calls server_parts.old.agreement server_parts.old.hosts server_parts.old.groups) (counted_by A.calls H.calls G.calls server_parts.new.agreement server_parts.new.hosts server_parts.new.groups)) }
+        ensures client_keeps { ⟦<Parts<A, H, G, R> as Handed>⟧.keeps client_parts.old client_parts.new }
+        ensures server_keeps { ⟦<Parts<A, H, G, R> as Handed>⟧.keeps server_parts.old server_parts.new }
+        ensures asks_client { OnOk result (SideAsks self.old.client.transport self.new.client.transport
+            (⟦<Parts<A, H, G, R> as Asked>⟧.calls client_parts.old)
+            (⟦<Parts<A, H, G, R> as Asked>⟧.calls client_parts.new)) }
+        ensures asks_server { OnOk result (SideAsks self.old.server.transport self.new.server.transport
+            (⟦<Parts<A, H, G, R> as Asked>⟧.calls server_parts.old)
+            (⟦<Parts<A, H, G, R> as Asked>⟧.calls server_parts.new)) }
+        ensures asked { self.old.client.transport.failed ≡ false → self.old.server.transport.failed ≡ false → OnErr
+            result (TurnsAsk (⟦<Parts<A, H, G, R> as Handed>⟧.says self.old.client.transport.config client_parts.old)
+            (⟦<Parts<A, H, G, R> as Handed>⟧.says self.old.server.transport.config server_parts.old) (link_of self.old)
+            (⟦<Parts<A, H, G, R> as Asked>⟧.calls client_parts.old)
+            (⟦<Parts<A, H, G, R> as Asked>⟧.calls client_parts.new)
+            (⟦<Parts<A, H, G, R> as Asked>⟧.calls server_parts.old)
+            (⟦<Parts<A, H, G, R> as Asked>⟧.calls server_parts.new)) }
     {
         let mut turns = self.bound.saturating_mul(TURNS);
         while self.waits() {
@@ -363,18 +436,29 @@ impl<'c> Link<'c> {
         client_parts: &mut Parts<A, H, G, R>,
         server_parts: &mut Parts<A, H, G, R>,
     ) -> Result<(), Error>
-        ensures turns { OnOk result (TakesTurns (says_of A.lawful A.offered A.client_makes A.server_makes A.agrees H.lawful H.obliging H.accepts H.trusts H.makes G.lawful G.group self.old.client.transport.config client_parts.old.agreement client_parts.old.hosts client_parts.old.groups) (says_of A.lawful A.offered A.client_makes A.server_makes A.agrees H.lawful H.obliging H.accepts H.trusts H.makes G.lawful G.group self.old.server.transport.config server_parts.old.agreement server_parts.old.hosts server_parts.old.groups) (link_of self.old) (link_of self.new)) }
-        ensures refused { self.old.client.transport.failed ≡ false → self.old.server.transport.failed ≡ false → IfErr result (λ e. RefusesTurn (telling_of A.lawful A.obliging A.offered A.client_makes A.server_makes A.agrees A.refusals H.lawful H.obliging H.accepts H.trusts H.makes H.refused_sign H.refused_verify H.refused_check G.lawful G.obliging G.group G.refusals self.old.client.transport.config client_parts.old.agreement client_parts.new.agreement client_parts.old.hosts client_parts.new.hosts client_parts.old.groups client_parts.new.groups) (telling_of A.lawful A.obliging A.offered A.client_makes A.server_makes A.agrees A.refusals H.lawful H.obliging H.accepts H.trusts H.makes H.refused_sign H.refused_verify H.refused_check G.lawful G.obliging G.group G.refusals self.old.server.transport.config server_parts.old.agreement server_parts.new.agreement server_parts.old.hosts server_parts.new.hosts server_parts.old.groups server_parts.new.groups) (link_of self.old) e) }
+        ensures turns { OnOk result (TakesTurns (⟦<Parts<A, H, G, R> as Handed>⟧.says self.old.client.transport.config
+            client_parts.old) (⟦<Parts<A, H, G, R> as Handed>⟧.says self.old.server.transport.config server_parts.old)
+            (link_of self.old) (link_of self.new)) }
+        ensures refused { self.old.client.transport.failed ≡ false → self.old.server.transport.failed ≡ false → IfErr
+            result (λ e. RefusesTurn (⟦<Parts<A, H, G, R> as Told>⟧.telling self.old.client.transport.config
+            client_parts.old client_parts.new) (⟦<Parts<A, H, G, R> as Told>⟧.telling self.old.server.transport.config
+            server_parts.old server_parts.new) (link_of self.old) e) }
         ensures bound { self.new.bound ≡ self.old.bound }
-        ensures client_agreement { KeepsAgreement A.lawful A.obliging A.offered A.refusals A.calls client_parts.old.agreement client_parts.new.agreement }
-        ensures client_hosts { KeepsHosts H.lawful H.obliging H.accepts H.trusts H.refused_sign H.refused_verify H.refused_check H.calls client_parts.old.hosts client_parts.new.hosts }
-        ensures client_groups { KeepsGroups G.lawful G.obliging G.group G.refusals G.calls client_parts.old.groups client_parts.new.groups }
-        ensures server_agreement { KeepsAgreement A.lawful A.obliging A.offered A.refusals A.calls server_parts.old.agreement server_parts.new.agreement }
-        ensures server_hosts { KeepsHosts H.lawful H.obliging H.accepts H.trusts H.refused_sign H.refused_verify H.refused_check H.calls server_parts.old.hosts server_parts.new.hosts }
-        ensures server_groups { KeepsGroups G.lawful G.obliging G.group G.refusals G.calls server_parts.old.groups server_parts.new.groups }
-        ensures asks_client { OnOk result (SideAsks self.old.client.transport self.new.client.transport (counted_by A.calls H.calls G.calls client_parts.old.agreement client_parts.old.hosts client_parts.old.groups) (counted_by A.calls H.calls G.calls client_parts.new.agreement client_parts.new.hosts client_parts.new.groups)) }
-        ensures asks_server { OnOk result (SideAsks self.old.server.transport self.new.server.transport (counted_by A.calls H.calls G.calls server_parts.old.agreement server_parts.old.hosts server_parts.old.groups) (counted_by A.calls H.calls G.calls server_parts.new.agreement server_parts.new.hosts server_parts.new.groups)) }
-        ensures asked { self.old.client.transport.failed ≡ false → self.old.server.transport.failed ≡ false → OnErr result (PartAsks (says_of A.lawful A.offered A.client_makes A.server_makes A.agrees H.lawful H.obliging H.accepts H.trusts H.makes G.lawful G.group self.old.client.transport.config client_parts.old.agreement client_parts.old.hosts client_parts.old.groups) (says_of A.lawful A.offered A.client_makes A.server_makes A.agrees H.lawful H.obliging H.accepts H.trusts H.makes G.lawful G.group self.old.server.transport.config server_parts.old.agreement server_parts.old.hosts server_parts.old.groups) (link_of self.old) (counted_by A.calls H.calls G.calls client_parts.old.agreement client_parts.old.hosts client_parts.old.groups) (counted_by A.calls H.calls G.calls client_parts.new.agreement client_parts.new.hosts client_parts.new.groups) (counted_by A.calls H.calls G.calls server_parts.old.agreement server_parts.old.hosts server_parts.old.groups) (counted_by A.calls H.calls G.calls server_parts.new.agreement server_parts.new.hosts server_parts.new.groups)) }
+        ensures client_keeps { ⟦<Parts<A, H, G, R> as Handed>⟧.keeps client_parts.old client_parts.new }
+        ensures server_keeps { ⟦<Parts<A, H, G, R> as Handed>⟧.keeps server_parts.old server_parts.new }
+        ensures asks_client { OnOk result (SideAsks self.old.client.transport self.new.client.transport
+            (⟦<Parts<A, H, G, R> as Asked>⟧.calls client_parts.old)
+            (⟦<Parts<A, H, G, R> as Asked>⟧.calls client_parts.new)) }
+        ensures asks_server { OnOk result (SideAsks self.old.server.transport self.new.server.transport
+            (⟦<Parts<A, H, G, R> as Asked>⟧.calls server_parts.old)
+            (⟦<Parts<A, H, G, R> as Asked>⟧.calls server_parts.new)) }
+        ensures asked { self.old.client.transport.failed ≡ false → self.old.server.transport.failed ≡ false → OnErr
+            result (PartAsks (⟦<Parts<A, H, G, R> as Handed>⟧.says self.old.client.transport.config client_parts.old)
+            (⟦<Parts<A, H, G, R> as Handed>⟧.says self.old.server.transport.config server_parts.old) (link_of self.old)
+            (⟦<Parts<A, H, G, R> as Asked>⟧.calls client_parts.old)
+            (⟦<Parts<A, H, G, R> as Asked>⟧.calls client_parts.new)
+            (⟦<Parts<A, H, G, R> as Asked>⟧.calls server_parts.old)
+            (⟦<Parts<A, H, G, R> as Asked>⟧.calls server_parts.new)) }
     {
         self.server
             .deliver(server_parts, self.client.output(), u64::MAX)?;
@@ -384,7 +468,8 @@ impl<'c> Link<'c> {
 
     /// What both sides did, with these marks. Memory.
     fn report(self, alloc: Global, marks: Vec<Mark>) -> Result<LinkReport, AllocError>
-        ensures { IfOk result (λ report. report ≡ record (reported_link (link_of self.entry) []) { marks = marks.items }) }
+        ensures { IfOk result (λ report. report ≡ record (reported_link (link_of self.entry) [])
+            { marks = marks.items }) }
     {
         Ok(LinkReport {
             client: self.client.report(alloc)?,

@@ -2,8 +2,10 @@
 
 ghost use Rattle.std.specs.Prelude.{◌≡◌, ◌≤◌, ◌++◌, ◌-◌, IfErr, IfOk, OnErr, OnOk, drop, false, length, true};
 
+use crate::told::Told;
 use rand_core::Rng;
-use ssh_kex::{Agreement, GroupLookup, HostKeys, Parts};
+use ssh_kex::{Agreement, GroupLookup, Handed, HostKeys, Parts};
+use ssh_rules::Asked;
 use ssh_rules::link::{ExchangeList, SideMark, SideReport};
 use ssh_transport::Transport;
 use ssh_wire::{Blob, Error, Payload, PayloadList};
@@ -20,13 +22,10 @@ pub(crate) struct LinkEnd<'c> {
 }
 
 impl<'c> LinkEnd<'c> {
-    ghost use Rattle.ssh_kex.specs.Parts.{KeepsAgreement, KeepsGroups, KeepsHosts};
-    ghost use Rattle.ssh_kex.specs.Stepping.{says_of};
     ghost use Rattle.ssh_run.specs.Asking.{PieceAsks, SideAsks};
-    ghost use Rattle.ssh_rules.specs.Asking.{counted_by};
     ghost use Rattle.ssh_run.specs.Carrying.{AsksKeys, CarriesTo, Rests, SubmitsOne, all_bytes, first_end};
     ghost use Rattle.ssh_run.specs.LinkEnds.{end_mark, end_of};
-    ghost use Rattle.ssh_run.specs.RefusedCarrying.{IsRestless, RefusesCarrying, RefusesSubmit, begun_by, telling_of};
+    ghost use Rattle.ssh_run.specs.RefusedCarrying.{IsRestless, RefusesCarrying, RefusesSubmit, begun_by};
     ghost use Rattle.ssh_wire.specs.declared.error.Error.TheVariants.{Memory};
 
     /// A side that has sent its id line.
@@ -56,19 +55,20 @@ impl<'c> LinkEnd<'c> {
     }
 
     /// Submits a payload.
-    #[tactic(auto, using(ssh_transport::proofs::Lemmas::agreement_same, ssh_transport::proofs::Lemmas::hosts_same, ssh_transport::proofs::Lemmas::groups_same, crate::proofs::Asking::counted_same, crate::proofs::Asking::submitted_asks))]
+    #[tactic(auto, using(ssh_transport::proofs::Lemmas::parts_same, crate::proofs::Asking::counted_same, crate::proofs::Asking::submitted_asks))]
     pub(crate) fn submit<A: Agreement, H: HostKeys, G: GroupLookup, R: Rng>(
         &mut self,
         parts: &mut Parts<A, H, G, R>,
         payload: &[u8],
     ) -> Result<(), Error>
-        ensures submits { OnOk result (SubmitsOne (says_of A.lawful A.offered A.client_makes A.server_makes A.agrees H.lawful H.obliging H.accepts H.trusts H.makes G.lawful G.group self.old.transport.config parts.old.agreement parts.old.hosts parts.old.groups) (end_of self.old) payload.now (end_of self.new)) }
+        ensures submits { OnOk result (SubmitsOne (⟦<Parts<A, H, G, R> as Handed>⟧.says self.old.transport.config
+            parts.old) (end_of self.old) payload.now (end_of self.new)) }
         ensures refused { self.old.transport.failed ≡ false → IfErr result (λ e. RefusesSubmit payload.now e) }
-        ensures agreement { KeepsAgreement A.lawful A.obliging A.offered A.refusals A.calls parts.old.agreement parts.new.agreement }
-        ensures hosts { KeepsHosts H.lawful H.obliging H.accepts H.trusts H.refused_sign H.refused_verify H.refused_check H.calls parts.old.hosts parts.new.hosts }
-        ensures groups { KeepsGroups G.lawful G.obliging G.group G.refusals G.calls parts.old.groups parts.new.groups }
-        ensures calls { (counted_by A.calls H.calls G.calls parts.new.agreement parts.new.hosts parts.new.groups) ≡ (counted_by A.calls H.calls G.calls parts.old.agreement parts.old.hosts parts.old.groups) }
-        ensures side { OnOk result (SideAsks self.old.transport self.new.transport (counted_by A.calls H.calls G.calls parts.old.agreement parts.old.hosts parts.old.groups) (counted_by A.calls H.calls G.calls parts.old.agreement parts.old.hosts parts.old.groups)) }
+        ensures keeps { ⟦<Parts<A, H, G, R> as Handed>⟧.keeps parts.old parts.new }
+        ensures calls { (⟦<Parts<A, H, G, R> as Asked>⟧.calls parts.new)
+            ≡ (⟦<Parts<A, H, G, R> as Asked>⟧.calls parts.old) }
+        ensures side { OnOk result (SideAsks self.old.transport self.new.transport
+            (⟦<Parts<A, H, G, R> as Asked>⟧.calls parts.old) (⟦<Parts<A, H, G, R> as Asked>⟧.calls parts.old)) }
     {
         self.transport.submit(parts, payload)?;
         self.submitted = self.submitted.saturating_add(1);
@@ -76,18 +76,19 @@ impl<'c> LinkEnd<'c> {
     }
 
     /// Asks for new keys.
-    #[tactic(auto, using(ssh_transport::proofs::Lemmas::agreement_same, ssh_transport::proofs::Lemmas::hosts_same, ssh_transport::proofs::Lemmas::groups_same, crate::proofs::Asking::counted_same, crate::proofs::Asking::rekeyed_asks))]
+    #[tactic(auto, using(ssh_transport::proofs::Lemmas::parts_same, crate::proofs::Asking::counted_same, crate::proofs::Asking::rekeyed_asks))]
     pub(crate) fn rekey<A: Agreement, H: HostKeys, G: GroupLookup, R: Rng>(
         &mut self,
         parts: &mut Parts<A, H, G, R>,
     ) -> Result<(), Error>
-        ensures asks { OnOk result (AsksKeys (says_of A.lawful A.offered A.client_makes A.server_makes A.agrees H.lawful H.obliging H.accepts H.trusts H.makes G.lawful G.group self.old.transport.config parts.old.agreement parts.old.hosts parts.old.groups) (end_of self.old) (end_of self.new)) }
+        ensures asks { OnOk result (AsksKeys (⟦<Parts<A, H, G, R> as Handed>⟧.says self.old.transport.config parts.old)
+            (end_of self.old) (end_of self.new)) }
         ensures refused { self.old.transport.failed ≡ false → IfErr result (λ e. e ≡ Memory) }
-        ensures agreement { KeepsAgreement A.lawful A.obliging A.offered A.refusals A.calls parts.old.agreement parts.new.agreement }
-        ensures hosts { KeepsHosts H.lawful H.obliging H.accepts H.trusts H.refused_sign H.refused_verify H.refused_check H.calls parts.old.hosts parts.new.hosts }
-        ensures groups { KeepsGroups G.lawful G.obliging G.group G.refusals G.calls parts.old.groups parts.new.groups }
-        ensures calls { (counted_by A.calls H.calls G.calls parts.new.agreement parts.new.hosts parts.new.groups) ≡ (counted_by A.calls H.calls G.calls parts.old.agreement parts.old.hosts parts.old.groups) }
-        ensures side { OnOk result (SideAsks self.old.transport self.new.transport (counted_by A.calls H.calls G.calls parts.old.agreement parts.old.hosts parts.old.groups) (counted_by A.calls H.calls G.calls parts.old.agreement parts.old.hosts parts.old.groups)) }
+        ensures keeps { ⟦<Parts<A, H, G, R> as Handed>⟧.keeps parts.old parts.new }
+        ensures calls { (⟦<Parts<A, H, G, R> as Asked>⟧.calls parts.new)
+            ≡ (⟦<Parts<A, H, G, R> as Asked>⟧.calls parts.old) }
+        ensures side { OnOk result (SideAsks self.old.transport self.new.transport
+            (⟦<Parts<A, H, G, R> as Asked>⟧.calls parts.old) (⟦<Parts<A, H, G, R> as Asked>⟧.calls parts.old)) }
     {
         self.transport.rekey(parts)
     }
@@ -100,14 +101,19 @@ impl<'c> LinkEnd<'c> {
         wire: &[u8],
         count: u64,
     ) -> Result<(), Error>
-        ensures carries { OnOk result (CarriesTo (says_of A.lawful A.offered A.client_makes A.server_makes A.agrees H.lawful H.obliging H.accepts H.trusts H.makes G.lawful G.group self.old.transport.config parts.old.agreement parts.old.hosts parts.old.groups) (end_of self.old) wire.now count (end_of self.new)) }
+        ensures carries { OnOk result (CarriesTo (⟦<Parts<A, H, G, R> as Handed>⟧.says self.old.transport.config
+            parts.old) (end_of self.old) wire.now count (end_of self.new)) }
         ensures all { OnOk result (count ≡ all_bytes → length wire.now ≤ self.new.taken) }
-        ensures refused { self.old.transport.failed ≡ false → IfErr result (λ e. RefusesCarrying (telling_of A.lawful A.obliging A.offered A.client_makes A.server_makes A.agrees A.refusals H.lawful H.obliging H.accepts H.trusts H.makes H.refused_sign H.refused_verify H.refused_check G.lawful G.obliging G.group G.refusals self.old.transport.config parts.old.agreement parts.new.agreement parts.old.hosts parts.new.hosts parts.old.groups parts.new.groups) (end_of self.old) wire.now count e) }
-        ensures agreement { KeepsAgreement A.lawful A.obliging A.offered A.refusals A.calls parts.old.agreement parts.new.agreement }
-        ensures hosts { KeepsHosts H.lawful H.obliging H.accepts H.trusts H.refused_sign H.refused_verify H.refused_check H.calls parts.old.hosts parts.new.hosts }
-        ensures groups { KeepsGroups G.lawful G.obliging G.group G.refusals G.calls parts.old.groups parts.new.groups }
-        ensures asks { OnOk result (SideAsks self.old.transport self.new.transport (counted_by A.calls H.calls G.calls parts.old.agreement parts.old.hosts parts.old.groups) (counted_by A.calls H.calls G.calls parts.new.agreement parts.new.hosts parts.new.groups)) }
-        ensures asked { self.old.transport.failed ≡ false → OnErr result (PieceAsks (says_of A.lawful A.offered A.client_makes A.server_makes A.agrees H.lawful H.obliging H.accepts H.trusts H.makes G.lawful G.group self.old.transport.config parts.old.agreement parts.old.hosts parts.old.groups) (end_of self.old) wire.now count (counted_by A.calls H.calls G.calls parts.old.agreement parts.old.hosts parts.old.groups) (counted_by A.calls H.calls G.calls parts.new.agreement parts.new.hosts parts.new.groups)) }
+        ensures refused { self.old.transport.failed ≡ false → IfErr result
+            (λ e. RefusesCarrying (⟦<Parts<A, H, G, R> as Told>⟧.telling self.old.transport.config parts.old parts.new)
+            (end_of self.old) wire.now count e) }
+        ensures keeps { ⟦<Parts<A, H, G, R> as Handed>⟧.keeps parts.old parts.new }
+        ensures asks { OnOk result (SideAsks self.old.transport self.new.transport
+            (⟦<Parts<A, H, G, R> as Asked>⟧.calls parts.old) (⟦<Parts<A, H, G, R> as Asked>⟧.calls parts.new)) }
+        ensures asked { self.old.transport.failed ≡ false → OnErr result
+            (PieceAsks (⟦<Parts<A, H, G, R> as Handed>⟧.says self.old.transport.config parts.old) (end_of self.old)
+            wire.now count (⟦<Parts<A, H, G, R> as Asked>⟧.calls parts.old)
+            (⟦<Parts<A, H, G, R> as Asked>⟧.calls parts.new)) }
     {
         let waiting = rest_of(wire, self.taken);
         let count = count.min(waiting.len() as u64) as usize;

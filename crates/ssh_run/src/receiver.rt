@@ -24,7 +24,15 @@ impl Receiver {
     /// A side that has read nothing.
     pub fn new(alloc: Global) -> Receiver
         ensures id { result.id ≡ Waiting [] 0 }
-        ensures reader { result.reader ≡ record { waiting = []; spent = 0; number = 0; count = 0; failed = false; handed = []; window = 0 } }
+        ensures reader { result.reader ≡ record {
+          waiting = [];
+          spent = 0;
+          number = 0;
+          count = 0;
+          failed = false;
+          handed = [];
+          window = 0;
+        } }
         ensures delivered { result.delivered.items ≡ [] }
     {
         Receiver {

@@ -51,9 +51,9 @@ fn group_message(alloc: Global, group: &DhGroup) -> Result<Vec<u8>, Error>
     Ok(message)
 }
 
-/// Answers the sizes that a client asks for with the group of them. KexInit where it is another message; SshEncoding; Kex
-/// where the lookup refused, and counted it; PacketSize where the answer is over 262157 bytes; Memory. Nothing is written by
-/// a refusal.
+/// Answers the sizes that a client asks for with the group of them. KexInit where it is another message; SshEncoding;
+/// Kex where the lookup refused, and counted it; PacketSize where the answer is over 262157 bytes; Memory. Nothing is
+/// written by a refusal.
 pub(crate) fn answer_request<G: GroupLookup, R: Rng>(
     alloc: Global,
     groups: &mut G,

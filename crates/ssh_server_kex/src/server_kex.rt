@@ -21,7 +21,7 @@ ghost use Rattle.ssh_server_kex.specs.ServerViews.{Begins, CanAsk, CanBegin, IsF
 ghost use Rattle.ssh_kex.specs.Setting.{group_of, offers_of};
 ghost use Rattle.ssh_kex.specs.Stages.{Created as created_stage, has_ignored, is_strict, names_of};
 ghost use Rattle.ssh_kex.specs.declared.progress.KexProgress.TheVariants.{NeedsReply};
-ghost use Rattle.ssh_kex.specs.Stepping.{asks_agreement, asks_hosts, asks_groups, next_of, says_of, denies_of, Progresses, RefusesStep, PutsFront};
+ghost use Rattle.ssh_kex.specs.Stepping.{asks_agreement, asks_hosts, asks_groups, next_of, Progresses, RefusesStep, PutsFront};
 
 use crate::opening::open;
 use crate::request::answer_request;
@@ -31,7 +31,7 @@ use ssh_kex::first_message::names_behind_guess;
 use ssh_kex::kexinit_message::send_kexinit;
 use ssh_kex::last_message::{end_at_once, last};
 use ssh_kex::{
-    Agreement, Config, Exchange, FinishedExchange, GroupLookup, HostKeys, KexAlgorithm,
+    Agreement, Config, Exchange, FinishedExchange, GroupLookup, Handed, HostKeys, KexAlgorithm,
     KexProgress, Parts,
 };
 use ssh_negotiate::{KexCause, Names};
@@ -110,8 +110,8 @@ impl<'c> ServerKex<'c> {
         })
     }
 
-    /// Sends the own KEXINIT, with 16 drawn bytes as cookie, and keeps it. It is for a machine before the client's. Memory, and
-    /// then machine and writer are as they were.
+    /// Sends the own KEXINIT, with 16 drawn bytes as cookie, and keeps it. It is for a machine before the client's.
+    /// Memory, and then machine and writer are as they were.
     pub fn kexinit<R: Rng>(&mut self, rng: &mut R, output: &mut PacketWriter) -> Result<(), Error>
         requires { IsCreated self.old.stage }
         ensures ok { OnOk result (self.new ≡ record self.old {
@@ -173,8 +173,8 @@ impl<'c> ServerKex<'c> {
         }
     }
 
-    /// One message of the client. A wrong guess is dropped. A refusal leaves no machine, and it has written nothing, but where
-    /// memory is wanting behind a reply that was written.
+    /// One message of the client. A wrong guess is dropped. A refusal leaves no machine, and it has written nothing,
+    /// but where memory is wanting behind a reply that was written.
     pub fn step<A: Agreement, H: HostKeys, G: GroupLookup, R: Rng>(
         self,
         parts: &mut Parts<A, H, G, R>,
@@ -182,24 +182,17 @@ impl<'c> ServerKex<'c> {
         output: &mut PacketWriter,
     ) -> Result<KexProgress<ServerKex<'c>>, Error>
         requires { IfSome input (λ i. length i.payload.now < 2 ^ 31) }
-        ensures agreement { KeepsAgreement A.lawful A.obliging A.offered A.refusals A.calls parts.old.agreement
-            parts.new.agreement }
-        ensures hosts { KeepsHosts H.lawful H.obliging H.accepts H.trusts H.refused_sign H.refused_verify
-            H.refused_check H.calls parts.old.hosts parts.new.hosts }
-        ensures groups { KeepsGroups G.lawful G.obliging G.group G.refusals G.calls parts.old.groups parts.new.groups }
+        ensures keeps { ⟦<Parts<A, H, G, R> as Handed>⟧.keeps parts.old parts.new }
         ensures agreement_calls { A.calls parts.new.agreement ≤ A.calls parts.old.agreement + asks_agreement
             self.entry.setting.side self.entry.stage (next_of result) }
         ensures hosts_calls { H.calls parts.new.hosts ≤ H.calls parts.old.hosts + asks_hosts self.entry.stage }
         ensures groups_calls { G.calls parts.new.groups ≤ G.calls parts.old.groups + asks_groups self.entry.stage }
-        ensures goes { IfOk result (λ p. Progresses (says_of A.lawful A.offered A.client_makes A.server_makes A.agrees
-            H.lawful H.obliging H.accepts H.trusts H.makes G.lawful G.group self.entry.setting.config
-            parts.old.agreement parts.old.hosts parts.old.groups) self.entry input.entry output.old p output.new) }
-        ensures causes { IfErr result (λ e. RefusesStep (says_of A.lawful A.offered A.client_makes A.server_makes
-            A.agrees H.lawful H.obliging H.accepts H.trusts H.makes G.lawful G.group self.entry.setting.config
-            parts.old.agreement parts.old.hosts parts.old.groups)
-            (denies_of A.obliging A.offered A.client_makes A.server_makes A.refusals H.obliging H.accepts H.refused_sign
-            H.refused_verify G.obliging G.refusals parts.old.agreement parts.new.agreement parts.old.hosts
-            parts.new.hosts parts.old.groups parts.new.groups) self.entry input.entry e) }
+        ensures goes { IfOk result (λ p. Progresses (⟦<Parts<A, H, G, R> as Handed>⟧.says self.entry.setting.config
+            parts.old)
+            self.entry input.entry output.old p output.new) }
+        ensures causes { IfErr result (λ e. RefusesStep (⟦<Parts<A, H, G, R> as Handed>⟧.says self.entry.setting.config
+            parts.old)
+            (⟦<Parts<A, H, G, R> as Handed>⟧.denies parts.old parts.new) self.entry input.entry e) }
         ensures front { OnErr result (PutsFront self.entry.stage output.old output.new) }
         ensures unchanged { IfErr result (λ e. (e ≡ Memory → ⊥) → SameButRoom output.old output.new) }
     {

@@ -89,8 +89,8 @@ fn algorithm_with(
     Ok(algorithm)
 }
 
-/// Agrees on the client's value. Kex where the agreement refused, and counted it; Memory. A refusal leaves the exchange as it
-/// was.
+/// Agrees on the client's value. Kex where the agreement refused, and counted it; Memory. A refusal leaves the exchange
+/// as it was.
 fn agree<A: Agreement, R: Rng>(
     alloc: Global,
     name: kex::Name,
@@ -148,8 +148,8 @@ fn reply(
     Ok(message)
 }
 
-/// Sends a reply and NEWKEYS. PacketSize where the reply is over 262157 bytes, and then nothing was written; Memory, and then
-/// nothing or the reply alone.
+/// Sends a reply and NEWKEYS. PacketSize where the reply is over 262157 bytes, and then nothing was written; Memory,
+/// and then nothing or the reply alone.
 fn send_reply<R: Rng>(output: &mut PacketWriter, rng: &mut R, reply: &[u8]) -> Result<(), Error>
     requires { 0 < length reply.now }
     ensures puts { OnOk result (PutsAll output.old (reply.now ∷ newkeys ∷ []) output.new) }
@@ -161,9 +161,9 @@ fn send_reply<R: Rng>(output: &mut PacketWriter, rng: &mut R, reply: &[u8]) -> R
     put_message(output, rng, &[msg::NEWKEYS])
 }
 
-/// Answers a client's value: agrees, signs the hash, sends reply and NEWKEYS. KexInit where it is another message; SshEncoding;
-/// Kex where the agreement refused, Signature where the key did, and each counted it; PacketSize where the reply is over
-/// 262157 bytes; Memory, and then nothing was written or the reply alone.
+/// Answers a client's value: agrees, signs the hash, sends reply and NEWKEYS. KexInit where it is another message;
+/// SshEncoding; Kex where the agreement refused, Signature where the key did, and each counted it; PacketSize where the
+/// reply is over 262157 bytes; Memory, and then nothing was written or the reply alone.
 pub(crate) fn answer_value<A: Agreement, H: HostKeys, G, R: Rng>(
     alloc: Global,
     config: &Config,

@@ -1,7 +1,7 @@
 -- What the calls of the parts keep, one after the other.
 use Rattle.std.proofs.Common.{ℕ, Bool, List, refl, ◌∙◌, arith}
 use Rattle.ssh_negotiate.specs.declared.kex.Name as kexes
-use Rattle.ssh_kex.specs.Parts.{KeepsAgreement, KeepsGroups, KeepsHosts, Setup}
+use Rattle.ssh_kex.specs.Parts.{KeepsAgreement, KeepsGroups, KeepsHosts, KeepsParts, Setup}
 use Rattle.ssh_kex.specs.declared.exchange.ServerHost.{ServerHost}
 use Rattle.ssh_kex.specs.declared.group.DhGroup.{DhGroup}
 use Rattle.ssh_kex.specs.declared.group.GexParams.{GexParams}
@@ -43,4 +43,16 @@ groups_after lawful obliging group refusals calls a b c h k = record {
   lawful_kept = λ s l. k.lawful_kept s (h.lawful_kept s l);
   obliging_kept = λ s l. k.obliging_kept s (h.obliging_kept s l);
   group_kept = k.group_kept ∙ h.group_kept;
+}
+
+pub parts_same : {A H G : Type 0} (lawful obliging : A → Setup → Type 0) (offered : A → kexes.Name → Bool) (refusals calls : A → ℕ)
+    (lawful_hosts obliging_hosts : H → Setup → Type 0) (accepts : H → ServerHost → List ℕ → List ℕ → Bool) (trusts : H → ServerHost → Bool) (refused_sign refused_verify refused_check calls_hosts : H → ℕ)
+    (lawful_groups obliging_groups : G → Setup → Type 0) (group : G → GexParams → DhGroup) (refusals_groups calls_groups : G → ℕ) (a : A) (h : H) (g : G)
+    → KeepsParts (KeepsAgreement lawful obliging offered refusals calls a a)
+    (KeepsHosts lawful_hosts obliging_hosts accepts trusts refused_sign refused_verify refused_check calls_hosts h h)
+    (KeepsGroups lawful_groups obliging_groups group refusals_groups calls_groups g g)
+parts_same lawful obliging offered refusals calls lh oh accepts trusts rs rv rc ch lg og group rg cg a h g = record {
+  agreement = agreement_same lawful obliging offered refusals calls a;
+  hosts = hosts_same lh oh accepts trusts rs rv rc ch h;
+  groups = groups_same lg og group rg cg g;
 }

@@ -81,7 +81,8 @@ fn is_line_text(text: &[u8]) -> bool
 
 /// Whether a text begins as a version line does.
 fn names_protocol(text: &[u8]) -> bool
-    ensures { result ≡ (starts_with nat_eq text.now (codes "SSH-2.0-") || starts_with nat_eq text.now (codes "SSH-1.99-")) }
+    ensures { result ≡ (starts_with nat_eq text.now (codes "SSH-2.0-") || starts_with nat_eq text.now
+        (codes "SSH-1.99-")) }
 {
     text.starts_with(b"SSH-2.0-") || text.starts_with(b"SSH-1.99-")
 }
@@ -108,7 +109,8 @@ fn is_good_limit(bytes: usize) -> bool
 
 /// Whether sizes don't fall.
 fn are_rising(sizes: &GexParams) -> bool
-    ensures { result ≡ (nat_le sizes.now.min_group_size sizes.now.preferred_group_size && nat_le sizes.now.preferred_group_size sizes.now.max_group_size) }
+    ensures { result ≡ (nat_le sizes.now.min_group_size sizes.now.preferred_group_size && nat_le
+        sizes.now.preferred_group_size sizes.now.max_group_size) }
 {
     sizes.min_group_size <= sizes.preferred_group_size
         && sizes.preferred_group_size <= sizes.max_group_size

@@ -1,23 +1,22 @@
 //! One side of a connection, with the packets that it reads.
 
 ghost use Rattle.std.specs.Prelude.{◌≡◌, ◌⊎◌, ◌+◌, ◌<◌, ◌≤◌, ◌^◌, ◌++◌, ℕ, List, take, true, false, [], None, Some, Err, Ok, IfErr, IfOk, IfSome, IsTrue, OnErr, OnOk, length};
-ghost use Rattle.ssh_kex.specs.Parts.{KeepsAgreement, KeepsGroups, KeepsHosts};
-ghost use Rattle.ssh_kex.specs.Stepping.{denies_of, says_of};
 ghost use Rattle.ssh_packet.specs.Stream.{message_type};
 ghost use Rattle.ssh_rules.specs.MessageTypes.{is_payload_type};
 ghost use Rattle.ssh_rules.specs.Valid.{config_fault, is_bad_size, is_good_payload};
 ghost use Rattle.ssh_transport.specs.Taking.{kept_by, read_as};
 ghost use Rattle.ssh_transport.specs.declared.session.Handled.TheVariants.{Delivers};
-ghost use Rattle.ssh_rules.specs.Asking.{AsksWithin, RefusesAsking, counted_by};
-ghost use Rattle.ssh_rules.specs.Refusing.{RefusesPiece, RefusesPieceAsking, untrusted_of};
+ghost use Rattle.ssh_rules.specs.Asking.{AsksWithin, RefusesAsking};
+ghost use Rattle.ssh_rules.specs.Refusing.{RefusesPiece, RefusesPieceAsking};
 ghost use Rattle.ssh_wire.specs.declared.error.ConfigFault.{ConfigFault};
 ghost use Rattle.ssh_wire.specs.declared.error.Error.TheVariants.{Disconnect, Inconsistent, InvalidConfig, Memory, PacketSize};
 
 use crate::message::{LONGEST_INPUT, LONGEST_PAYLOAD, is_payload, type_of};
 use crate::session::{Handled, Session};
 use rand_core::Rng;
-use ssh_kex::{Agreement, Config, GroupLookup, HostKeys, Parts};
+use ssh_kex::{Agreement, Config, GroupLookup, Handed, HostKeys, Parts};
 use ssh_packet::{OpenKey, PacketReader, clear};
+use ssh_rules::Asked;
 use ssh_wire::{Error, Payload, ReadSshIdBuffer, Side};
 use std::alloc::Global;
 
@@ -69,7 +68,8 @@ impl<'c> Connection<'c> {
         ensures made { IfOk result (λ c. IsNew side config.now (standing_of c)) }
         ensures valid { IfOk result (λ c. config_fault side config.now ≡ None) }
         ensures fault { IfSome (config_fault side config.now) (λ f. result ≡ Err (InvalidConfig f)) }
-        ensures causes { IfErr result (λ e. (e ≡ Memory) ⊎ ((f : ConfigFault) × (config_fault side config.now ≡ Some f) × (e ≡ InvalidConfig f))) }
+        ensures causes { IfErr result (λ e. (e ≡ Memory) ⊎ ((f : ConfigFault) × (config_fault side config.now ≡ Some f)
+            × (e ≡ InvalidConfig f))) }
     {
         Ok(Connection {
             alloc,
@@ -82,7 +82,7 @@ impl<'c> Connection<'c> {
     }
 
     /// Takes the next bytes of the other side.
-    #[tactic(auto, using(crate::proofs::Parts::agreement_same, crate::proofs::Parts::hosts_same, crate::proofs::Parts::groups_same))]
+    #[tactic(auto, using(crate::proofs::Parts::parts_same))]
     pub(crate) fn feed<A: Agreement, H: HostKeys, G: GroupLookup, R: Rng>(
         &mut self,
         parts: &mut Parts<A, H, G, R>,
@@ -90,32 +90,32 @@ impl<'c> Connection<'c> {
     ) -> Result<(), Error>
         requires { IsKept self.old }
         ensures kept { IsKept self.new }
-        ensures dead { self.old.failed ≡ true → (result ≡ Err Disconnect) × (self.new ≡ self.old) × (parts.new ≡ parts.old) }
+        ensures dead { self.old.failed ≡ true → (result ≡ Err Disconnect) × (self.new ≡ self.old)
+            × (parts.new ≡ parts.old) }
         ensures stays { IsFixed self.old.session self.new.session }
         ensures lives { self.old.failed ≡ false → OnOk result (self.new.failed ≡ false) }
-        ensures ends { self.old.failed ≡ false → OnErr result ((self.new.failed ≡ true) × (unfinished (standing_of self.new) ≡ [])) }
-        ensures fed { OnOk result (TakesInput (says_of A.lawful A.offered A.client_makes A.server_makes A.agrees H.lawful H.obliging H.accepts H.trusts
-            H.makes G.lawful G.group self.old.session.config.now parts.old.agreement parts.old.hosts parts.old.groups) (standing_of self.old) piece.now (standing_of self.new)) }
-        ensures refused { self.old.failed ≡ false → IfErr result (λ e. RefusesPiece (says_of A.lawful A.offered A.client_makes A.server_makes A.agrees
-            H.lawful H.obliging H.accepts H.trusts H.makes G.lawful G.group self.old.session.config.now parts.old.agreement parts.old.hosts parts.old.groups)
-            (denies_of A.obliging A.offered A.client_makes A.server_makes A.refusals H.obliging H.accepts H.refused_sign H.refused_verify
-            G.obliging G.refusals parts.old.agreement parts.new.agreement parts.old.hosts parts.new.hosts parts.old.groups parts.new.groups)
-            (untrusted_of H.obliging H.trusts H.refused_check parts.old.hosts parts.new.hosts) (standing_of self.old) piece.now e (standing_of self.new)) }
-        ensures agreement { KeepsAgreement A.lawful A.obliging A.offered A.refusals A.calls parts.old.agreement parts.new.agreement }
-        ensures hosts { KeepsHosts H.lawful H.obliging H.accepts H.trusts H.refused_sign H.refused_verify H.refused_check H.calls parts.old.hosts parts.new.hosts }
-        ensures groups { KeepsGroups G.lawful G.obliging G.group G.refusals G.calls parts.old.groups parts.new.groups }
-        ensures asks { OnOk result (AsksWithin self.old.session.side (standing_of self.old).state (standing_of self.new).state
-            (counted_by A.calls H.calls G.calls parts.old.agreement parts.old.hosts parts.old.groups) (counted_by A.calls H.calls G.calls parts.new.agreement parts.new.hosts parts.new.groups)) }
-        ensures asked { self.old.failed ≡ false → OnErr result (RefusesAsking (says_of A.lawful A.offered A.client_makes A.server_makes A.agrees
-            H.lawful H.obliging H.accepts H.trusts H.makes G.lawful G.group self.old.session.config.now parts.old.agreement parts.old.hosts parts.old.groups)
+        ensures ends { self.old.failed ≡ false → OnErr result ((self.new.failed ≡ true)
+            × (unfinished (standing_of self.new) ≡ [])) }
+        ensures fed { OnOk result (TakesInput (⟦<Parts<A, H, G, R> as Handed>⟧.says self.old.session.config.now
+            parts.old) (standing_of self.old) piece.now (standing_of self.new)) }
+        ensures refused { self.old.failed ≡ false → IfErr result
+            (λ e. RefusesPiece (⟦<Parts<A, H, G, R> as Handed>⟧.says self.old.session.config.now parts.old)
+            (⟦<Parts<A, H, G, R> as Handed>⟧.denies parts.old parts.new)
+            (⟦<Parts<A, H, G, R> as Asked>⟧.distrusts parts.old parts.new) (standing_of self.old) piece.now e
+            (standing_of self.new)) }
+        ensures keeps { ⟦<Parts<A, H, G, R> as Handed>⟧.keeps parts.old parts.new }
+        ensures asks { OnOk result (AsksWithin self.old.session.side (standing_of self.old).state
+            (standing_of self.new).state
+            (⟦<Parts<A, H, G, R> as Asked>⟧.calls parts.old) (⟦<Parts<A, H, G, R> as Asked>⟧.calls parts.new)) }
+        ensures asked { self.old.failed ≡ false → OnErr result (RefusesAsking
+            (⟦<Parts<A, H, G, R> as Handed>⟧.says self.old.session.config.now parts.old)
             (standing_of self.old) piece.now (standing_of self.new)
-            (counted_by A.calls H.calls G.calls parts.old.agreement parts.old.hosts parts.old.groups) (counted_by A.calls H.calls G.calls parts.new.agreement parts.new.hosts parts.new.groups)) }
-        ensures refused_few { self.old.failed ≡ false → IfErr result (λ e. RefusesPieceAsking (says_of A.lawful A.offered A.client_makes A.server_makes A.agrees
-            H.lawful H.obliging H.accepts H.trusts H.makes G.lawful G.group self.old.session.config.now parts.old.agreement parts.old.hosts parts.old.groups)
-            (denies_of A.obliging A.offered A.client_makes A.server_makes A.refusals H.obliging H.accepts H.refused_sign H.refused_verify
-            G.obliging G.refusals parts.old.agreement parts.new.agreement parts.old.hosts parts.new.hosts parts.old.groups parts.new.groups)
-            (untrusted_of H.obliging H.trusts H.refused_check parts.old.hosts parts.new.hosts) (standing_of self.old) piece.now e (standing_of self.new)
-            (counted_by A.calls H.calls G.calls parts.old.agreement parts.old.hosts parts.old.groups) (counted_by A.calls H.calls G.calls parts.new.agreement parts.new.hosts parts.new.groups)) }
+            (⟦<Parts<A, H, G, R> as Asked>⟧.calls parts.old) (⟦<Parts<A, H, G, R> as Asked>⟧.calls parts.new)) }
+        ensures refused_few { self.old.failed ≡ false → IfErr result
+            (λ e. RefusesPieceAsking (⟦<Parts<A, H, G, R> as Handed>⟧.says self.old.session.config.now parts.old)
+            (⟦<Parts<A, H, G, R> as Handed>⟧.denies parts.old parts.new)
+            (⟦<Parts<A, H, G, R> as Asked>⟧.distrusts parts.old parts.new) (standing_of self.old) piece.now e (standing_of self.new)
+            (⟦<Parts<A, H, G, R> as Asked>⟧.calls parts.old) (⟦<Parts<A, H, G, R> as Asked>⟧.calls parts.new)) }
     {
         if self.failed {
             return Err(Error::Disconnect);
@@ -124,37 +124,39 @@ impl<'c> Connection<'c> {
         self.fail_on(taken)
     }
 
-    /// Handles what is kept of the input up to a payload that is handed up, which the reader then lends: whether there is one.
-    #[tactic(auto, using(crate::proofs::Parts::agreement_same, crate::proofs::Parts::hosts_same, crate::proofs::Parts::groups_same))]
+    /// Handles what is kept of the input up to a payload that is handed up, which the reader then lends: whether there
+    /// is one.
+    #[tactic(auto, using(crate::proofs::Parts::parts_same))]
     pub(crate) fn poll<A: Agreement, H: HostKeys, G: GroupLookup, R: Rng>(
         &mut self,
         parts: &mut Parts<A, H, G, R>,
     ) -> Result<bool, Error>
         requires { IsKept self.old }
         ensures kept { IsKept self.new }
-        ensures dead { self.old.failed ≡ true → (result ≡ Err Disconnect) × (self.new ≡ self.old) × (parts.new ≡ parts.old) }
+        ensures dead { self.old.failed ≡ true → (result ≡ Err Disconnect) × (self.new ≡ self.old)
+            × (parts.new ≡ parts.old) }
         ensures stays { IsFixed self.old.session self.new.session }
         ensures lives { self.old.failed ≡ false → OnOk result (self.new.failed ≡ false) }
-        ensures ends { self.old.failed ≡ false → OnErr result ((self.new.failed ≡ true) × (unfinished (standing_of self.new) ≡ [])) }
-        ensures polled { IfOk result (λ lends. Polls (says_of A.lawful A.offered A.client_makes A.server_makes A.agrees H.lawful H.obliging H.accepts H.trusts
-            H.makes G.lawful G.group self.old.session.config.now parts.old.agreement parts.old.hosts parts.old.groups) (standing_of self.old) (lent_by lends self.new.reader.handed) (standing_of self.new)) }
-        ensures refused { self.old.failed ≡ false → IfErr result (λ e. RefusesPiece (says_of A.lawful A.offered A.client_makes A.server_makes A.agrees H.lawful H.obliging H.accepts H.trusts
-            H.makes G.lawful G.group self.old.session.config.now parts.old.agreement parts.old.hosts parts.old.groups)
-            (denies_of A.obliging A.offered A.client_makes A.server_makes A.refusals H.obliging H.accepts
-            H.refused_sign H.refused_verify G.obliging G.refusals parts.old.agreement parts.new.agreement parts.old.hosts parts.new.hosts parts.old.groups parts.new.groups)
-            (untrusted_of H.obliging H.trusts H.refused_check parts.old.hosts parts.new.hosts) (standing_of self.old) [] e (standing_of self.new)) }
-        ensures wants { self.old.failed ≡ false → result ≡ Err Memory → MayWant (says_of A.lawful A.offered A.client_makes A.server_makes A.agrees H.lawful H.obliging H.accepts H.trusts
-            H.makes G.lawful G.group self.old.session.config.now parts.old.agreement parts.old.hosts parts.old.groups) (standing_of self.old) }
+        ensures ends { self.old.failed ≡ false → OnErr result ((self.new.failed ≡ true)
+            × (unfinished (standing_of self.new) ≡ [])) }
+        ensures polled { IfOk result (λ lends. Polls (⟦<Parts<A, H, G, R> as Handed>⟧.says self.old.session.config.now
+            parts.old) (standing_of self.old) (lent_by lends self.new.reader.handed) (standing_of self.new)) }
+        ensures refused { self.old.failed ≡ false → IfErr result
+            (λ e. RefusesPiece (⟦<Parts<A, H, G, R> as Handed>⟧.says self.old.session.config.now parts.old)
+            (⟦<Parts<A, H, G, R> as Handed>⟧.denies parts.old parts.new)
+            (⟦<Parts<A, H, G, R> as Asked>⟧.distrusts parts.old parts.new) (standing_of self.old) [] e
+            (standing_of self.new)) }
+        ensures wants { self.old.failed ≡ false → result ≡ Err Memory → MayWant
+            (⟦<Parts<A, H, G, R> as Handed>⟧.says self.old.session.config.now parts.old) (standing_of self.old) }
         ensures unqueued { self.new.delivered.items ≡ self.old.delivered.items }
-        ensures agreement { KeepsAgreement A.lawful A.obliging A.offered A.refusals A.calls parts.old.agreement parts.new.agreement }
-        ensures hosts { KeepsHosts H.lawful H.obliging H.accepts H.trusts H.refused_sign H.refused_verify H.refused_check H.calls parts.old.hosts parts.new.hosts }
-        ensures groups { KeepsGroups G.lawful G.obliging G.group G.refusals G.calls parts.old.groups parts.new.groups }
-        ensures asks { OnOk result (AsksWithin self.old.session.side (standing_of self.old).state (standing_of self.new).state
-            (counted_by A.calls H.calls G.calls parts.old.agreement parts.old.hosts parts.old.groups) (counted_by A.calls H.calls G.calls parts.new.agreement parts.new.hosts parts.new.groups)) }
-        ensures asked { self.old.failed ≡ false → OnErr result (RefusesAsking (says_of A.lawful A.offered A.client_makes A.server_makes A.agrees H.lawful H.obliging H.accepts H.trusts
-            H.makes G.lawful G.group self.old.session.config.now parts.old.agreement parts.old.hosts parts.old.groups)
+        ensures keeps { ⟦<Parts<A, H, G, R> as Handed>⟧.keeps parts.old parts.new }
+        ensures asks { OnOk result (AsksWithin self.old.session.side (standing_of self.old).state
+            (standing_of self.new).state
+            (⟦<Parts<A, H, G, R> as Asked>⟧.calls parts.old) (⟦<Parts<A, H, G, R> as Asked>⟧.calls parts.new)) }
+        ensures asked { self.old.failed ≡ false → OnErr result (RefusesAsking
+            (⟦<Parts<A, H, G, R> as Handed>⟧.says self.old.session.config.now parts.old)
             (standing_of self.old) [] (standing_of self.new)
-            (counted_by A.calls H.calls G.calls parts.old.agreement parts.old.hosts parts.old.groups) (counted_by A.calls H.calls G.calls parts.new.agreement parts.new.hosts parts.new.groups)) }
+            (⟦<Parts<A, H, G, R> as Asked>⟧.calls parts.old) (⟦<Parts<A, H, G, R> as Asked>⟧.calls parts.new)) }
     {
         if self.failed {
             return Err(Error::Disconnect);
@@ -164,7 +166,7 @@ impl<'c> Connection<'c> {
     }
 
     /// The same, where a refusal leaves what is kept.
-    #[tactic(auto, using(crate::proofs::Parts::agreement_same, crate::proofs::Parts::hosts_same, crate::proofs::Parts::groups_same))]
+    #[tactic(auto, using(crate::proofs::Parts::parts_same))]
     fn take_payload<A: Agreement, H: HostKeys, G: GroupLookup, R: Rng>(
         &mut self,
         parts: &mut Parts<A, H, G, R>,
@@ -175,24 +177,22 @@ impl<'c> Connection<'c> {
         ensures live { OnOk result (IsLive self.new) }
         ensures within { OnOk result (IsKept self.new) }
         ensures settled { OnOk result (WaitsBehind self.new.session.line self.new.reader.waiting) }
-        ensures takes { IfOk result (λ lends. TakesPayload (says_of A.lawful A.offered A.client_makes A.server_makes A.agrees H.lawful H.obliging H.accepts H.trusts
-            H.makes G.lawful G.group self.old.session.config.now parts.old.agreement parts.old.hosts parts.old.groups) self.old lends self.new) }
-        ensures fails { IfErr result (λ e. Fails (says_of A.lawful A.offered A.client_makes A.server_makes A.agrees H.lawful H.obliging H.accepts H.trusts
-            H.makes G.lawful G.group self.old.session.config.now parts.old.agreement parts.old.hosts parts.old.groups)
-            (denies_of A.obliging A.offered A.client_makes A.server_makes A.refusals H.obliging H.accepts
-            H.refused_sign H.refused_verify G.obliging G.refusals parts.old.agreement parts.new.agreement parts.old.hosts parts.new.hosts parts.old.groups parts.new.groups)
-            (untrusted_of H.obliging H.trusts H.refused_check parts.old.hosts parts.new.hosts)
-            (AsksTo self.old.session (counted_by A.calls H.calls G.calls parts.old.agreement parts.old.hosts parts.old.groups) (counted_by A.calls H.calls G.calls parts.new.agreement parts.new.hosts parts.new.groups)) (emptied self.old) self.old.reader.waiting e self.new) }
-        ensures wants { result ≡ Err Memory → MayWant (says_of A.lawful A.offered A.client_makes A.server_makes A.agrees H.lawful H.obliging H.accepts H.trusts
-            H.makes G.lawful G.group self.old.session.config.now parts.old.agreement parts.old.hosts parts.old.groups) (standing_of self.old) }
+        ensures takes { IfOk result (λ lends. TakesPayload (⟦<Parts<A, H, G, R> as Handed>⟧.says
+            self.old.session.config.now parts.old) self.old lends self.new) }
+        ensures fails { IfErr result (λ e. Fails (⟦<Parts<A, H, G, R> as Handed>⟧.says self.old.session.config.now
+            parts.old)
+            (⟦<Parts<A, H, G, R> as Handed>⟧.denies parts.old parts.new)
+            (⟦<Parts<A, H, G, R> as Asked>⟧.distrusts parts.old parts.new)
+            (AsksTo self.old.session (⟦<Parts<A, H, G, R> as Asked>⟧.calls parts.old)
+            (⟦<Parts<A, H, G, R> as Asked>⟧.calls parts.new)) (emptied self.old) self.old.reader.waiting e self.new) }
+        ensures wants { result ≡ Err Memory → MayWant (⟦<Parts<A, H, G, R> as Handed>⟧.says self.old.session.config.now
+            parts.old) (standing_of self.old) }
         ensures fixed { IsFixed self.old.session self.new.session }
         ensures unfailed { self.new.failed ≡ self.old.failed }
         ensures unqueued { self.new.delivered.items ≡ self.old.delivered.items }
-        ensures agreement { KeepsAgreement A.lawful A.obliging A.offered A.refusals A.calls parts.old.agreement parts.new.agreement }
-        ensures hosts { KeepsHosts H.lawful H.obliging H.accepts H.trusts H.refused_sign H.refused_verify H.refused_check H.calls parts.old.hosts parts.new.hosts }
-        ensures groups { KeepsGroups G.lawful G.obliging G.group G.refusals G.calls parts.old.groups parts.new.groups }
+        ensures keeps { ⟦<Parts<A, H, G, R> as Handed>⟧.keeps parts.old parts.new }
         ensures asks { OnOk result (AsksBetween self.old.session self.new.session
-            (counted_by A.calls H.calls G.calls parts.old.agreement parts.old.hosts parts.old.groups) (counted_by A.calls H.calls G.calls parts.new.agreement parts.new.hosts parts.new.groups)) }
+            (⟦<Parts<A, H, G, R> as Asked>⟧.calls parts.old) (⟦<Parts<A, H, G, R> as Asked>⟧.calls parts.new)) }
     {
         let is_heard = self.hear(&mut parts.rng)?;
         if is_heard {
@@ -202,7 +202,7 @@ impl<'c> Connection<'c> {
     }
 
     /// Handles the packets that are whole up to one whose payload is handed up: whether there is one.
-    #[tactic(auto, using(crate::proofs::Parts::agreement_same, crate::proofs::Parts::hosts_same, crate::proofs::Parts::groups_same))]
+    #[tactic(auto, using(crate::proofs::Parts::parts_same))]
     fn read_payload<A: Agreement, H: HostKeys, G: GroupLookup, R: Rng>(
         &mut self,
         parts: &mut Parts<A, H, G, R>,
@@ -211,25 +211,23 @@ impl<'c> Connection<'c> {
         requires heard { IsHeard self.old.session.line }
         ensures begins { CanBegin self.new.session }
         ensures live { OnOk result (IsLive self.new) }
-        ensures reads { IfOk result (λ lends. PollsOne (says_of A.lawful A.offered A.client_makes A.server_makes A.agrees H.lawful H.obliging H.accepts H.trusts
-            H.makes G.lawful G.group self.old.session.config.now parts.old.agreement parts.old.hosts parts.old.groups) self.old (read_by lends) self.new) }
+        ensures reads { IfOk result (λ lends. PollsOne (⟦<Parts<A, H, G, R> as Handed>⟧.says self.old.session.config.now
+            parts.old) self.old (read_by lends) self.new) }
         ensures shorter { OnOk result (length self.new.reader.waiting ≤ length self.old.reader.waiting) }
-        ensures stops { IfErr result (λ e. Stops (says_of A.lawful A.offered A.client_makes A.server_makes A.agrees H.lawful H.obliging H.accepts H.trusts
-            H.makes G.lawful G.group self.old.session.config.now parts.old.agreement parts.old.hosts parts.old.groups)
-            (denies_of A.obliging A.offered A.client_makes A.server_makes A.refusals H.obliging H.accepts
-            H.refused_sign H.refused_verify G.obliging G.refusals parts.old.agreement parts.new.agreement parts.old.hosts parts.new.hosts parts.old.groups parts.new.groups)
-            (untrusted_of H.obliging H.trusts H.refused_check parts.old.hosts parts.new.hosts)
-            (AsksTo self.old.session (counted_by A.calls H.calls G.calls parts.old.agreement parts.old.hosts parts.old.groups) (counted_by A.calls H.calls G.calls parts.new.agreement parts.new.hosts parts.new.groups)) self.old e self.new) }
-        ensures wants { result ≡ Err Memory → Wants (says_of A.lawful A.offered A.client_makes A.server_makes A.agrees H.lawful H.obliging H.accepts H.trusts
-            H.makes G.lawful G.group self.old.session.config.now parts.old.agreement parts.old.hosts parts.old.groups) self.old }
+        ensures stops { IfErr result (λ e. Stops (⟦<Parts<A, H, G, R> as Handed>⟧.says self.old.session.config.now
+            parts.old)
+            (⟦<Parts<A, H, G, R> as Handed>⟧.denies parts.old parts.new)
+            (⟦<Parts<A, H, G, R> as Asked>⟧.distrusts parts.old parts.new)
+            (AsksTo self.old.session (⟦<Parts<A, H, G, R> as Asked>⟧.calls parts.old)
+            (⟦<Parts<A, H, G, R> as Asked>⟧.calls parts.new)) self.old e self.new) }
+        ensures wants { result ≡ Err Memory → Wants (⟦<Parts<A, H, G, R> as Handed>⟧.says self.old.session.config.now
+            parts.old) self.old }
         ensures fixed { IsFixed self.old.session self.new.session }
         ensures unfailed { self.new.failed ≡ self.old.failed }
         ensures unqueued { self.new.delivered.items ≡ self.old.delivered.items }
-        ensures agreement { KeepsAgreement A.lawful A.obliging A.offered A.refusals A.calls parts.old.agreement parts.new.agreement }
-        ensures hosts { KeepsHosts H.lawful H.obliging H.accepts H.trusts H.refused_sign H.refused_verify H.refused_check H.calls parts.old.hosts parts.new.hosts }
-        ensures groups { KeepsGroups G.lawful G.obliging G.group G.refusals G.calls parts.old.groups parts.new.groups }
+        ensures keeps { ⟦<Parts<A, H, G, R> as Handed>⟧.keeps parts.old parts.new }
         ensures asks { OnOk result (AsksBetween self.old.session self.new.session
-            (counted_by A.calls H.calls G.calls parts.old.agreement parts.old.hosts parts.old.groups) (counted_by A.calls H.calls G.calls parts.new.agreement parts.new.hosts parts.new.groups)) }
+            (⟦<Parts<A, H, G, R> as Asked>⟧.calls parts.old) (⟦<Parts<A, H, G, R> as Asked>⟧.calls parts.new)) }
     {
         'packets: loop {
             match self.poll_packet(parts)? {
@@ -241,7 +239,7 @@ impl<'c> Connection<'c> {
     }
 
     /// Handles the next packet, where one is whole. Where memory is wanting behind a payload, that isn't handed up.
-    #[tactic(auto, using(crate::proofs::Parts::agreement_same, crate::proofs::Parts::hosts_same, crate::proofs::Parts::groups_same))]
+    #[tactic(auto, using(crate::proofs::Parts::parts_same))]
     fn poll_packet<A: Agreement, H: HostKeys, G: GroupLookup, R: Rng>(
         &mut self,
         parts: &mut Parts<A, H, G, R>,
@@ -250,25 +248,24 @@ impl<'c> Connection<'c> {
         requires heard { IsHeard self.old.session.line }
         ensures begins { CanBegin self.new.session }
         ensures live { OnOk result (IsLive self.new) }
-        ensures shorter { IfOk result (λ read. IfPacket read (length self.new.reader.waiting < length self.old.reader.waiting)) }
-        ensures polls { IfOk result (λ read. PollsOne (says_of A.lawful A.offered A.client_makes A.server_makes A.agrees H.lawful H.obliging H.accepts H.trusts
-            H.makes G.lawful G.group self.old.session.config.now parts.old.agreement parts.old.hosts parts.old.groups) self.old read self.new) }
-        ensures stops { IfErr result (λ e. Stops (says_of A.lawful A.offered A.client_makes A.server_makes A.agrees H.lawful H.obliging H.accepts H.trusts
-            H.makes G.lawful G.group self.old.session.config.now parts.old.agreement parts.old.hosts parts.old.groups)
-            (denies_of A.obliging A.offered A.client_makes A.server_makes A.refusals H.obliging H.accepts
-            H.refused_sign H.refused_verify G.obliging G.refusals parts.old.agreement parts.new.agreement parts.old.hosts parts.new.hosts parts.old.groups parts.new.groups)
-            (untrusted_of H.obliging H.trusts H.refused_check parts.old.hosts parts.new.hosts)
-            (AsksTo self.old.session (counted_by A.calls H.calls G.calls parts.old.agreement parts.old.hosts parts.old.groups) (counted_by A.calls H.calls G.calls parts.new.agreement parts.new.hosts parts.new.groups)) self.old e self.new) }
-        ensures wants { result ≡ Err Memory → Wants (says_of A.lawful A.offered A.client_makes A.server_makes A.agrees H.lawful H.obliging H.accepts H.trusts
-            H.makes G.lawful G.group self.old.session.config.now parts.old.agreement parts.old.hosts parts.old.groups) self.old }
+        ensures shorter { IfOk result (λ read. IfPacket read (length self.new.reader.waiting < length
+            self.old.reader.waiting)) }
+        ensures polls { IfOk result (λ read. PollsOne (⟦<Parts<A, H, G, R> as Handed>⟧.says self.old.session.config.now
+            parts.old) self.old read self.new) }
+        ensures stops { IfErr result (λ e. Stops (⟦<Parts<A, H, G, R> as Handed>⟧.says self.old.session.config.now
+            parts.old)
+            (⟦<Parts<A, H, G, R> as Handed>⟧.denies parts.old parts.new)
+            (⟦<Parts<A, H, G, R> as Asked>⟧.distrusts parts.old parts.new)
+            (AsksTo self.old.session (⟦<Parts<A, H, G, R> as Asked>⟧.calls parts.old)
+            (⟦<Parts<A, H, G, R> as Asked>⟧.calls parts.new)) self.old e self.new) }
+        ensures wants { result ≡ Err Memory → Wants (⟦<Parts<A, H, G, R> as Handed>⟧.says self.old.session.config.now
+            parts.old) self.old }
         ensures fixed { IsFixed self.old.session self.new.session }
         ensures unfailed { self.new.failed ≡ self.old.failed }
         ensures unqueued { self.new.delivered.items ≡ self.old.delivered.items }
-        ensures agreement { KeepsAgreement A.lawful A.obliging A.offered A.refusals A.calls parts.old.agreement parts.new.agreement }
-        ensures hosts { KeepsHosts H.lawful H.obliging H.accepts H.trusts H.refused_sign H.refused_verify H.refused_check H.calls parts.old.hosts parts.new.hosts }
-        ensures groups { KeepsGroups G.lawful G.obliging G.group G.refusals G.calls parts.old.groups parts.new.groups }
+        ensures keeps { ⟦<Parts<A, H, G, R> as Handed>⟧.keeps parts.old parts.new }
         ensures asks { OnOk result (AsksBetween self.old.session self.new.session
-            (counted_by A.calls H.calls G.calls parts.old.agreement parts.old.hosts parts.old.groups) (counted_by A.calls H.calls G.calls parts.new.agreement parts.new.hosts parts.new.groups)) }
+            (⟦<Parts<A, H, G, R> as Asked>⟧.calls parts.old) (⟦<Parts<A, H, G, R> as Asked>⟧.calls parts.new)) }
     {
         let Some(handled) = self.take_packet(parts)? else {
             return Ok(PacketRead::Nothing);
@@ -287,7 +284,8 @@ impl<'c> Connection<'c> {
     ) -> Result<(), Error>
         requires { IsKept self.old }
         ensures kept { IsKept self.new }
-        ensures dead { self.old.failed ≡ true → (result ≡ Err Disconnect) × (self.new ≡ self.old) × (parts.new ≡ parts.old) }
+        ensures dead { self.old.failed ≡ true → (result ≡ Err Disconnect) × (self.new ≡ self.old)
+            × (parts.new ≡ parts.old) }
         ensures size { self.old.failed ≡ false → IsTrue (is_bad_size (length payload.now))
             → (result ≡ Err (PacketSize (length payload.now))) × (self.new ≡ self.old) × (parts.new ≡ parts.old) }
         ensures inconsistent { self.old.failed ≡ false → is_bad_size (length payload.now) ≡ false
@@ -296,7 +294,8 @@ impl<'c> Connection<'c> {
         ensures sent { OnOk result (Submitted nothing_said (standing_of self.old) payload.now (standing_of self.new)) }
         ensures memory { self.old.failed ≡ false → is_good_payload payload.now ≡ true
             → OnErr result ((result ≡ Err Memory) × Breaks (standing_of self.old) (standing_of self.new)) }
-        ensures parts { (parts.new.agreement ≡ parts.old.agreement) × (parts.new.hosts ≡ parts.old.hosts) × (parts.new.groups ≡ parts.old.groups) }
+        ensures parts { (parts.new.agreement ≡ parts.old.agreement) × (parts.new.hosts ≡ parts.old.hosts)
+            × (parts.new.groups ≡ parts.old.groups) }
     {
         if self.failed {
             return Err(Error::Disconnect);
@@ -319,11 +318,15 @@ impl<'c> Connection<'c> {
     ) -> Result<(), Error>
         requires { IsKept self.old }
         ensures kept { IsKept self.new }
-        ensures dead { self.old.failed ≡ true → (result ≡ Err Disconnect) × (self.new ≡ self.old) × (parts.new ≡ parts.old) }
+        ensures dead { self.old.failed ≡ true → (result ≡ Err Disconnect) × (self.new ≡ self.old)
+            × (parts.new ≡ parts.old) }
         ensures begun { OnOk result (Rekeyed nothing_said (standing_of self.old) (standing_of self.new)) }
-        ensures inside { self.old.failed ≡ false → is_outside (standing_of self.old).state.stands ≡ false → (result ≡ Ok tt) × (self.new ≡ self.old) × (parts.new ≡ parts.old) }
-        ensures memory { self.old.failed ≡ false → OnErr result ((result ≡ Err Memory) × Breaks (standing_of self.old) (standing_of self.new)) }
-        ensures parts { (parts.new.agreement ≡ parts.old.agreement) × (parts.new.hosts ≡ parts.old.hosts) × (parts.new.groups ≡ parts.old.groups) }
+        ensures inside { self.old.failed ≡ false → is_outside (standing_of self.old).state.stands ≡ false
+            → (result ≡ Ok tt) × (self.new ≡ self.old) × (parts.new ≡ parts.old) }
+        ensures memory { self.old.failed ≡ false → OnErr result ((result ≡ Err Memory) × Breaks (standing_of self.old)
+            (standing_of self.new)) }
+        ensures parts { (parts.new.agreement ≡ parts.old.agreement) × (parts.new.hosts ≡ parts.old.hosts)
+            × (parts.new.groups ≡ parts.old.groups) }
     {
         if self.failed {
             return Err(Error::Disconnect);
@@ -354,9 +357,9 @@ impl<'c> Connection<'c> {
         done
     }
 
-    /// Takes a piece of what the other side sent, and handles what is whole. It goes through the window: what is whole is
-    /// handled before more is taken.
-    #[tactic(auto, using(crate::proofs::Parts::agreement_same, crate::proofs::Parts::hosts_same, crate::proofs::Parts::groups_same))]
+    /// Takes a piece of what the other side sent, and handles what is whole. It goes through the window: what is whole
+    /// is handled before more is taken.
+    #[tactic(auto, using(crate::proofs::Parts::parts_same))]
     fn take<A: Agreement, H: HostKeys, G: GroupLookup, R: Rng>(
         &mut self,
         parts: &mut Parts<A, H, G, R>,
@@ -368,21 +371,20 @@ impl<'c> Connection<'c> {
         ensures live { OnOk result (IsLive self.new) }
         ensures within { OnOk result (IsKept self.new) }
         ensures settled { OnOk result (WaitsBehind self.new.session.line self.new.reader.waiting) }
-        ensures took { OnOk result (Takes (says_of A.lawful A.offered A.client_makes A.server_makes A.agrees H.lawful H.obliging H.accepts H.trusts
-            H.makes G.lawful G.group self.old.session.config.now parts.old.agreement parts.old.hosts parts.old.groups) (emptied self.old) (self.old.reader.waiting ++ piece.now) self.new) }
-        ensures fails { IfErr result (λ e. Fails (says_of A.lawful A.offered A.client_makes A.server_makes A.agrees H.lawful H.obliging H.accepts H.trusts
-            H.makes G.lawful G.group self.old.session.config.now parts.old.agreement parts.old.hosts parts.old.groups)
-            (denies_of A.obliging A.offered A.client_makes A.server_makes A.refusals H.obliging H.accepts
-            H.refused_sign H.refused_verify G.obliging G.refusals parts.old.agreement parts.new.agreement parts.old.hosts parts.new.hosts parts.old.groups parts.new.groups)
-            (untrusted_of H.obliging H.trusts H.refused_check parts.old.hosts parts.new.hosts)
-            (AsksTo self.old.session (counted_by A.calls H.calls G.calls parts.old.agreement parts.old.hosts parts.old.groups) (counted_by A.calls H.calls G.calls parts.new.agreement parts.new.hosts parts.new.groups)) (emptied self.old) (self.old.reader.waiting ++ piece.now) e self.new) }
+        ensures took { OnOk result (Takes (⟦<Parts<A, H, G, R> as Handed>⟧.says self.old.session.config.now parts.old)
+            (emptied self.old) (self.old.reader.waiting ++ piece.now) self.new) }
+        ensures fails { IfErr result (λ e. Fails (⟦<Parts<A, H, G, R> as Handed>⟧.says self.old.session.config.now
+            parts.old)
+            (⟦<Parts<A, H, G, R> as Handed>⟧.denies parts.old parts.new)
+            (⟦<Parts<A, H, G, R> as Asked>⟧.distrusts parts.old parts.new)
+            (AsksTo self.old.session (⟦<Parts<A, H, G, R> as Asked>⟧.calls parts.old)
+            (⟦<Parts<A, H, G, R> as Asked>⟧.calls parts.new)) (emptied self.old) (self.old.reader.waiting ++ piece.now)
+            e self.new) }
         ensures fixed { IsFixed self.old.session self.new.session }
         ensures unfailed { self.new.failed ≡ self.old.failed }
-        ensures agreement { KeepsAgreement A.lawful A.obliging A.offered A.refusals A.calls parts.old.agreement parts.new.agreement }
-        ensures hosts { KeepsHosts H.lawful H.obliging H.accepts H.trusts H.refused_sign H.refused_verify H.refused_check H.calls parts.old.hosts parts.new.hosts }
-        ensures groups { KeepsGroups G.lawful G.obliging G.group G.refusals G.calls parts.old.groups parts.new.groups }
+        ensures keeps { ⟦<Parts<A, H, G, R> as Handed>⟧.keeps parts.old parts.new }
         ensures asks { OnOk result (AsksBetween self.old.session self.new.session
-            (counted_by A.calls H.calls G.calls parts.old.agreement parts.old.hosts parts.old.groups) (counted_by A.calls H.calls G.calls parts.new.agreement parts.new.hosts parts.new.groups)) }
+            (⟦<Parts<A, H, G, R> as Asked>⟧.calls parts.old) (⟦<Parts<A, H, G, R> as Asked>⟧.calls parts.new)) }
     {
         let kept = self.keep(piece);
         let is_heard = self.hear(&mut parts.rng)?;
@@ -408,9 +410,11 @@ impl<'c> Connection<'c> {
         ensures count { result ≡ input_room (standing_of self.old) (length piece.now) }
         ensures standing { standing_of self.new ≡ with_input (standing_of self.old) (take result piece.now) }
         ensures fits { result + waiting_length self.old.session.line + length self.old.reader.waiting ≤ window_length }
-        ensures all { (result + waiting_length self.old.session.line + length self.old.reader.waiting < window_length) → result ≡ length piece.now }
+        ensures all { (result + waiting_length self.old.session.line + length self.old.reader.waiting < window_length)
+            → result ≡ length piece.now }
         ensures within { result ≤ length piece.now }
-        ensures taken { self.new.reader ≡ record self.old.reader { waiting = self.old.reader.waiting ++ take result piece.now; handed = []; spent = self.new.reader.spent } }
+        ensures taken { self.new.reader ≡ record self.old.reader
+            { waiting = self.old.reader.waiting ++ take result piece.now; handed = []; spent = self.new.reader.spent } }
         ensures rest { self.new ≡ record self.old { reader = self.new.reader } }
     {
         let n = piece.len().min(LONGEST_INPUT - self.unfinished());
@@ -424,13 +428,16 @@ impl<'c> Connection<'c> {
         ensures begins { CanBegin self.new.session }
         ensures live { OnOk result (IsLive self.new) }
         ensures heard { OnOk result (Hears (emptied self.old) self.old.reader.waiting self.new) }
-        ensures more { result ≡ Ok true → (more : List ℕ) → Hears (emptied self.old) (self.old.reader.waiting ++ more) (with_more self.new more) }
+        ensures more { result ≡ Ok true → (more : List ℕ) → Hears (emptied self.old) (self.old.reader.waiting ++ more)
+            (with_more self.new more) }
         ensures whole { result ≡ Ok true → IsHeard self.new.session.line }
-        ensures part { result ≡ Ok false → (self.new.reader.waiting ≡ []) × (waiting_length self.old.session.line + length self.old.reader.waiting < window_length) }
+        ensures part { result ≡ Ok false → (self.new.reader.waiting ≡ [])
+            × (waiting_length self.old.session.line + length self.old.reader.waiting < window_length) }
         ensures shorter { OnOk result (length self.new.reader.waiting ≤ length self.old.reader.waiting) }
         ensures unqueued { self.new.delivered ≡ self.old.delivered }
         ensures fails { IfErr result (λ e. HearsNothing (emptied self.old) self.old.reader.waiting e self.new) }
-        ensures ended { result ≡ Err Memory → EndsBy self.old.session.side self.old.session.line self.old.reader.waiting }
+        ensures ended { result ≡ Err Memory → EndsBy self.old.session.side self.old.session.line
+            self.old.reader.waiting }
         ensures fixed { IsFixed self.old.session self.new.session }
         ensures unfailed { self.new.failed ≡ self.old.failed }
     {
@@ -443,7 +450,7 @@ impl<'c> Connection<'c> {
     }
 
     /// Handles all packets that are whole in what waits and in a piece behind it.
-    #[tactic(auto, using(crate::proofs::Parts::agreement_same, crate::proofs::Parts::hosts_same, crate::proofs::Parts::groups_same))]
+    #[tactic(auto, using(crate::proofs::Parts::parts_same))]
     fn read_all<A: Agreement, H: HostKeys, G: GroupLookup, R: Rng>(
         &mut self,
         parts: &mut Parts<A, H, G, R>,
@@ -453,22 +460,20 @@ impl<'c> Connection<'c> {
         requires heard { IsHeard self.old.session.line }
         ensures begins { CanBegin self.new.session }
         ensures live { OnOk result (IsLive self.new) }
-        ensures reads { OnOk result (Reads (says_of A.lawful A.offered A.client_makes A.server_makes A.agrees H.lawful H.obliging H.accepts H.trusts
-            H.makes G.lawful G.group self.old.session.config.now parts.old.agreement parts.old.hosts parts.old.groups) (with_more self.old piece.now) self.new) }
+        ensures reads { OnOk result (Reads (⟦<Parts<A, H, G, R> as Handed>⟧.says self.old.session.config.now parts.old)
+            (with_more self.old piece.now) self.new) }
         ensures part { OnOk result (WaitsInPart (reading_of self.new) self.new.reader.waiting) }
-        ensures stops { IfErr result (λ e. Stops (says_of A.lawful A.offered A.client_makes A.server_makes A.agrees H.lawful H.obliging H.accepts H.trusts
-            H.makes G.lawful G.group self.old.session.config.now parts.old.agreement parts.old.hosts parts.old.groups)
-            (denies_of A.obliging A.offered A.client_makes A.server_makes A.refusals H.obliging H.accepts
-            H.refused_sign H.refused_verify G.obliging G.refusals parts.old.agreement parts.new.agreement parts.old.hosts parts.new.hosts parts.old.groups parts.new.groups)
-            (untrusted_of H.obliging H.trusts H.refused_check parts.old.hosts parts.new.hosts)
-            (AsksTo self.old.session (counted_by A.calls H.calls G.calls parts.old.agreement parts.old.hosts parts.old.groups) (counted_by A.calls H.calls G.calls parts.new.agreement parts.new.hosts parts.new.groups)) (with_more self.old piece.now) e self.new) }
+        ensures stops { IfErr result (λ e. Stops (⟦<Parts<A, H, G, R> as Handed>⟧.says self.old.session.config.now
+            parts.old)
+            (⟦<Parts<A, H, G, R> as Handed>⟧.denies parts.old parts.new)
+            (⟦<Parts<A, H, G, R> as Asked>⟧.distrusts parts.old parts.new)
+            (AsksTo self.old.session (⟦<Parts<A, H, G, R> as Asked>⟧.calls parts.old)
+            (⟦<Parts<A, H, G, R> as Asked>⟧.calls parts.new)) (with_more self.old piece.now) e self.new) }
         ensures fixed { IsFixed self.old.session self.new.session }
         ensures unfailed { self.new.failed ≡ self.old.failed }
-        ensures agreement { KeepsAgreement A.lawful A.obliging A.offered A.refusals A.calls parts.old.agreement parts.new.agreement }
-        ensures hosts { KeepsHosts H.lawful H.obliging H.accepts H.trusts H.refused_sign H.refused_verify H.refused_check H.calls parts.old.hosts parts.new.hosts }
-        ensures groups { KeepsGroups G.lawful G.obliging G.group G.refusals G.calls parts.old.groups parts.new.groups }
+        ensures keeps { ⟦<Parts<A, H, G, R> as Handed>⟧.keeps parts.old parts.new }
         ensures asks { OnOk result (AsksBetween self.old.session self.new.session
-            (counted_by A.calls H.calls G.calls parts.old.agreement parts.old.hosts parts.old.groups) (counted_by A.calls H.calls G.calls parts.new.agreement parts.new.hosts parts.new.groups)) }
+            (⟦<Parts<A, H, G, R> as Asked>⟧.calls parts.old) (⟦<Parts<A, H, G, R> as Asked>⟧.calls parts.new)) }
     {
         self.read_packets(parts)?;
         let mut taken = 0;
@@ -488,29 +493,27 @@ impl<'c> Connection<'c> {
         requires heard { IsHeard self.old.session.line }
         ensures begins { CanBegin self.new.session }
         ensures live { OnOk result (IsLive self.new) }
-        ensures reads { OnOk result (Reads (says_of A.lawful A.offered A.client_makes A.server_makes A.agrees H.lawful H.obliging H.accepts H.trusts
-            H.makes G.lawful G.group self.old.session.config.now parts.old.agreement parts.old.hosts parts.old.groups) self.old self.new) }
+        ensures reads { OnOk result (Reads (⟦<Parts<A, H, G, R> as Handed>⟧.says self.old.session.config.now parts.old)
+            self.old self.new) }
         ensures part { OnOk result (WaitsInPart (reading_of self.new) self.new.reader.waiting) }
-        ensures stops { IfErr result (λ e. Stops (says_of A.lawful A.offered A.client_makes A.server_makes A.agrees H.lawful H.obliging H.accepts H.trusts H.makes
-            G.lawful G.group self.old.session.config.now parts.old.agreement parts.old.hosts parts.old.groups)
-            (denies_of A.obliging A.offered A.client_makes A.server_makes A.refusals H.obliging H.accepts
-            H.refused_sign H.refused_verify G.obliging G.refusals parts.old.agreement parts.new.agreement parts.old.hosts parts.new.hosts parts.old.groups parts.new.groups)
-            (untrusted_of H.obliging H.trusts H.refused_check parts.old.hosts parts.new.hosts)
-            (AsksTo self.old.session (counted_by A.calls H.calls G.calls parts.old.agreement parts.old.hosts parts.old.groups) (counted_by A.calls H.calls G.calls parts.new.agreement parts.new.hosts parts.new.groups)) self.old e self.new) }
+        ensures stops { IfErr result (λ e. Stops (⟦<Parts<A, H, G, R> as Handed>⟧.says self.old.session.config.now
+            parts.old)
+            (⟦<Parts<A, H, G, R> as Handed>⟧.denies parts.old parts.new)
+            (⟦<Parts<A, H, G, R> as Asked>⟧.distrusts parts.old parts.new)
+            (AsksTo self.old.session (⟦<Parts<A, H, G, R> as Asked>⟧.calls parts.old)
+            (⟦<Parts<A, H, G, R> as Asked>⟧.calls parts.new)) self.old e self.new) }
         ensures fixed { IsFixed self.old.session self.new.session }
         ensures unfailed { self.new.failed ≡ self.old.failed }
-        ensures agreement { KeepsAgreement A.lawful A.obliging A.offered A.refusals A.calls parts.old.agreement parts.new.agreement }
-        ensures hosts { KeepsHosts H.lawful H.obliging H.accepts H.trusts H.refused_sign H.refused_verify H.refused_check H.calls parts.old.hosts parts.new.hosts }
-        ensures groups { KeepsGroups G.lawful G.obliging G.group G.refusals G.calls parts.old.groups parts.new.groups }
+        ensures keeps { ⟦<Parts<A, H, G, R> as Handed>⟧.keeps parts.old parts.new }
         ensures asks { OnOk result (AsksBetween self.old.session self.new.session
-            (counted_by A.calls H.calls G.calls parts.old.agreement parts.old.hosts parts.old.groups) (counted_by A.calls H.calls G.calls parts.new.agreement parts.new.hosts parts.new.groups)) }
+            (⟦<Parts<A, H, G, R> as Asked>⟧.calls parts.old) (⟦<Parts<A, H, G, R> as Asked>⟧.calls parts.new)) }
     {
         'packets: while self.read_packet(parts)? {}
         Ok(())
     }
 
     /// Opens the next packet, where one is whole, and does what it asks for by itself. The reader lends its payload.
-    #[tactic(auto, using(crate::proofs::Parts::agreement_same, crate::proofs::Parts::hosts_same, crate::proofs::Parts::groups_same))]
+    #[tactic(auto, using(crate::proofs::Parts::parts_same))]
     fn take_packet<A: Agreement, H: HostKeys, G: GroupLookup, R: Rng>(
         &mut self,
         parts: &mut Parts<A, H, G, R>,
@@ -524,23 +527,23 @@ impl<'c> Connection<'c> {
         ensures opened { OnOk result (IsOpen self.new.session) }
         ensures fixed { IsFixed self.old.session self.new.session }
         ensures unfailed { self.new.failed ≡ self.old.failed }
-        ensures agreement { KeepsAgreement A.lawful A.obliging A.offered A.refusals A.calls parts.old.agreement parts.new.agreement }
-        ensures hosts { KeepsHosts H.lawful H.obliging H.accepts H.trusts H.refused_sign H.refused_verify H.refused_check H.calls parts.old.hosts parts.new.hosts }
-        ensures groups { KeepsGroups G.lawful G.obliging G.group G.refusals G.calls parts.old.groups parts.new.groups }
+        ensures keeps { ⟦<Parts<A, H, G, R> as Handed>⟧.keeps parts.old parts.new }
         ensures asks { OnOk result (AsksBetween self.old.session self.new.session
-            (counted_by A.calls H.calls G.calls parts.old.agreement parts.old.hosts parts.old.groups) (counted_by A.calls H.calls G.calls parts.new.agreement parts.new.hosts parts.new.groups)) }
-        ensures took { IfOk result (λ r. IfSome r (λ h. HandlesOne (says_of A.lawful A.offered A.client_makes A.server_makes A.agrees H.lawful H.obliging H.accepts H.trusts
-            H.makes G.lawful G.group self.old.session.config.now parts.old.agreement parts.old.hosts parts.old.groups) self.old h self.new)) }
-        ensures none { result ≡ Ok None → (self.new ≡ record self.old { reader = record self.old.reader { handed = [] } }) × WaitsInPart (reading_of self.old) self.old.reader.waiting }
+            (⟦<Parts<A, H, G, R> as Asked>⟧.calls parts.old) (⟦<Parts<A, H, G, R> as Asked>⟧.calls parts.new)) }
+        ensures took { IfOk result (λ r. IfSome r (λ h. HandlesOne
+            (⟦<Parts<A, H, G, R> as Handed>⟧.says self.old.session.config.now parts.old) self.old h self.new)) }
+        ensures none { result ≡ Ok None → (self.new ≡ record self.old
+            { reader = record self.old.reader { handed = [] } }) × WaitsInPart (reading_of self.old)
+            self.old.reader.waiting }
         ensures unqueued { self.new.delivered ≡ self.old.delivered }
-        ensures wants { result ≡ Err Memory → Wants (says_of A.lawful A.offered A.client_makes A.server_makes A.agrees H.lawful H.obliging H.accepts H.trusts
-            H.makes G.lawful G.group self.old.session.config.now parts.old.agreement parts.old.hosts parts.old.groups) self.old }
-        ensures stops { IfErr result (λ e. Stops (says_of A.lawful A.offered A.client_makes A.server_makes A.agrees H.lawful H.obliging H.accepts H.trusts H.makes
-            G.lawful G.group self.old.session.config.now parts.old.agreement parts.old.hosts parts.old.groups)
-            (denies_of A.obliging A.offered A.client_makes A.server_makes A.refusals H.obliging H.accepts
-            H.refused_sign H.refused_verify G.obliging G.refusals parts.old.agreement parts.new.agreement parts.old.hosts parts.new.hosts parts.old.groups parts.new.groups)
-            (untrusted_of H.obliging H.trusts H.refused_check parts.old.hosts parts.new.hosts)
-            (AsksTo self.old.session (counted_by A.calls H.calls G.calls parts.old.agreement parts.old.hosts parts.old.groups) (counted_by A.calls H.calls G.calls parts.new.agreement parts.new.hosts parts.new.groups)) self.old e self.new) }
+        ensures wants { result ≡ Err Memory → Wants (⟦<Parts<A, H, G, R> as Handed>⟧.says self.old.session.config.now
+            parts.old) self.old }
+        ensures stops { IfErr result (λ e. Stops (⟦<Parts<A, H, G, R> as Handed>⟧.says self.old.session.config.now
+            parts.old)
+            (⟦<Parts<A, H, G, R> as Handed>⟧.denies parts.old parts.new)
+            (⟦<Parts<A, H, G, R> as Asked>⟧.distrusts parts.old parts.new)
+            (AsksTo self.old.session (⟦<Parts<A, H, G, R> as Asked>⟧.calls parts.old)
+            (⟦<Parts<A, H, G, R> as Asked>⟧.calls parts.new)) self.old e self.new) }
     {
         let Some(incoming) = self.reader.next(&mut self.opening)? else {
             return Ok(None);
@@ -549,8 +552,9 @@ impl<'c> Connection<'c> {
         Ok(Some(handled))
     }
 
-    /// Handles the next packet, where one is whole, and queues its payload where that is handed up: whether there was one.
-    #[tactic(auto, using(crate::proofs::Parts::agreement_same, crate::proofs::Parts::hosts_same, crate::proofs::Parts::groups_same))]
+    /// Handles the next packet, where one is whole, and queues its payload where that is handed up: whether there was
+    /// one.
+    #[tactic(auto, using(crate::proofs::Parts::parts_same))]
     fn read_packet<A: Agreement, H: HostKeys, G: GroupLookup, R: Rng>(
         &mut self,
         parts: &mut Parts<A, H, G, R>,
@@ -559,23 +563,22 @@ impl<'c> Connection<'c> {
         requires heard { IsHeard self.old.session.line }
         ensures begins { CanBegin self.new.session }
         ensures live { OnOk result (IsLive self.new) }
-        ensures shorter { IfOk result (λ read. IsTrue read → length self.new.reader.waiting < length self.old.reader.waiting) }
-        ensures reads { OnOk result (Reads (says_of A.lawful A.offered A.client_makes A.server_makes A.agrees H.lawful H.obliging H.accepts H.trusts
-            H.makes G.lawful G.group self.old.session.config.now parts.old.agreement parts.old.hosts parts.old.groups) self.old self.new) }
+        ensures shorter { IfOk result (λ read. IsTrue read → length self.new.reader.waiting < length
+            self.old.reader.waiting) }
+        ensures reads { OnOk result (Reads (⟦<Parts<A, H, G, R> as Handed>⟧.says self.old.session.config.now parts.old)
+            self.old self.new) }
         ensures part { result ≡ Ok false → WaitsInPart (reading_of self.new) self.new.reader.waiting }
-        ensures stops { IfErr result (λ e. Stops (says_of A.lawful A.offered A.client_makes A.server_makes A.agrees H.lawful H.obliging H.accepts H.trusts H.makes
-            G.lawful G.group self.old.session.config.now parts.old.agreement parts.old.hosts parts.old.groups)
-            (denies_of A.obliging A.offered A.client_makes A.server_makes A.refusals H.obliging H.accepts
-            H.refused_sign H.refused_verify G.obliging G.refusals parts.old.agreement parts.new.agreement parts.old.hosts parts.new.hosts parts.old.groups parts.new.groups)
-            (untrusted_of H.obliging H.trusts H.refused_check parts.old.hosts parts.new.hosts)
-            (AsksTo self.old.session (counted_by A.calls H.calls G.calls parts.old.agreement parts.old.hosts parts.old.groups) (counted_by A.calls H.calls G.calls parts.new.agreement parts.new.hosts parts.new.groups)) self.old e self.new) }
+        ensures stops { IfErr result (λ e. Stops (⟦<Parts<A, H, G, R> as Handed>⟧.says self.old.session.config.now
+            parts.old)
+            (⟦<Parts<A, H, G, R> as Handed>⟧.denies parts.old parts.new)
+            (⟦<Parts<A, H, G, R> as Asked>⟧.distrusts parts.old parts.new)
+            (AsksTo self.old.session (⟦<Parts<A, H, G, R> as Asked>⟧.calls parts.old)
+            (⟦<Parts<A, H, G, R> as Asked>⟧.calls parts.new)) self.old e self.new) }
         ensures fixed { IsFixed self.old.session self.new.session }
         ensures unfailed { self.new.failed ≡ self.old.failed }
-        ensures agreement { KeepsAgreement A.lawful A.obliging A.offered A.refusals A.calls parts.old.agreement parts.new.agreement }
-        ensures hosts { KeepsHosts H.lawful H.obliging H.accepts H.trusts H.refused_sign H.refused_verify H.refused_check H.calls parts.old.hosts parts.new.hosts }
-        ensures groups { KeepsGroups G.lawful G.obliging G.group G.refusals G.calls parts.old.groups parts.new.groups }
+        ensures keeps { ⟦<Parts<A, H, G, R> as Handed>⟧.keeps parts.old parts.new }
         ensures asks { OnOk result (AsksBetween self.old.session self.new.session
-            (counted_by A.calls H.calls G.calls parts.old.agreement parts.old.hosts parts.old.groups) (counted_by A.calls H.calls G.calls parts.new.agreement parts.new.hosts parts.new.groups)) }
+            (⟦<Parts<A, H, G, R> as Asked>⟧.calls parts.old) (⟦<Parts<A, H, G, R> as Asked>⟧.calls parts.new)) }
     {
         let Some(handled) = self.take_packet(parts)? else {
             return Ok(false);

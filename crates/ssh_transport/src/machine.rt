@@ -1,10 +1,9 @@
 //! The machine of an exchange, of either side.
 
 ghost use Rattle.std.specs.Prelude.{◌≡◌, ◌+◌, ◌≤◌, ◌<◌, ◌^◌, [], Some, IfErr, IfOk, OnErr, OnOk, length, is_some};
-ghost use Rattle.ssh_kex.specs.Parts.{KeepsAgreement, KeepsGroups, KeepsHosts};
 ghost use Rattle.ssh_kex.specs.Refusals.{IsCreated};
 ghost use Rattle.ssh_kex.specs.Stages.{Created, is_strict, names_of, has_ignored};
-ghost use Rattle.ssh_kex.specs.Stepping.{Progresses, PutsFront, RefusesStep, asks_agreement, asks_groups, asks_hosts, denies_of, next_of, says_of};
+ghost use Rattle.ssh_kex.specs.Stepping.{Progresses, PutsFront, RefusesStep, asks_agreement, asks_groups, asks_hosts, next_of};
 ghost use Rattle.ssh_packet.specs.Sealing.{Item};
 ghost use Rattle.ssh_packet.specs.Writing.{SameButRoom};
 ghost use Rattle.ssh_transport.specs.Kexinits.{SendsKexinit, setting_between};
@@ -14,7 +13,7 @@ ghost use Rattle.ssh_wire.specs.declared.side.Side.TheVariants.{Client as client
 
 use rand_core::Rng;
 use ssh_client_kex::ClientKex;
-use ssh_kex::{Agreement, Config, GroupLookup, HostKeys, KexProgress, Parts};
+use ssh_kex::{Agreement, Config, GroupLookup, Handed, HostKeys, KexProgress, Parts};
 use ssh_negotiate::KexCause;
 use ssh_packet::{Incoming, PacketWriter};
 use ssh_server_kex::ServerKex;
@@ -57,7 +56,10 @@ impl<'c> SessionKex<'c> {
     ) -> Result<SessionKex<'c>, Error>
         requires usable { IsUsable side config.now }
         requires short { length peer_id.now < 2 ^ 31 }
-        ensures ok { IfOk result (λ k. k ≡ record { setting = setting_between side config.now peer_id.now cause; stage = Created [] }) }
+        ensures ok { IfOk result (λ k. k ≡ record {
+          setting = setting_between side config.now peer_id.now cause;
+          stage = Created [];
+        }) }
         ensures err { IfErr result (λ e. e ≡ Memory) }
     {
         match side {
@@ -83,7 +85,8 @@ impl<'c> SessionKex<'c> {
         output: &mut PacketWriter,
     ) -> Result<(), Error>
         requires { IsCreated self.old.stage }
-        ensures sent { OnOk result ((item : Item) × SendsKexinit self.old.setting.side self.old.setting.config output.old item output.new
+        ensures sent { OnOk result ((item : Item) × SendsKexinit self.old.setting.side self.old.setting.config
+            output.old item output.new
             × (self.new ≡ record self.old { stage = Created item.payload })) }
         ensures unchanged { OnErr result ((self.new ≡ self.old) × SameButRoom output.old output.new) }
         ensures err { IfErr result (λ e. e ≡ Memory) }
@@ -132,21 +135,16 @@ impl<'c> SessionKex<'c> {
         output: &mut PacketWriter,
     ) -> Result<KexProgress<SessionKex<'c>>, Error>
         requires { length incoming.payload.now < 2 ^ 31 }
-        ensures agreement { KeepsAgreement A.lawful A.obliging A.offered A.refusals A.calls parts.old.agreement parts.new.agreement }
-        ensures hosts { KeepsHosts H.lawful H.obliging H.accepts H.trusts H.refused_sign H.refused_verify H.refused_check H.calls parts.old.hosts parts.new.hosts }
-        ensures groups { KeepsGroups G.lawful G.obliging G.group G.refusals G.calls parts.old.groups parts.new.groups }
+        ensures keeps { ⟦<Parts<A, H, G, R> as Handed>⟧.keeps parts.old parts.new }
         ensures agreement_calls { A.calls parts.new.agreement ≤ A.calls parts.old.agreement + asks_agreement
             self.entry.setting.side self.entry.stage (next_of result) }
         ensures hosts_calls { H.calls parts.new.hosts ≤ H.calls parts.old.hosts + asks_hosts self.entry.stage }
         ensures groups_calls { G.calls parts.new.groups ≤ G.calls parts.old.groups + asks_groups self.entry.stage }
-        ensures goes { IfOk result (λ p. Progresses (says_of A.lawful A.offered A.client_makes A.server_makes A.agrees
-            H.lawful H.obliging H.accepts H.trusts H.makes G.lawful G.group self.entry.setting.config
-            parts.old.agreement parts.old.hosts parts.old.groups) self.entry (Some incoming.entry) output.old p output.new) }
-        ensures causes { IfErr result (λ e. RefusesStep (says_of A.lawful A.offered A.client_makes A.server_makes A.agrees
-            H.lawful H.obliging H.accepts H.trusts H.makes G.lawful G.group self.entry.setting.config
-            parts.old.agreement parts.old.hosts parts.old.groups)
-            (denies_of A.obliging A.offered A.client_makes A.server_makes A.refusals H.obliging H.accepts
-            H.refused_sign H.refused_verify G.obliging G.refusals parts.old.agreement parts.new.agreement parts.old.hosts parts.new.hosts parts.old.groups parts.new.groups)
+        ensures goes { IfOk result (λ p. Progresses (⟦<Parts<A, H, G, R> as Handed>⟧.says self.entry.setting.config
+            parts.old) self.entry (Some incoming.entry) output.old p output.new) }
+        ensures causes { IfErr result (λ e. RefusesStep (⟦<Parts<A, H, G, R> as Handed>⟧.says self.entry.setting.config
+            parts.old)
+            (⟦<Parts<A, H, G, R> as Handed>⟧.denies parts.old parts.new)
             self.entry (Some incoming.entry) e) }
         ensures front { OnErr result (PutsFront self.entry.stage output.old output.new) }
     {
@@ -164,7 +162,8 @@ fn client_kexinit<'c, R: Rng>(
 ) -> Result<(), Error>
     requires created { IsCreated kex.old.stage }
     requires side { kex.old.setting.side ≡ client_side }
-    ensures sent { OnOk result ((item : Item) × SendsKexinit kex.old.setting.side kex.old.setting.config output.old item output.new
+    ensures sent { OnOk result ((item : Item) × SendsKexinit kex.old.setting.side kex.old.setting.config output.old item
+        output.new
         × (kex.new ≡ record kex.old { stage = Created item.payload })) }
     ensures unchanged { OnErr result ((kex.new ≡ kex.old) × SameButRoom output.old output.new) }
     ensures err { IfErr result (λ e. e ≡ Memory) }
@@ -179,7 +178,8 @@ fn server_kexinit<'c, R: Rng>(
 ) -> Result<(), Error>
     requires created { IsCreated kex.old.stage }
     requires side { kex.old.setting.side ≡ server_side }
-    ensures sent { OnOk result ((item : Item) × SendsKexinit kex.old.setting.side kex.old.setting.config output.old item output.new
+    ensures sent { OnOk result ((item : Item) × SendsKexinit kex.old.setting.side kex.old.setting.config output.old item
+        output.new
         × (kex.new ≡ record kex.old { stage = Created item.payload })) }
     ensures unchanged { OnErr result ((kex.new ≡ kex.old) × SameButRoom output.old output.new) }
     ensures err { IfErr result (λ e. e ≡ Memory) }

@@ -1,13 +1,12 @@
 //! What a side says: its version line, its messages of exchanges, the payloads that it seals or holds.
 
 ghost use Rattle.std.specs.Prelude.{◌≡◌, [], ◌+◌, ◌<◌, ◌≤◌, ◌-◌, if◌then◌else◌, ◌^◌, ◌||◌, ◌&&◌, ◌⊎◌, ℕ, nat_le, not, List, Some, Ok, Err, true, false, IfErr, IfOk, IfSome, OnErr, OnOk, length, take};
-ghost use Rattle.ssh_rules.specs.Asking.{AsksForMessage, AsksForType, counted_by};
+ghost use Rattle.ssh_rules.specs.Asking.{AsksForMessage, AsksForType};
 ghost use Rattle.ssh_rules.specs.MessageTypes.{is_payload_type, is_violation};
 ghost use Rattle.ssh_transport.specs.Asking.{asks_trust};
 ghost use Rattle.ssh_transport.specs.Stopping.{IsDistrusted};
 ghost use Rattle.ssh_transport.specs.declared.session.Handled.TheVariants.{Delivers};
-ghost use Rattle.ssh_kex.specs.Parts.{KeepsAgreement, KeepsGroups, KeepsHosts};
-ghost use Rattle.ssh_kex.specs.Stepping.{denies_of, says_of};
+ghost use Rattle.ssh_kex.specs.Parts.{KeepsHosts};
 ghost use Rattle.ssh_packet.specs.Sealing.{next_number};
 ghost use Rattle.ssh_packet.specs.Stream.{message_type as message_type_of};
 ghost use Rattle.ssh_wire.specs.Orders.{is_kex};
@@ -24,11 +23,12 @@ use crate::machine::SessionKex;
 use crate::message::{is_idle, is_payload, type_of};
 use rand_core::Rng;
 use ssh_kex::{
-    Agreement, Config, FinishedExchange, GroupLookup, HostKeys, KexProgress, NewKeys, Parts,
-    Refusal, ServerHost, SessionKexState,
+    Agreement, Config, FinishedExchange, GroupLookup, Handed, HostKeys, KexProgress, NewKeys,
+    Parts, Refusal, ServerHost, SessionKexState,
 };
 use ssh_negotiate::KexCause;
 use ssh_packet::{Incoming, OpenKey, PacketWriter};
+use ssh_rules::Asked;
 use ssh_wire::{
     Error, IdProgress, Payload, ReadSshIdBuffer, Side, is_kex_msg, msg,
     validate_client_msg_strict_kex, validate_server_msg_strict_kex,
@@ -75,7 +75,8 @@ impl<'c> Session<'c> {
     pub(crate) fn new(alloc: Global, side: Side, config: &'c Config) -> Result<Session<'c>, Error>
         ensures fresh { IfOk result (IsFresh side config.now) }
         ensures fault { IfSome (config_fault side config.now) (λ f. result ≡ Err (InvalidConfig f)) }
-        ensures causes { IfErr result (λ e. (e ≡ Memory) ⊎ ((f : ConfigFault) × (config_fault side config.now ≡ Some f) × (e ≡ InvalidConfig f))) }
+        ensures causes { IfErr result (λ e. (e ≡ Memory) ⊎ ((f : ConfigFault) × (config_fault side config.now ≡ Some f)
+            × (e ≡ InvalidConfig f))) }
     {
         if let Some(fault) = config_fault(side, config) {
             return Err(Error::InvalidConfig(fault));
@@ -108,8 +109,8 @@ impl<'c> Session<'c> {
         !self.kex.active() && self.finished.is_empty()
     }
 
-    /// Reads of the peer's version line, and begins the first exchange behind it: how many bytes of the piece stand before
-    /// packets, once it is read. Version; Memory.
+    /// Reads of the peer's version line, and begins the first exchange behind it: how many bytes of the piece stand
+    /// before packets, once it is read. Version; Memory.
     #[tactic(auto, using(crate::proofs::Hearing::heard_short, crate::proofs::Hearing::behind_kept, crate::proofs::Hearing::behind_heard))]
     pub(crate) fn hear<R: Rng>(&mut self, rng: &mut R, piece: &[u8]) -> Result<Option<usize>, Error>
         requires { CanBegin self.old }
@@ -118,7 +119,8 @@ impl<'c> Session<'c> {
         ensures held { self.new.held ≡ self.old.held }
         ensures within { IfOk result (λ used. IfSome used (λ n. n ≤ length piece.now)) }
         ensures behind { (waiting : List ℕ) → WaitsBehind self.old.line waiting → WaitsBehind self.new.line waiting }
-        ensures heard { IfOk result (λ used. IfSome used (λ n. (waiting : List ℕ) → WaitsBehind self.new.line waiting)) }
+        ensures heard { IfOk result (λ used. IfSome used (λ n. (waiting : List ℕ) → WaitsBehind self.new.line
+            waiting)) }
         ensures fixed { IsFixed self.old self.new }
         ensures opened { IsOpen self.old → OnOk result (IsOpen self.new) }
         ensures line { IfOk result (λ used. HearsLine self.old piece.now used self.new) }
@@ -208,8 +210,8 @@ impl<'c> Session<'c> {
         self.go_on(rng, read)
     }
 
-    /// Outside an exchange: begins one where a limit is reached, and else seals what is held, in order, until one is. So many
-    /// bytes of payload were read since the last exchange. Memory.
+    /// Outside an exchange: begins one where a limit is reached, and else seals what is held, in order, until one is.
+    /// So many bytes of payload were read since the last exchange. Memory.
     pub(crate) fn go_on<R: Rng>(&mut self, rng: &mut R, read: usize) -> Result<(), Error>
         requires begins { CanBegin self.old }
         requires good { AreGood self.old.held.items }
@@ -218,7 +220,8 @@ impl<'c> Session<'c> {
         ensures opened { OnOk result (IsOpen self.new) }
         ensures ok { OnOk result (GoesOn self.old read self.new) }
         ensures wanting { OnErr result (GoesPart self.old read self.new) }
-        ensures due { (stands_of self.old.finished.items self.old.kex ≡ Outside → self.old.held.items ≡ []) → OnErr result (WantsKeys self.old read self.new) }
+        ensures due { (stands_of self.old.finished.items self.old.kex ≡ Outside → self.old.held.items ≡ []) → OnErr
+            result (WantsKeys self.old read self.new) }
         ensures fixed { IsFixed self.old self.new }
         ensures begins { CanBegin self.new }
         ensures line { self.new.line ≡ self.old.line }
@@ -238,15 +241,16 @@ impl<'c> Session<'c> {
 
     /// Whether so many bytes were written or read that keys are to be exchanged (RFC 4253 section 9).
     fn is_at_limit(&self, read: usize) -> bool
-        ensures { result ≡ (nat_le self.now.config.now.limits.rekey_write_limit self.now.writer.count || nat_le self.now.config.now.limits.rekey_read_limit read) }
+        ensures { result ≡ (nat_le self.now.config.now.limits.rekey_write_limit self.now.writer.count || nat_le
+            self.now.config.now.limits.rekey_read_limit read) }
     {
         self.writer.bytes_written() >= self.config.limits.rekey_write_limit
             || read >= self.config.limits.rekey_read_limit
     }
 
-    /// Does with a packet what its type and the exchange ask for. Disconnect at a DISCONNECT; StrictKeyExchangeViolation;
-    /// Inconsistent where the message is out of place; what the machine and the client's host keys refuse; Memory. A refusal
-    /// sends nothing.
+    /// Does with a packet what its type and the exchange ask for. Disconnect at a DISCONNECT;
+    /// StrictKeyExchangeViolation; Inconsistent where the message is out of place; what the machine and the client's
+    /// host keys refuse; Memory. A refusal sends nothing.
     pub(crate) fn handle<A: Agreement, H: HostKeys, G: GroupLookup, R: Rng>(
         &mut self,
         parts: &mut Parts<A, H, G, R>,
@@ -262,22 +266,23 @@ impl<'c> Session<'c> {
         ensures held { self.new.held ≡ self.old.held }
         ensures unheard { OnOk result (IsUnheard self.new) }
         ensures fixed { IsFixed self.old self.new }
-        ensures agreement { KeepsAgreement A.lawful A.obliging A.offered A.refusals A.calls parts.old.agreement parts.new.agreement }
-        ensures hosts { KeepsHosts H.lawful H.obliging H.accepts H.trusts H.refused_sign H.refused_verify H.refused_check H.calls parts.old.hosts parts.new.hosts }
-        ensures groups { KeepsGroups G.lawful G.obliging G.group G.refusals G.calls parts.old.groups parts.new.groups }
-        ensures asks { OnOk result (AsksBetween self.old self.new (counted_by A.calls H.calls G.calls parts.old.agreement parts.old.hosts parts.old.groups) (counted_by A.calls H.calls G.calls parts.new.agreement parts.new.hosts parts.new.groups)) }
-        ensures asked { OnErr result (AsksForType (is_kex (message_type_of incoming.entry.payload.now)) self.old.side (stands_of self.old.finished.items self.old.kex)
-            (counted_by A.calls H.calls G.calls parts.old.agreement parts.old.hosts parts.old.groups) (counted_by A.calls H.calls G.calls parts.new.agreement parts.new.hosts parts.new.groups)) }
-        ensures handled { IfOk result (λ h. Handles (says_of A.lawful A.offered A.client_makes A.server_makes A.agrees H.lawful H.obliging H.accepts H.trusts H.makes
-            G.lawful G.group self.old.config.now parts.old.agreement parts.old.hosts parts.old.groups) self.old incoming.entry.seqn incoming.entry.payload.now h self.new) }
-        ensures refuses { IfErr result (λ e. Refuses (says_of A.lawful A.offered A.client_makes A.server_makes A.agrees H.lawful H.obliging H.accepts H.trusts H.makes
-            G.lawful G.group self.old.config.now parts.old.agreement parts.old.hosts parts.old.groups)
-            (denies_of A.obliging A.offered A.client_makes A.server_makes A.refusals H.obliging H.accepts
-            H.refused_sign H.refused_verify G.obliging G.refusals parts.old.agreement parts.new.agreement parts.old.hosts parts.new.hosts parts.old.groups parts.new.groups)
-            (untrusted_of H.obliging H.trusts H.refused_check parts.old.hosts parts.new.hosts) self.old incoming.entry.seqn incoming.entry.payload.now e) }
+        ensures keeps { ⟦<Parts<A, H, G, R> as Handed>⟧.keeps parts.old parts.new }
+        ensures asks { OnOk result (AsksBetween self.old self.new (⟦<Parts<A, H, G, R> as Asked>⟧.calls parts.old)
+            (⟦<Parts<A, H, G, R> as Asked>⟧.calls parts.new)) }
+        ensures asked { OnErr result (AsksForType (is_kex (message_type_of incoming.entry.payload.now)) self.old.side
+            (stands_of self.old.finished.items self.old.kex)
+            (⟦<Parts<A, H, G, R> as Asked>⟧.calls parts.old) (⟦<Parts<A, H, G, R> as Asked>⟧.calls parts.new)) }
+        ensures handled { IfOk result (λ h. Handles (⟦<Parts<A, H, G, R> as Handed>⟧.says self.old.config.now parts.old)
+            self.old incoming.entry.seqn incoming.entry.payload.now h self.new) }
+        ensures refuses { IfErr result (λ e. Refuses (⟦<Parts<A, H, G, R> as Handed>⟧.says self.old.config.now
+            parts.old)
+            (⟦<Parts<A, H, G, R> as Handed>⟧.denies parts.old parts.new)
+            (⟦<Parts<A, H, G, R> as Asked>⟧.distrusts parts.old parts.new) self.old incoming.entry.seqn
+            incoming.entry.payload.now e) }
         ensures rests { OnErr result (IsAsBefore self.old self.new) }
         ensures delivers { result ≡ Ok Delivers → self.new ≡ self.old }
-        ensures others { OnOk result (is_kex (message_type_of incoming.entry.payload.now) ≡ false → self.new ≡ self.old) }
+        ensures others { OnOk result (is_kex (message_type_of incoming.entry.payload.now) ≡ false → self.new
+            ≡ self.old) }
         ensures opened { OnOk result (IsOpen self.new) }
     {
         let sent = self.writer.output().len();
@@ -315,22 +320,23 @@ impl<'c> Session<'c> {
         ensures held { self.new.held ≡ self.old.held }
         ensures unheard { OnOk result (IsUnheard self.new) }
         ensures fixed { IsFixed self.old self.new }
-        ensures agreement { KeepsAgreement A.lawful A.obliging A.offered A.refusals A.calls parts.old.agreement parts.new.agreement }
-        ensures hosts { KeepsHosts H.lawful H.obliging H.accepts H.trusts H.refused_sign H.refused_verify H.refused_check H.calls parts.old.hosts parts.new.hosts }
-        ensures groups { KeepsGroups G.lawful G.obliging G.group G.refusals G.calls parts.old.groups parts.new.groups }
-        ensures asks { OnOk result (AsksBetween self.old self.new (counted_by A.calls H.calls G.calls parts.old.agreement parts.old.hosts parts.old.groups) (counted_by A.calls H.calls G.calls parts.new.agreement parts.new.hosts parts.new.groups)) }
-        ensures asked { OnErr result (AsksForType (is_kex (message_type_of incoming.entry.payload.now)) self.old.side (stands_of self.old.finished.items self.old.kex)
-            (counted_by A.calls H.calls G.calls parts.old.agreement parts.old.hosts parts.old.groups) (counted_by A.calls H.calls G.calls parts.new.agreement parts.new.hosts parts.new.groups)) }
-        ensures handled { IfOk result (λ h. Handles (says_of A.lawful A.offered A.client_makes A.server_makes A.agrees H.lawful H.obliging H.accepts H.trusts H.makes
-            G.lawful G.group self.old.config.now parts.old.agreement parts.old.hosts parts.old.groups) self.old incoming.entry.seqn incoming.entry.payload.now h self.new) }
-        ensures refuses { IfErr result (λ e. Refuses (says_of A.lawful A.offered A.client_makes A.server_makes A.agrees H.lawful H.obliging H.accepts H.trusts H.makes
-            G.lawful G.group self.old.config.now parts.old.agreement parts.old.hosts parts.old.groups)
-            (denies_of A.obliging A.offered A.client_makes A.server_makes A.refusals H.obliging H.accepts
-            H.refused_sign H.refused_verify G.obliging G.refusals parts.old.agreement parts.new.agreement parts.old.hosts parts.new.hosts parts.old.groups parts.new.groups)
-            (untrusted_of H.obliging H.trusts H.refused_check parts.old.hosts parts.new.hosts) self.old incoming.entry.seqn incoming.entry.payload.now e) }
+        ensures keeps { ⟦<Parts<A, H, G, R> as Handed>⟧.keeps parts.old parts.new }
+        ensures asks { OnOk result (AsksBetween self.old self.new (⟦<Parts<A, H, G, R> as Asked>⟧.calls parts.old)
+            (⟦<Parts<A, H, G, R> as Asked>⟧.calls parts.new)) }
+        ensures asked { OnErr result (AsksForType (is_kex (message_type_of incoming.entry.payload.now)) self.old.side
+            (stands_of self.old.finished.items self.old.kex)
+            (⟦<Parts<A, H, G, R> as Asked>⟧.calls parts.old) (⟦<Parts<A, H, G, R> as Asked>⟧.calls parts.new)) }
+        ensures handled { IfOk result (λ h. Handles (⟦<Parts<A, H, G, R> as Handed>⟧.says self.old.config.now parts.old)
+            self.old incoming.entry.seqn incoming.entry.payload.now h self.new) }
+        ensures refuses { IfErr result (λ e. Refuses (⟦<Parts<A, H, G, R> as Handed>⟧.says self.old.config.now
+            parts.old)
+            (⟦<Parts<A, H, G, R> as Handed>⟧.denies parts.old parts.new)
+            (⟦<Parts<A, H, G, R> as Asked>⟧.distrusts parts.old parts.new) self.old incoming.entry.seqn
+            incoming.entry.payload.now e) }
         ensures appends { OnErr result (Appends self.old self.new) }
         ensures delivers { result ≡ Ok Delivers → self.new ≡ self.old }
-        ensures others { OnOk result (is_kex (message_type_of incoming.entry.payload.now) ≡ false → self.new ≡ self.old) }
+        ensures others { OnOk result (is_kex (message_type_of incoming.entry.payload.now) ≡ false → self.new
+            ≡ self.old) }
         ensures opened { OnOk result (IsOpen self.new) }
     {
         let message_type = type_of(incoming.payload);
@@ -353,7 +359,8 @@ impl<'c> Session<'c> {
     /// Whether a message of this type is a payload that may come.
     fn delivers(&self, message_type: u8) -> bool
         requires { IsOpen self.now }
-        ensures { result ≡ (is_payload_type message_type && may_deliver_by self.now.finished.items (stands_of self.now.finished.items self.now.kex)) }
+        ensures { result ≡ (is_payload_type message_type && may_deliver_by self.now.finished.items
+            (stands_of self.now.finished.items self.now.kex)) }
     {
         is_payload(message_type) && self.may_deliver()
     }
@@ -375,7 +382,8 @@ impl<'c> Session<'c> {
     /// Whether the first exchange runs, under strict key exchange as far as the peer's KEXINIT was read.
     fn is_first_strict(&self) -> bool
         requires { IsOpen self.now }
-        ensures { result ≡ is_ordered self.now.finished.items (names_now (stands_of self.now.finished.items self.now.kex)) }
+        ensures { result ≡ is_ordered self.now.finished.items (names_now
+            (stands_of self.now.finished.items self.now.kex)) }
     {
         match &self.kex {
             SessionKexState::InProgress(kex) => self.finished.is_empty() && kex.strict_kex(),
@@ -408,13 +416,14 @@ impl<'c> Session<'c> {
         }
     }
 
-    /// The machine that a message is for: that of the open exchange, or outside one, at a KEXINIT, that of an exchange which
-    /// is begun for it. Inconsistent where there is none; Memory.
+    /// The machine that a message is for: that of the open exchange, or outside one, at a KEXINIT, that of an exchange
+    /// which is begun for it. Inconsistent where there is none; Memory.
     fn take_kex<R: Rng>(&mut self, rng: &mut R, message_type: u8) -> Result<SessionKex<'c>, Error>
         requires { CanBegin self.old }
         ensures taken { IfOk result (λ k. IsFor self.old k self.new) }
         ensures kexinit { OnOk result (BeginsAt self.old message_type) }
-        ensures refused { IfErr result (λ e. ((e ≡ Memory) × BeginsAt self.old message_type) ⊎ ((e ≡ Inconsistent) × IsForNone self.old message_type)) }
+        ensures refused { IfErr result (λ e. ((e ≡ Memory) × BeginsAt self.old message_type)
+            ⊎ ((e ≡ Inconsistent) × IsForNone self.old message_type)) }
         ensures rests { OnErr result (IsAsBefore self.old self.new) }
         ensures begins { CanBegin self.new }
         ensures line { self.new.line ≡ self.old.line }
@@ -432,7 +441,7 @@ impl<'c> Session<'c> {
 
     /// Takes a message of an exchange. It isn't inlined, so that packets outside an exchange don't pay for its locals.
     #[inline(never)]
-    #[tactic(auto, using(crate::proofs::Parts::agreement_same, crate::proofs::Parts::hosts_same, crate::proofs::Parts::groups_same))]
+    #[tactic(auto, using(crate::proofs::Parts::parts_same))]
     fn take_message<A: Agreement, H: HostKeys, G: GroupLookup, R: Rng>(
         &mut self,
         parts: &mut Parts<A, H, G, R>,
@@ -451,19 +460,18 @@ impl<'c> Session<'c> {
         ensures held { self.new.held ≡ self.old.held }
         ensures unheard { OnOk result (IsUnheard self.new) }
         ensures fixed { IsFixed self.old self.new }
-        ensures agreement { KeepsAgreement A.lawful A.obliging A.offered A.refusals A.calls parts.old.agreement parts.new.agreement }
-        ensures hosts { KeepsHosts H.lawful H.obliging H.accepts H.trusts H.refused_sign H.refused_verify H.refused_check H.calls parts.old.hosts parts.new.hosts }
-        ensures groups { KeepsGroups G.lawful G.obliging G.group G.refusals G.calls parts.old.groups parts.new.groups }
-        ensures asks { OnOk result (AsksBetween self.old self.new (counted_by A.calls H.calls G.calls parts.old.agreement parts.old.hosts parts.old.groups) (counted_by A.calls H.calls G.calls parts.new.agreement parts.new.hosts parts.new.groups)) }
+        ensures keeps { ⟦<Parts<A, H, G, R> as Handed>⟧.keeps parts.old parts.new }
+        ensures asks { OnOk result (AsksBetween self.old self.new (⟦<Parts<A, H, G, R> as Asked>⟧.calls parts.old)
+            (⟦<Parts<A, H, G, R> as Asked>⟧.calls parts.new)) }
         ensures asked { OnErr result (AsksForMessage self.old.side (stands_of self.old.finished.items self.old.kex)
-            (counted_by A.calls H.calls G.calls parts.old.agreement parts.old.hosts parts.old.groups) (counted_by A.calls H.calls G.calls parts.new.agreement parts.new.hosts parts.new.groups)) }
-        ensures handled { IfOk result (λ h. Handles (says_of A.lawful A.offered A.client_makes A.server_makes A.agrees H.lawful H.obliging H.accepts H.trusts H.makes
-            G.lawful G.group self.old.config.now parts.old.agreement parts.old.hosts parts.old.groups) self.old incoming.entry.seqn incoming.entry.payload.now h self.new) }
-        ensures refuses { IfErr result (λ e. Refuses (says_of A.lawful A.offered A.client_makes A.server_makes A.agrees H.lawful H.obliging H.accepts H.trusts H.makes
-            G.lawful G.group self.old.config.now parts.old.agreement parts.old.hosts parts.old.groups)
-            (denies_of A.obliging A.offered A.client_makes A.server_makes A.refusals H.obliging H.accepts
-            H.refused_sign H.refused_verify G.obliging G.refusals parts.old.agreement parts.new.agreement parts.old.hosts parts.new.hosts parts.old.groups parts.new.groups)
-            (untrusted_of H.obliging H.trusts H.refused_check parts.old.hosts parts.new.hosts) self.old incoming.entry.seqn incoming.entry.payload.now e) }
+            (⟦<Parts<A, H, G, R> as Asked>⟧.calls parts.old) (⟦<Parts<A, H, G, R> as Asked>⟧.calls parts.new)) }
+        ensures handled { IfOk result (λ h. Handles (⟦<Parts<A, H, G, R> as Handed>⟧.says self.old.config.now parts.old)
+            self.old incoming.entry.seqn incoming.entry.payload.now h self.new) }
+        ensures refuses { IfErr result (λ e. Refuses (⟦<Parts<A, H, G, R> as Handed>⟧.says self.old.config.now
+            parts.old)
+            (⟦<Parts<A, H, G, R> as Handed>⟧.denies parts.old parts.new)
+            (⟦<Parts<A, H, G, R> as Asked>⟧.distrusts parts.old parts.new) self.old incoming.entry.seqn
+            incoming.entry.payload.now e) }
         ensures appends { OnErr result (Appends self.old self.new) }
         ensures takes { result ≡ Ok Delivers → ⊥ }
         ensures opened { OnOk result (IsOpen self.new) }
@@ -487,21 +495,18 @@ impl<'c> Session<'c> {
         ensures held { self.new.held ≡ self.old.held }
         ensures unheard { OnOk result (IsUnheard self.new) }
         ensures fixed { IsFixed self.old self.new }
-        ensures agreement { KeepsAgreement A.lawful A.obliging A.offered A.refusals A.calls parts.old.agreement parts.new.agreement }
-        ensures hosts { KeepsHosts H.lawful H.obliging H.accepts H.trusts H.refused_sign H.refused_verify H.refused_check H.calls parts.old.hosts parts.new.hosts }
-        ensures groups { KeepsGroups G.lawful G.obliging G.group G.refusals G.calls parts.old.groups parts.new.groups }
-        ensures asks { OnOk result (MoveAsks kex.entry.setting.side kex.entry.stage (stands_of self.new.finished.items self.new.kex)
-            (counted_by A.calls H.calls G.calls parts.old.agreement parts.old.hosts parts.old.groups) (counted_by A.calls H.calls G.calls parts.new.agreement parts.new.hosts parts.new.groups)) }
+        ensures keeps { ⟦<Parts<A, H, G, R> as Handed>⟧.keeps parts.old parts.new }
+        ensures asks { OnOk result (MoveAsks kex.entry.setting.side kex.entry.stage
+            (stands_of self.new.finished.items self.new.kex)
+            (⟦<Parts<A, H, G, R> as Asked>⟧.calls parts.old) (⟦<Parts<A, H, G, R> as Asked>⟧.calls parts.new)) }
         ensures asked { OnErr result (AsksForMessage kex.entry.setting.side (Inside kex.entry.stage)
-            (counted_by A.calls H.calls G.calls parts.old.agreement parts.old.hosts parts.old.groups) (counted_by A.calls H.calls G.calls parts.new.agreement parts.new.hosts parts.new.groups)) }
-        ensures moves { IfOk result (λ h. Moves (says_of A.lawful A.offered A.client_makes A.server_makes A.agrees
-            H.lawful H.obliging H.accepts H.trusts H.makes G.lawful G.group kex.entry.setting.config
-            parts.old.agreement parts.old.hosts parts.old.groups) self.old kex.entry incoming.entry h self.new) }
-        ensures refuses { IfErr result (λ e. RefusesMove (says_of A.lawful A.offered A.client_makes A.server_makes A.agrees H.lawful H.obliging H.accepts H.trusts H.makes
-            G.lawful G.group kex.entry.setting.config parts.old.agreement parts.old.hosts parts.old.groups)
-            (denies_of A.obliging A.offered A.client_makes A.server_makes A.refusals H.obliging H.accepts
-            H.refused_sign H.refused_verify G.obliging G.refusals parts.old.agreement parts.new.agreement parts.old.hosts parts.new.hosts parts.old.groups parts.new.groups)
-            (untrusted_of H.obliging H.trusts H.refused_check parts.old.hosts parts.new.hosts) kex.entry incoming.entry e) }
+            (⟦<Parts<A, H, G, R> as Asked>⟧.calls parts.old) (⟦<Parts<A, H, G, R> as Asked>⟧.calls parts.new)) }
+        ensures moves { IfOk result (λ h. Moves (⟦<Parts<A, H, G, R> as Handed>⟧.says kex.entry.setting.config
+            parts.old) self.old kex.entry incoming.entry h self.new) }
+        ensures refuses { IfErr result (λ e. RefusesMove (⟦<Parts<A, H, G, R> as Handed>⟧.says kex.entry.setting.config
+            parts.old)
+            (⟦<Parts<A, H, G, R> as Handed>⟧.denies parts.old parts.new)
+            (⟦<Parts<A, H, G, R> as Asked>⟧.distrusts parts.old parts.new) kex.entry incoming.entry e) }
         ensures appends { OnErr result (Appends self.old self.new) }
     {
         match kex.step(parts, incoming, &mut self.writer)? {
@@ -532,11 +537,13 @@ impl<'c> Session<'c> {
         ensures held { self.new.held ≡ self.old.held }
         ensures unheard { OnOk result (IsUnheard self.new) }
         ensures fixed { IsFixed self.old self.new }
-        ensures keeps { KeepsHosts H.lawful H.obliging H.accepts H.trusts H.refused_sign H.refused_verify H.refused_check H.calls hosts.old hosts.new }
+        ensures keeps { KeepsHosts H.lawful H.obliging H.accepts H.trusts H.refused_sign H.refused_verify
+            H.refused_check H.calls hosts.old hosts.new }
         ensures calls { H.calls hosts.new ≤ H.calls hosts.old + asks_trust host }
         ensures trusted { OnOk result (IfSome host (λ h. H.trusts hosts.old h ≡ true)) }
         ensures installs { IfOk result (λ h. Installs self.old newkeys h self.new) }
-        ensures refused { IfErr result (λ e. (e ≡ Memory) ⊎ ((e ≡ UnknownKey) × IsDistrusted (untrusted_of H.obliging H.trusts H.refused_check hosts.old hosts.new) host)) }
+        ensures refused { IfErr result (λ e. (e ≡ Memory) ⊎ ((e ≡ UnknownKey) × IsDistrusted
+            (untrusted_of H.obliging H.trusts H.refused_check hosts.old hosts.new) host)) }
         ensures rests { OnErr result (IsAsBefore self.old self.new) }
     {
         check_host(self.alloc, hosts, host)?;
@@ -591,7 +598,8 @@ fn passes_others(side: Side) -> bool
 
 /// The place of the packet whose number plus one is given, without a dropped guess before it.
 fn order_place(seqn: u32, dropped: bool) -> usize
-    ensures { (number : ℕ) → number < 2 ^ 32 → seqn ≡ next_number number → result ≡ number - (if dropped then 1 else 0) }
+    ensures { (number : ℕ) → number < 2 ^ 32 → seqn ≡ next_number number → result ≡ number -
+        (if dropped then 1 else 0) }
 {
     let number = seqn.wrapping_sub(1) as usize;
     if dropped {
@@ -604,7 +612,8 @@ fn order_place(seqn: u32, dropped: bool) -> usize
 /// A message of the other side in its place. StrictKeyExchangeViolation.
 fn check_place(side: Side, message_type: u8, place: usize) -> Result<(), Error>
     ensures ok { OnOk result (is_violation (other_side side) message_type place ≡ false) }
-    ensures err { IfErr result (λ e. (is_violation (other_side side) message_type place ≡ true) × (e ≡ StrictKeyExchangeViolation message_type place)) }
+    ensures err { IfErr result (λ e. (is_violation (other_side side) message_type place ≡ true)
+        × (e ≡ StrictKeyExchangeViolation message_type place)) }
 {
     match side {
         Side::Client => validate_server_msg_strict_kex(message_type, place),
@@ -619,10 +628,12 @@ fn check_host<H: HostKeys>(
     hosts: &mut H,
     host: Option<ServerHost>,
 ) -> Result<(), Error>
-    ensures keeps { KeepsHosts H.lawful H.obliging H.accepts H.trusts H.refused_sign H.refused_verify H.refused_check H.calls hosts.old hosts.new }
+    ensures keeps { KeepsHosts H.lawful H.obliging H.accepts H.trusts H.refused_sign H.refused_verify H.refused_check
+        H.calls hosts.old hosts.new }
     ensures calls { H.calls hosts.new ≤ H.calls hosts.old + asks_trust host }
     ensures trusted { OnOk result (IfSome host (λ h. H.trusts hosts.old h ≡ true)) }
-    ensures refused { IfErr result (λ e. (e ≡ Memory) ⊎ ((e ≡ UnknownKey) × IsDistrusted (untrusted_of H.obliging H.trusts H.refused_check hosts.old hosts.new) host)) }
+    ensures refused { IfErr result (λ e. (e ≡ Memory) ⊎ ((e ≡ UnknownKey) × IsDistrusted
+        (untrusted_of H.obliging H.trusts H.refused_check hosts.old hosts.new) host)) }
 {
     let Some(host) = host else {
         return Ok(());

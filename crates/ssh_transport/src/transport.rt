@@ -3,10 +3,8 @@
 ghost use Rattle.std.specs.Borrow.{sem};
 ghost use Rattle.std.specs.Prelude.{◌≡◌, ◌⊎◌, ◌≤◌, ◌-◌, true, false, [], drop, take, length, not, IfErr, IfOk, IfSome, IsTrue, OnErr, OnOk, Ok, Err, Some};
 ghost use Rattle.std.specs.List.{slice_get};
-ghost use Rattle.ssh_kex.specs.Parts.{KeepsAgreement, KeepsGroups, KeepsHosts};
-ghost use Rattle.ssh_kex.specs.Stepping.{denies_of, says_of};
-ghost use Rattle.ssh_rules.specs.Asking.{AsksFew, AsksWithin, RefusesAsking, counted_by};
-ghost use Rattle.ssh_rules.specs.Refusing.{RefusesPiece, RefusesPieceAsking, untrusted_of};
+ghost use Rattle.ssh_rules.specs.Asking.{AsksFew, AsksWithin, RefusesAsking};
+ghost use Rattle.ssh_rules.specs.Refusing.{RefusesPiece, RefusesPieceAsking};
 ghost use Rattle.ssh_packet.specs.Stream.{message_type};
 ghost use Rattle.ssh_rules.specs.MessageTypes.{is_payload_type};
 ghost use Rattle.ssh_rules.specs.Valid.{config_fault, is_bad_size, is_good_payload};
@@ -16,14 +14,16 @@ ghost use Rattle.ssh_wire.specs.declared.side.Side.TheVariants.{Client as client
 
 use crate::connection::Connection;
 use rand_core::Rng;
-use ssh_kex::{Agreement, Config, FinishedExchange, GroupLookup, HostKeys, Parts};
+use ssh_kex::{Agreement, Config, FinishedExchange, GroupLookup, Handed, HostKeys, Parts};
+use ssh_rules::Asked;
 use ssh_wire::{Error, PayloadList, Side};
 use std::alloc::Global;
 use std::marker::Model;
 use std::mem;
 
-/// One side of a connection. What it sends is taken from `output`. What the other side sent is handed to `feed`, which queues
-/// the payloads that come; or it is kept by `take_input`, and `poll_payload` lends them one by one, without a copy.
+/// One side of a connection. What it sends is taken from `output`. What the other side sent is handed to `feed`, which
+/// queues the payloads that come; or it is kept by `take_input`, and `poll_payload` lends them one by one, without a
+/// copy.
 #[derive(Drop)]
 pub struct Transport<'c> {
     connection: Connection<'c>,
@@ -62,7 +62,8 @@ impl<'c> Transport<'c> {
     pub fn client(alloc: Global, config: &'c Config) -> Result<Transport<'c>, Error>
         ensures made { IfOk result (IsNew client_side config.now) }
         ensures fault { IfSome (config_fault client_side config.now) (λ f. result ≡ Err (InvalidConfig f)) }
-        ensures causes { IfErr result (λ e. (e ≡ Memory) ⊎ ((f : ConfigFault) × (config_fault client_side config.now ≡ Some f) × (e ≡ InvalidConfig f))) }
+        ensures causes { IfErr result (λ e. (e ≡ Memory) ⊎ ((f : ConfigFault)
+            × (config_fault client_side config.now ≡ Some f) × (e ≡ InvalidConfig f))) }
     {
         Ok(Transport {
             connection: Connection::new(alloc, Side::Client, config)?,
@@ -74,7 +75,8 @@ impl<'c> Transport<'c> {
     pub fn server(alloc: Global, config: &'c Config) -> Result<Transport<'c>, Error>
         ensures made { IfOk result (IsNew server_side config.now) }
         ensures fault { IfSome (config_fault server_side config.now) (λ f. result ≡ Err (InvalidConfig f)) }
-        ensures causes { IfErr result (λ e. (e ≡ Memory) ⊎ ((f : ConfigFault) × (config_fault server_side config.now ≡ Some f) × (e ≡ InvalidConfig f))) }
+        ensures causes { IfErr result (λ e. (e ≡ Memory) ⊎ ((f : ConfigFault)
+            × (config_fault server_side config.now ≡ Some f) × (e ≡ InvalidConfig f))) }
     {
         Ok(Transport {
             connection: Connection::new(alloc, Side::Server, config)?,
@@ -82,46 +84,46 @@ impl<'c> Transport<'c> {
         })
     }
 
-    /// Takes the next bytes that the other side sent, however they are cut: its version line, and then its packets, each as
-    /// soon as it is whole. Payloads are delivered, and the messages that are due are written. A refusal is the end of the
-    /// transport: each later `feed`, `submit` and `rekey` answers Disconnect, and what was delivered stays.
+    /// Takes the next bytes that the other side sent, however they are cut: its version line, and then its packets,
+    /// each as soon as it is whole. Payloads are delivered, and the messages that are due are written. A refusal is the
+    /// end of the transport: each later `feed`, `submit` and `rekey` answers Disconnect, and what was delivered stays.
     ///
     /// Disconnect after a refusal, and at a DISCONNECT; Version where what stands there is no version line (RFC 4253
-    /// section 4.2); PacketSize, PacketAuth, DecryptionError, IndexOutOfBounds as `PacketReader::next`; Inconsistent where a
-    /// message is out of place; StrictKeyExchangeViolation; KexInit, Kex, UnknownAlgo, NoCommonAlgo, SshEncoding, Signature,
-    /// WrongServerSig as the machine of the exchange; UnknownKey where the server's host isn't trusted; Memory.
+    /// section 4.2); PacketSize, PacketAuth, DecryptionError, IndexOutOfBounds as `PacketReader::next`; Inconsistent
+    /// where a message is out of place; StrictKeyExchangeViolation; KexInit, Kex, UnknownAlgo, NoCommonAlgo,
+    /// SshEncoding, Signature, WrongServerSig as the machine of the exchange; UnknownKey where the server's host isn't
+    /// trusted; Memory.
     pub fn feed<A: Agreement, H: HostKeys, G: GroupLookup, R: Rng>(
         &mut self,
         parts: &mut Parts<A, H, G, R>,
         piece: &[u8],
     ) -> Result<(), Error>
-        ensures dead { self.old.failed ≡ true → (result ≡ Err Disconnect) × (self.new ≡ self.old) × (parts.new ≡ parts.old) }
+        ensures dead { self.old.failed ≡ true → (result ≡ Err Disconnect) × (self.new ≡ self.old)
+            × (parts.new ≡ parts.old) }
         ensures stays { (self.new.side ≡ self.old.side) × (self.new.config ≡ self.old.config) }
         ensures lives { self.old.failed ≡ false → OnOk result (self.new.failed ≡ false) }
         ensures ends { self.old.failed ≡ false → OnErr result ((self.new.failed ≡ true) × (unfinished self.new ≡ [])) }
-        ensures fed { OnOk result (TakesInput (says_of A.lawful A.offered A.client_makes A.server_makes A.agrees H.lawful H.obliging H.accepts H.trusts H.makes G.lawful G.group self.old.config parts.old.agreement parts.old.hosts parts.old.groups) self.old piece.now self.new) }
-        ensures refused { self.old.failed ≡ false → IfErr result (λ e. RefusesPiece (says_of A.lawful A.offered A.client_makes A.server_makes A.agrees
-            H.lawful H.obliging H.accepts H.trusts H.makes G.lawful G.group self.old.config parts.old.agreement parts.old.hosts parts.old.groups)
-            (denies_of A.obliging A.offered A.client_makes A.server_makes A.refusals H.obliging H.accepts H.refused_sign H.refused_verify
-            G.obliging G.refusals parts.old.agreement parts.new.agreement parts.old.hosts parts.new.hosts parts.old.groups parts.new.groups)
-            (untrusted_of H.obliging H.trusts H.refused_check parts.old.hosts parts.new.hosts) self.old piece.now e self.new) }
-        ensures agreement { KeepsAgreement A.lawful A.obliging A.offered A.refusals A.calls parts.old.agreement parts.new.agreement }
-        ensures hosts { KeepsHosts H.lawful H.obliging H.accepts H.trusts H.refused_sign H.refused_verify H.refused_check H.calls parts.old.hosts parts.new.hosts }
-        ensures groups { KeepsGroups G.lawful G.obliging G.group G.refusals G.calls parts.old.groups parts.new.groups }
+        ensures fed { OnOk result (TakesInput (⟦<Parts<A, H, G, R> as Handed>⟧.says self.old.config parts.old) self.old
+            piece.now self.new) }
+        ensures refused { self.old.failed ≡ false → IfErr result
+            (λ e. RefusesPiece (⟦<Parts<A, H, G, R> as Handed>⟧.says self.old.config parts.old)
+            (⟦<Parts<A, H, G, R> as Handed>⟧.denies parts.old parts.new)
+            (⟦<Parts<A, H, G, R> as Asked>⟧.distrusts parts.old parts.new) self.old piece.now e self.new) }
+        ensures keeps { ⟦<Parts<A, H, G, R> as Handed>⟧.keeps parts.old parts.new }
         ensures calls { OnOk result (AsksWithin self.old.side self.old.state self.new.state
-            (counted_by A.calls H.calls G.calls parts.old.agreement parts.old.hosts parts.old.groups) (counted_by A.calls H.calls G.calls parts.new.agreement parts.new.hosts parts.new.groups)) }
-        ensures few { OnOk result (AsksFew (says_of A.lawful A.offered A.client_makes A.server_makes A.agrees
-            H.lawful H.obliging H.accepts H.trusts H.makes G.lawful G.group self.old.config parts.old.agreement parts.old.hosts parts.old.groups)
-            self.old self.new (counted_by A.calls H.calls G.calls parts.old.agreement parts.old.hosts parts.old.groups) (counted_by A.calls H.calls G.calls parts.new.agreement parts.new.hosts parts.new.groups)) }
-        ensures calls_refused { self.old.failed ≡ false → OnErr result (RefusesAsking (says_of A.lawful A.offered A.client_makes A.server_makes A.agrees
-            H.lawful H.obliging H.accepts H.trusts H.makes G.lawful G.group self.old.config parts.old.agreement parts.old.hosts parts.old.groups)
-            self.old piece.now self.new (counted_by A.calls H.calls G.calls parts.old.agreement parts.old.hosts parts.old.groups) (counted_by A.calls H.calls G.calls parts.new.agreement parts.new.hosts parts.new.groups)) }
-        ensures refused_few { self.old.failed ≡ false → IfErr result (λ e. RefusesPieceAsking (says_of A.lawful A.offered A.client_makes A.server_makes A.agrees
-            H.lawful H.obliging H.accepts H.trusts H.makes G.lawful G.group self.old.config parts.old.agreement parts.old.hosts parts.old.groups)
-            (denies_of A.obliging A.offered A.client_makes A.server_makes A.refusals H.obliging H.accepts H.refused_sign H.refused_verify
-            G.obliging G.refusals parts.old.agreement parts.new.agreement parts.old.hosts parts.new.hosts parts.old.groups parts.new.groups)
-            (untrusted_of H.obliging H.trusts H.refused_check parts.old.hosts parts.new.hosts) self.old piece.now e self.new
-            (counted_by A.calls H.calls G.calls parts.old.agreement parts.old.hosts parts.old.groups) (counted_by A.calls H.calls G.calls parts.new.agreement parts.new.hosts parts.new.groups)) }
+            (⟦<Parts<A, H, G, R> as Asked>⟧.calls parts.old) (⟦<Parts<A, H, G, R> as Asked>⟧.calls parts.new)) }
+        ensures few { OnOk result (AsksFew (⟦<Parts<A, H, G, R> as Handed>⟧.says self.old.config parts.old)
+            self.old self.new (⟦<Parts<A, H, G, R> as Asked>⟧.calls parts.old)
+            (⟦<Parts<A, H, G, R> as Asked>⟧.calls parts.new)) }
+        ensures calls_refused { self.old.failed ≡ false → OnErr result
+            (RefusesAsking (⟦<Parts<A, H, G, R> as Handed>⟧.says self.old.config parts.old)
+            self.old piece.now self.new (⟦<Parts<A, H, G, R> as Asked>⟧.calls parts.old)
+            (⟦<Parts<A, H, G, R> as Asked>⟧.calls parts.new)) }
+        ensures refused_few { self.old.failed ≡ false → IfErr result
+            (λ e. RefusesPieceAsking (⟦<Parts<A, H, G, R> as Handed>⟧.says self.old.config parts.old)
+            (⟦<Parts<A, H, G, R> as Handed>⟧.denies parts.old parts.new)
+            (⟦<Parts<A, H, G, R> as Asked>⟧.distrusts parts.old parts.new) self.old piece.now e self.new
+            (⟦<Parts<A, H, G, R> as Asked>⟧.calls parts.old) (⟦<Parts<A, H, G, R> as Asked>⟧.calls parts.new)) }
     {
         self.connection.feed(parts, piece)
     }
@@ -141,27 +143,26 @@ impl<'c> Transport<'c> {
         Ok(self.connection.keep(piece))
     }
 
-    /// Handles what was kept of the input, as `feed` does, up to and with the first packet whose payload is handed up, and
-    /// lends that payload: it is not queued for `take_delivered`. None where all that is whole was handled and nothing of it
-    /// is handed up. It is refused as `feed` is, which is the end of the transport; the refusal is lent too.
+    /// Handles what was kept of the input, as `feed` does, up to and with the first packet whose payload is handed up,
+    /// and lends that payload: it is not queued for `take_delivered`. None where all that is whole was handled and
+    /// nothing of it is handed up. It is refused as `feed` is, which is the end of the transport; the refusal is lent
+    /// too.
     ///
-    /// Memory only where this call read the end of the version line, handled a message of an exchange, or was to begin an
-    /// exchange at a limit; where that limit was reached by a payload, the payload is not lent.
+    /// Memory only where this call read the end of the version line, handled a message of an exchange, or was to begin
+    /// an exchange at a limit; where that limit was reached by a payload, the payload is not lent.
     pub fn poll_payload<A: Agreement, H: HostKeys, G: GroupLookup, R: Rng>(
         &mut self,
         parts: &mut Parts<A, H, G, R>,
     ) -> Result<Option<&[u8]>, &Error>
-        ensures* after_borrow { sem 𝓛 (LendsPoll (says_of A.lawful A.offered A.client_makes A.server_makes A.agrees H.lawful H.obliging H.accepts H.trusts H.makes G.lawful G.group self.entry.now.config parts.old.agreement parts.old.hosts parts.old.groups)
-            (denies_of A.obliging A.offered A.client_makes A.server_makes A.refusals H.obliging H.accepts H.refused_sign H.refused_verify
-            G.obliging G.refusals parts.old.agreement parts.new.agreement parts.old.hosts parts.new.hosts parts.old.groups parts.new.groups)
-            (untrusted_of H.obliging H.trusts H.refused_check parts.old.hosts parts.new.hosts)
-            (counted_by A.calls H.calls G.calls parts.old.agreement parts.old.hosts parts.old.groups) (counted_by A.calls H.calls G.calls parts.new.agreement parts.new.hosts parts.new.groups)
+        ensures* after_borrow { sem 𝓛 (LendsPoll (⟦<Parts<A, H, G, R> as Handed>⟧.says self.entry.now.config parts.old)
+            (⟦<Parts<A, H, G, R> as Handed>⟧.denies parts.old parts.new)
+            (⟦<Parts<A, H, G, R> as Asked>⟧.distrusts parts.old parts.new)
+            (⟦<Parts<A, H, G, R> as Asked>⟧.calls parts.old) (⟦<Parts<A, H, G, R> as Asked>⟧.calls parts.new)
             self.entry result) }
         ensures dead { self.old.failed ≡ true → IsRefusedWith result Disconnect × (parts.new ≡ parts.old) }
-        ensures memory { self.old.failed ≡ false → IsRefusedWith result Memory → MayWant (says_of A.lawful A.offered A.client_makes A.server_makes A.agrees H.lawful H.obliging H.accepts H.trusts H.makes G.lawful G.group self.old.config parts.old.agreement parts.old.hosts parts.old.groups) self.old }
-        ensures agreement { KeepsAgreement A.lawful A.obliging A.offered A.refusals A.calls parts.old.agreement parts.new.agreement }
-        ensures hosts { KeepsHosts H.lawful H.obliging H.accepts H.trusts H.refused_sign H.refused_verify H.refused_check H.calls parts.old.hosts parts.new.hosts }
-        ensures groups { KeepsGroups G.lawful G.obliging G.group G.refusals G.calls parts.old.groups parts.new.groups }
+        ensures memory { self.old.failed ≡ false → IsRefusedWith result Memory → MayWant
+            (⟦<Parts<A, H, G, R> as Handed>⟧.says self.old.config parts.old) self.old }
+        ensures keeps { ⟦<Parts<A, H, G, R> as Handed>⟧.keeps parts.old parts.new }
     {
         match self.connection.poll(parts) {
             Ok(true) => Ok(Some(self.connection.reader.handed())),
@@ -173,42 +174,48 @@ impl<'c> Transport<'c> {
         }
     }
 
-    /// Seals a payload outside an exchange, and holds it inside one until that has ended (RFC 4253 section 7.1). It has 1 to
-    /// 262157 bytes, and its type is 5 to 7 or at least 50.
+    /// Seals a payload outside an exchange, and holds it inside one until that has ended (RFC 4253 section 7.1). It has
+    /// 1 to 262157 bytes, and its type is 5 to 7 or at least 50.
     ///
-    /// Disconnect after a refusal; PacketSize with another number of bytes; Inconsistent with another type; these change
-    /// nothing. Memory, which is the end of the transport.
+    /// Disconnect after a refusal; PacketSize with another number of bytes; Inconsistent with another type; these
+    /// change nothing. Memory, which is the end of the transport.
     pub fn submit<A: Agreement, H: HostKeys, G: GroupLookup, R: Rng>(
         &mut self,
         parts: &mut Parts<A, H, G, R>,
         payload: &[u8],
     ) -> Result<(), Error>
-        ensures dead { self.old.failed ≡ true → (result ≡ Err Disconnect) × (self.new ≡ self.old) × (parts.new ≡ parts.old) }
+        ensures dead { self.old.failed ≡ true → (result ≡ Err Disconnect) × (self.new ≡ self.old)
+            × (parts.new ≡ parts.old) }
         ensures size { self.old.failed ≡ false → IsTrue (is_bad_size (length payload.now))
             → (result ≡ Err (PacketSize (length payload.now))) × (self.new ≡ self.old) × (parts.new ≡ parts.old) }
         ensures inconsistent { self.old.failed ≡ false → is_bad_size (length payload.now) ≡ false
             → is_payload_type (message_type payload.now) ≡ false
             → (result ≡ Err Inconsistent) × (self.new ≡ self.old) × (parts.new ≡ parts.old) }
-        ensures sent { OnOk result (Submitted (says_of A.lawful A.offered A.client_makes A.server_makes A.agrees H.lawful H.obliging H.accepts H.trusts H.makes G.lawful G.group self.old.config parts.old.agreement parts.old.hosts parts.old.groups) self.old payload.now self.new) }
+        ensures sent { OnOk result (Submitted (⟦<Parts<A, H, G, R> as Handed>⟧.says self.old.config parts.old) self.old
+            payload.now self.new) }
         ensures memory { self.old.failed ≡ false → is_good_payload payload.now ≡ true
             → OnErr result ((result ≡ Err Memory) × Breaks self.old self.new) }
-        ensures parts { (parts.new.agreement ≡ parts.old.agreement) × (parts.new.hosts ≡ parts.old.hosts) × (parts.new.groups ≡ parts.old.groups) }
+        ensures parts { (parts.new.agreement ≡ parts.old.agreement) × (parts.new.hosts ≡ parts.old.hosts)
+            × (parts.new.groups ≡ parts.old.groups) }
     {
         self.connection.submit(parts, payload)
     }
 
-    /// Begins an exchange outside one; inside one nothing changes. Disconnect after a refusal; Memory, which is the end of
-    /// the transport.
+    /// Begins an exchange outside one; inside one nothing changes. Disconnect after a refusal; Memory, which is the end
+    /// of the transport.
     pub fn rekey<A: Agreement, H: HostKeys, G: GroupLookup, R: Rng>(
         &mut self,
         parts: &mut Parts<A, H, G, R>,
     ) -> Result<(), Error>
-        ensures dead { self.old.failed ≡ true → (result ≡ Err Disconnect) × (self.new ≡ self.old) × (parts.new ≡ parts.old) }
-        ensures begun { OnOk result (Rekeyed (says_of A.lawful A.offered A.client_makes A.server_makes A.agrees H.lawful H.obliging H.accepts H.trusts H.makes G.lawful G.group self.old.config parts.old.agreement parts.old.hosts parts.old.groups) self.old self.new) }
+        ensures dead { self.old.failed ≡ true → (result ≡ Err Disconnect) × (self.new ≡ self.old)
+            × (parts.new ≡ parts.old) }
+        ensures begun { OnOk result (Rekeyed (⟦<Parts<A, H, G, R> as Handed>⟧.says self.old.config parts.old) self.old
+            self.new) }
         ensures inside { self.old.failed ≡ false → is_outside self.old.state.stands ≡ false
             → (result ≡ Ok tt) × (self.new ≡ self.old) × (parts.new ≡ parts.old) }
         ensures memory { self.old.failed ≡ false → OnErr result ((result ≡ Err Memory) × Breaks self.old self.new) }
-        ensures parts { (parts.new.agreement ≡ parts.old.agreement) × (parts.new.hosts ≡ parts.old.hosts) × (parts.new.groups ≡ parts.old.groups) }
+        ensures parts { (parts.new.agreement ≡ parts.old.agreement) × (parts.new.hosts ≡ parts.old.hosts)
+            × (parts.new.groups ≡ parts.old.groups) }
     {
         self.connection.rekey(parts)
     }

@@ -21,8 +21,7 @@ pub fn read_stream<A: Agreement, H: HostKeys, G: GroupLookup, R: Rng>(
     parts: &mut Parts<A, H, G, R>,
     bytes: &[u8],
 ) -> Result<PayloadList, Error>
-    ensures read { IfOk result (λ lent. FedLent (says_of A.lawful A.offered A.client_makes A.server_makes A.agrees H.lawful H.obliging H.accepts H.trusts
-        H.makes G.lawful G.group transport.old.config parts.old.agreement parts.old.hosts parts.old.groups) transport.old bytes.now lent transport.new) }
+    ensures read { IfOk result (λ lent. FedLent (⟦<Parts<A, H, G, R> as Handed>⟧.says transport.old.config parts.old) transport.old bytes.now lent transport.new) }
     ensures causes { IfErr result (λ e. (e ≡ Memory) ⊎ ((e ≡ Disconnect) × (transport.new.failed ≡ true))) }
 {
     let mut lent = Vec::new(alloc);
@@ -43,13 +42,10 @@ fn read_kept<A: Agreement, H: HostKeys, G: GroupLookup, R: Rng>(
     lent: &mut Vec<Payload>,
 ) -> Result<(), Error>
     ensures read { OnOk result ((more : List (List ℕ)) × (lent.new.items ≡ lent.old.items ++ more)
-        × FedLent (says_of A.lawful A.offered A.client_makes A.server_makes A.agrees H.lawful H.obliging H.accepts H.trusts
-        H.makes G.lawful G.group transport.old.config parts.old.agreement parts.old.hosts parts.old.groups) transport.old [] more transport.new) }
+        × FedLent (⟦<Parts<A, H, G, R> as Handed>⟧.says transport.old.config parts.old) transport.old [] more transport.new) }
     ensures causes { IfErr result (λ e. (e ≡ Memory) ⊎ ((e ≡ Disconnect) × (transport.new.failed ≡ true))) }
     ensures config { transport.new.config ≡ transport.old.config }
-    ensures agreement { KeepsAgreement A.lawful A.obliging A.offered A.refusals A.calls parts.old.agreement parts.new.agreement }
-    ensures hosts { KeepsHosts H.lawful H.obliging H.accepts H.trusts H.refused_sign H.refused_verify H.refused_check H.calls parts.old.hosts parts.new.hosts }
-    ensures groups { KeepsGroups G.lawful G.obliging G.group G.refusals G.calls parts.old.groups parts.new.groups }
+    ensures keeps { ⟦<Parts<A, H, G, R> as Handed>⟧.keeps parts.old parts.new }
 {
     'payloads: loop {
         match read_payload(alloc, transport, parts)? {
@@ -65,13 +61,10 @@ fn read_payload<A: Agreement, H: HostKeys, G: GroupLookup, R: Rng>(
     transport: &mut Transport<'_>,
     parts: &mut Parts<A, H, G, R>,
 ) -> Result<Option<Payload>, Error>
-    ensures polled { IfOk result (λ lent. Polls (says_of A.lawful A.offered A.client_makes A.server_makes A.agrees H.lawful H.obliging H.accepts H.trusts
-        H.makes G.lawful G.group transport.old.config parts.old.agreement parts.old.hosts parts.old.groups) transport.old lent transport.new) }
+    ensures polled { IfOk result (λ lent. Polls (⟦<Parts<A, H, G, R> as Handed>⟧.says transport.old.config parts.old) transport.old lent transport.new) }
     ensures causes { IfErr result (λ e. (e ≡ Memory) ⊎ ((e ≡ Disconnect) × (transport.new.failed ≡ true))) }
     ensures config { transport.new.config ≡ transport.old.config }
-    ensures agreement { KeepsAgreement A.lawful A.obliging A.offered A.refusals A.calls parts.old.agreement parts.new.agreement }
-    ensures hosts { KeepsHosts H.lawful H.obliging H.accepts H.trusts H.refused_sign H.refused_verify H.refused_check H.calls parts.old.hosts parts.new.hosts }
-    ensures groups { KeepsGroups G.lawful G.obliging G.group G.refusals G.calls parts.old.groups parts.new.groups }
+    ensures keeps { ⟦<Parts<A, H, G, R> as Handed>⟧.keeps parts.old parts.new }
 {
     match transport.poll_payload(parts) {
         Ok(Some(payload)) => Ok(Some(Payload::new(Vec::from_slice(alloc, payload)?))),

@@ -18,12 +18,12 @@ loop-step-preserved g c = record {
       (c.in_ok-push-2.ensures.items ∙ ap (λ m. c.loop-step.marks.items ++ m ∷ []) c.mark-in-loop-step.ensures);
   asks_client = side_join _ _ _ _ _ _ c.loop-step.invariant.asks_client c.in_ok-step.ensures.asks_client;
   asks_server = side_join _ _ _ _ _ _ c.loop-step.invariant.asks_server c.in_ok-step.ensures.asks_server;
-  client_agreement = agreement_after _ _ _ _ _ _ _ _ c.loop-step.invariant.client_agreement c.step.ensures.client_agreement;
-  client_hosts = hosts_after _ _ _ _ _ _ _ _ _ _ _ c.loop-step.invariant.client_hosts c.step.ensures.client_hosts;
-  client_groups = groups_after _ _ _ _ _ _ _ _ c.loop-step.invariant.client_groups c.step.ensures.client_groups;
-  server_agreement = agreement_after _ _ _ _ _ _ _ _ c.loop-step.invariant.server_agreement c.step.ensures.server_agreement;
-  server_hosts = hosts_after _ _ _ _ _ _ _ _ _ _ _ c.loop-step.invariant.server_hosts c.step.ensures.server_hosts;
-  server_groups = groups_after _ _ _ _ _ _ _ _ c.loop-step.invariant.server_groups c.step.ensures.server_groups;
+  client_agreement = agreement_after _ _ _ _ _ _ _ _ c.loop-step.invariant.client_agreement c.step.ensures.client_keeps.agreement;
+  client_hosts = hosts_after _ _ _ _ _ _ _ _ _ _ _ c.loop-step.invariant.client_hosts c.step.ensures.client_keeps.hosts;
+  client_groups = groups_after _ _ _ _ _ _ _ _ c.loop-step.invariant.client_groups c.step.ensures.client_keeps.groups;
+  server_agreement = agreement_after _ _ _ _ _ _ _ _ c.loop-step.invariant.server_agreement c.step.ensures.server_keeps.agreement;
+  server_hosts = hosts_after _ _ _ _ _ _ _ _ _ _ _ c.loop-step.invariant.server_hosts c.step.ensures.server_keeps.hosts;
+  server_groups = groups_after _ _ _ _ _ _ _ _ c.loop-step.invariant.server_groups c.step.ensures.server_keeps.groups;
 }
 
 pub returns-in_err-step-clause-refused : goal.returns-in_err-step-clause-refused

@@ -12,12 +12,12 @@ loop-self-preserved g c = record {
   turns = turned_more _ _ _ _ _ _ _ _ _ (let a = c.loop-self.invariant.room in omega (arith, a)) (later_weaker _ _ _ _ _ _ _ _ _ g.H.HostKeys.makes _ _ _ _ _ _ _ _ _ _ _ _ _ _ _ _ _ _ _ _ c.loop-self.invariant.turns.configs.of_client c.loop-self.invariant.client_agreement c.loop-self.invariant.client_hosts c.loop-self.invariant.client_groups) (later_weaker _ _ _ _ _ _ _ _ _ g.H.HostKeys.makes _ _ _ _ _ _ _ _ _ _ _ _ _ _ _ _ _ _ _ _ c.loop-self.invariant.turns.configs.of_server c.loop-self.invariant.server_agreement c.loop-self.invariant.server_hosts c.loop-self.invariant.server_groups) c.loop-self.invariant.turns (c.waits.ensures.waiting c.loop-self-test.true) c.in_ok-turn.ensures.turns;
   asks_client = side_join _ _ _ _ _ _ c.loop-self.invariant.asks_client c.in_ok-turn.ensures.asks_client;
   asks_server = side_join _ _ _ _ _ _ c.loop-self.invariant.asks_server c.in_ok-turn.ensures.asks_server;
-  client_agreement = agreement_after _ _ _ _ _ _ _ _ c.loop-self.invariant.client_agreement c.turn.ensures.client_agreement;
-  client_hosts = hosts_after _ _ _ _ _ _ _ _ _ _ _ c.loop-self.invariant.client_hosts c.turn.ensures.client_hosts;
-  client_groups = groups_after _ _ _ _ _ _ _ _ c.loop-self.invariant.client_groups c.turn.ensures.client_groups;
-  server_agreement = agreement_after _ _ _ _ _ _ _ _ c.loop-self.invariant.server_agreement c.turn.ensures.server_agreement;
-  server_hosts = hosts_after _ _ _ _ _ _ _ _ _ _ _ c.loop-self.invariant.server_hosts c.turn.ensures.server_hosts;
-  server_groups = groups_after _ _ _ _ _ _ _ _ c.loop-self.invariant.server_groups c.turn.ensures.server_groups;
+  client_agreement = agreement_after _ _ _ _ _ _ _ _ c.loop-self.invariant.client_agreement c.turn.ensures.client_keeps.agreement;
+  client_hosts = hosts_after _ _ _ _ _ _ _ _ _ _ _ c.loop-self.invariant.client_hosts c.turn.ensures.client_keeps.hosts;
+  client_groups = groups_after _ _ _ _ _ _ _ _ c.loop-self.invariant.client_groups c.turn.ensures.client_keeps.groups;
+  server_agreement = agreement_after _ _ _ _ _ _ _ _ c.loop-self.invariant.server_agreement c.turn.ensures.server_keeps.agreement;
+  server_hosts = hosts_after _ _ _ _ _ _ _ _ _ _ _ c.loop-self.invariant.server_hosts c.turn.ensures.server_keeps.hosts;
+  server_groups = groups_after _ _ _ _ _ _ _ _ c.loop-self.invariant.server_groups c.turn.ensures.server_keeps.groups;
 }
 
 pub returns-in_err-turn-clause-refused : goal.returns-in_err-turn-clause-refused

@@ -37,9 +37,9 @@ turns-preserved g c = record {
   fixed = (c.read_packets-in-turns.ensures.fixed.0 ∙ c.turns.invariant.fixed.0, c.read_packets-in-turns.ensures.fixed.1 ∙ c.turns.invariant.fixed.1);
   unfailed = c.read_packets-in-turns.ensures.unfailed ∙ c.turns.invariant.unfailed;
   asks = between_join c.args.self.now.session c.turns.self.session c.read_packets-in-turns.new.self.session _ _ _ c.turns.invariant.fixed.0 c.turns.invariant.asks c.in_ok-read_packets-2.ensures.asks;
-  agreement = agreement_after _ _ _ _ _ _ _ _ c.turns.invariant.agreement c.read_packets-in-turns.ensures.agreement;
-  hosts = hosts_after _ _ _ _ _ _ _ _ _ _ _ c.turns.invariant.hosts c.read_packets-in-turns.ensures.hosts;
-  groups = groups_after _ _ _ _ _ _ _ _ c.turns.invariant.groups c.read_packets-in-turns.ensures.groups;
+  agreement = agreement_after _ _ _ _ _ _ _ _ c.turns.invariant.agreement c.read_packets-in-turns.ensures.keeps.agreement;
+  hosts = hosts_after _ _ _ _ _ _ _ _ _ _ _ c.turns.invariant.hosts c.read_packets-in-turns.ensures.keeps.hosts;
+  groups = groups_after _ _ _ _ _ _ _ _ c.turns.invariant.groups c.read_packets-in-turns.ensures.keeps.groups;
 }
 
 pub returns-in_err-read_packets-2-clause-stops : goal.returns-in_err-read_packets-2-clause-stops

@@ -38,9 +38,9 @@ packets-preserved g c = record {
   fixed = (c.read_packet.ensures.fixed.0 ∙ c.packets.invariant.fixed.0, c.read_packet.ensures.fixed.1 ∙ c.packets.invariant.fixed.1);
   unfailed = c.read_packet.ensures.unfailed ∙ c.packets.invariant.unfailed;
   asks = between_join c.args.self.now.session c.packets.self.session c.read_packet.new.self.session _ _ _ c.packets.invariant.fixed.0 c.packets.invariant.asks c.in_ok-read_packet.ensures.asks;
-  agreement = agreement_after _ _ _ _ _ _ _ _ c.packets.invariant.agreement c.read_packet.ensures.agreement;
-  hosts = hosts_after _ _ _ _ _ _ _ _ _ _ _ c.packets.invariant.hosts c.read_packet.ensures.hosts;
-  groups = groups_after _ _ _ _ _ _ _ _ c.packets.invariant.groups c.read_packet.ensures.groups;
+  agreement = agreement_after _ _ _ _ _ _ _ _ c.packets.invariant.agreement c.read_packet.ensures.keeps.agreement;
+  hosts = hosts_after _ _ _ _ _ _ _ _ _ _ _ c.packets.invariant.hosts c.read_packet.ensures.keeps.hosts;
+  groups = groups_after _ _ _ _ _ _ _ _ c.packets.invariant.groups c.read_packet.ensures.keeps.groups;
 }
 
 pub returns-clause-reads : goal.returns-clause-reads

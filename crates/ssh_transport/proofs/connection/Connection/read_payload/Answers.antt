@@ -45,9 +45,9 @@ packets-preserved g c =
       fixed = (c.poll_packet.ensures.fixed.0 ∙ c.packets.invariant.fixed.0, c.poll_packet.ensures.fixed.1 ∙ c.packets.invariant.fixed.1);
       unfailed = c.poll_packet.ensures.unfailed ∙ c.packets.invariant.unfailed;
       asks = between_join c.args.self.now.session c.packets.self.session c.poll_packet.new.self.session _ _ _ c.packets.invariant.fixed.0 c.packets.invariant.asks c.in_ok-poll_packet.ensures.asks;
-      agreement = agreement_after _ _ _ _ _ _ _ _ c.packets.invariant.agreement c.poll_packet.ensures.agreement;
-      hosts = hosts_after _ _ _ _ _ _ _ _ _ _ _ c.packets.invariant.hosts c.poll_packet.ensures.hosts;
-      groups = groups_after _ _ _ _ _ _ _ _ c.packets.invariant.groups c.poll_packet.ensures.groups;
+      agreement = agreement_after _ _ _ _ _ _ _ _ c.packets.invariant.agreement c.poll_packet.ensures.keeps.agreement;
+      hosts = hosts_after _ _ _ _ _ _ _ _ _ _ _ c.packets.invariant.hosts c.poll_packet.ensures.keeps.hosts;
+      groups = groups_after _ _ _ _ _ _ _ _ c.packets.invariant.groups c.poll_packet.ensures.keeps.groups;
     }
 
 pub returns-in-Nothing-clause-reads : goal.returns-in-Nothing-clause-reads

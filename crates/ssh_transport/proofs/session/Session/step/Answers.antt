@@ -12,7 +12,7 @@ use Rattle.ssh_transport.proofs.session.Session.step.Goals as goal
 pub returns-in-Done-clause-refuses : goal.returns-in-Done-clause-refuses
 returns-in-Done-clause-refuses g c = if_err c.end_exchange.result _ _ (λ e h. moves_host _ _ _ c.args.kex c.args.incoming c.args.self.now.writer c.step.new.output c.in-Done.server_host c.in-Done.newkeys e
     (done_at _ c.args.kex c.args.incoming c.args.self.now.writer c.in_ok-kex.field-0 c.in-Done.server_host c.in-Done.newkeys c.step.new.output c.in-Done.is c.in_ok-kex.ensures.goes)
-    (distrusted_later _ _ c.in-Done.server_host e (λ (x : ServerHost) u. kept_untrusting g.H.HostKeys.lawful g.H.HostKeys.obliging g.H.HostKeys.accepts g.H.HostKeys.trusts g.H.HostKeys.refused_sign g.H.HostKeys.refused_verify g.H.HostKeys.refused_check g.H.HostKeys.calls _ _ _ x c.step.ensures.hosts u) h)) c.end_exchange.ensures.refused
+    (distrusted_later _ _ c.in-Done.server_host e (λ (x : ServerHost) u. kept_untrusting g.H.HostKeys.lawful g.H.HostKeys.obliging g.H.HostKeys.accepts g.H.HostKeys.trusts g.H.HostKeys.refused_sign g.H.HostKeys.refused_verify g.H.HostKeys.refused_check g.H.HostKeys.calls _ _ _ x c.step.ensures.keeps.hosts u) h)) c.end_exchange.ensures.refused
 
 pub returns-in-Done-clause-appends : goal.returns-in-Done-clause-appends
 returns-in-Done-clause-appends g c = appends_still c.args.self.now _ c.end_exchange.new.self c.end_exchange.result
@@ -22,18 +22,18 @@ returns-in-Done-clause-appends g c = appends_still c.args.self.now _ c.end_excha
 
 pub returns-after-reset_seqn-clause-asks : goal.returns-after-reset_seqn-clause-asks
 returns-after-reset_seqn-clause-asks g c = moves_on _ c.args.kex c.args.incoming c.args.self.now.writer c.step.new.output c.step.result c.in_ok-kex.field-0 c.in-NeedsReply.kex c.in-NeedsReply.reset_seqn _ _ c.in_ok-kex.was c.in-NeedsReply.is c.in_ok-kex.ensures.goes
-    (record { agreement_later = c.step.ensures.agreement.calls_later; hosts_later = c.step.ensures.hosts.calls_later; lookups_later = c.step.ensures.groups.calls_later; agreement = c.step.ensures.agreement_calls; hosts = c.step.ensures.hosts_calls; lookups = c.step.ensures.groups_calls })
+    (record { agreement_later = c.step.ensures.keeps.agreement.calls_later; hosts_later = c.step.ensures.keeps.hosts.calls_later; lookups_later = c.step.ensures.keeps.groups.calls_later; agreement = c.step.ensures.agreement_calls; hosts = c.step.ensures.hosts_calls; lookups = c.step.ensures.groups_calls })
 
 pub returns-in_err-kex-clause-asked : goal.returns-in_err-kex-clause-asked
 returns-in_err-kex-clause-asked g c = on_err _ _ (refused_asks _ _ c.step.result c.in_err-kex.field-0.0 _ _ c.in_err-kex.was
-    (record { agreement_later = c.step.ensures.agreement.calls_later; hosts_later = c.step.ensures.hosts.calls_later; lookups_later = c.step.ensures.groups.calls_later; agreement = c.step.ensures.agreement_calls; hosts = c.step.ensures.hosts_calls; lookups = c.step.ensures.groups_calls }))
+    (record { agreement_later = c.step.ensures.keeps.agreement.calls_later; hosts_later = c.step.ensures.keeps.hosts.calls_later; lookups_later = c.step.ensures.keeps.groups.calls_later; agreement = c.step.ensures.agreement_calls; hosts = c.step.ensures.hosts_calls; lookups = c.step.ensures.groups_calls }))
 
 pub returns-in-Done-clause-asks : goal.returns-in-Done-clause-asks
 returns-in-Done-clause-asks g c = ok_if c.end_exchange.result _ _ (λ h i. ended_asks (record c.args.self.now { writer = c.step.new.output }) c.end_exchange.new.self c.in-Done.newkeys h c.args.kex _ _ i (λ records. ends_on c.args.kex c.args.incoming c.args.self.now.writer c.step.new.output c.in-Done.server_host c.in-Done.newkeys records _ _
     (done_at _ c.args.kex c.args.incoming c.args.self.now.writer c.in_ok-kex.field-0 c.in-Done.server_host c.in-Done.newkeys c.step.new.output c.in-Done.is c.in_ok-kex.ensures.goes)
     (record {
       mid = counted_by g.A.Agreement.calls g.H.HostKeys.calls g.G.GroupLookup.calls c.step.new.parts.agreement c.step.new.parts.hosts c.step.new.parts.groups;
-      step = step_ended _ _ c.step.result c.in_ok-kex.field-0 c.in-Done.server_host c.in-Done.newkeys _ _ c.in_ok-kex.was c.in-Done.is (record { agreement_later = c.step.ensures.agreement.calls_later; hosts_later = c.step.ensures.hosts.calls_later; lookups_later = c.step.ensures.groups.calls_later; agreement = c.step.ensures.agreement_calls; hosts = c.step.ensures.hosts_calls; lookups = c.step.ensures.groups_calls });
+      step = step_ended _ _ c.step.result c.in_ok-kex.field-0 c.in-Done.server_host c.in-Done.newkeys _ _ c.in_ok-kex.was c.in-Done.is (record { agreement_later = c.step.ensures.keeps.agreement.calls_later; hosts_later = c.step.ensures.keeps.hosts.calls_later; lookups_later = c.step.ensures.keeps.groups.calls_later; agreement = c.step.ensures.agreement_calls; hosts = c.step.ensures.hosts_calls; lookups = c.step.ensures.groups_calls });
       agreement = refl;
       hosts_later = c.end_exchange.ensures.keeps.calls_later;
       hosts = c.end_exchange.ensures.calls;
@@ -45,7 +45,7 @@ returns-in-Done-clause-asked g c = on_err c.end_exchange.result _ (ends_refused 
     (done_at _ c.args.kex c.args.incoming c.args.self.now.writer c.in_ok-kex.field-0 c.in-Done.server_host c.in-Done.newkeys c.step.new.output c.in-Done.is c.in_ok-kex.ensures.goes)
     (record {
       mid = counted_by g.A.Agreement.calls g.H.HostKeys.calls g.G.GroupLookup.calls c.step.new.parts.agreement c.step.new.parts.hosts c.step.new.parts.groups;
-      step = step_ended _ _ c.step.result c.in_ok-kex.field-0 c.in-Done.server_host c.in-Done.newkeys _ _ c.in_ok-kex.was c.in-Done.is (record { agreement_later = c.step.ensures.agreement.calls_later; hosts_later = c.step.ensures.hosts.calls_later; lookups_later = c.step.ensures.groups.calls_later; agreement = c.step.ensures.agreement_calls; hosts = c.step.ensures.hosts_calls; lookups = c.step.ensures.groups_calls });
+      step = step_ended _ _ c.step.result c.in_ok-kex.field-0 c.in-Done.server_host c.in-Done.newkeys _ _ c.in_ok-kex.was c.in-Done.is (record { agreement_later = c.step.ensures.keeps.agreement.calls_later; hosts_later = c.step.ensures.keeps.hosts.calls_later; lookups_later = c.step.ensures.keeps.groups.calls_later; agreement = c.step.ensures.agreement_calls; hosts = c.step.ensures.hosts_calls; lookups = c.step.ensures.groups_calls });
       agreement = refl;
       hosts_later = c.end_exchange.ensures.keeps.calls_later;
       hosts = c.end_exchange.ensures.calls;

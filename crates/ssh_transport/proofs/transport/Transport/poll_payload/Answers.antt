@@ -22,9 +22,7 @@ returns-in-Ok-true g c = (
     after_borrow = tt;
     dead = λ f. absurd (let e : (let r : Result Bool Error = Ok true in r) ≡ Err Disconnect = sym (c.in-Ok-true.is ∙ ap (λ (b : Bool). Ok b) c.in-Ok-true.field-0-test) ∙ (c.poll.ensures.dead (ap (λ (t : Standing). t.failed) c.self.view_is ∙ f)).0 in cc);
     memory = λ f m. absurd m;
-    agreement = c.poll.ensures.agreement;
-    hosts = c.poll.ensures.hosts;
-    groups = c.poll.ensures.groups;
+    keeps = c.poll.ensures.keeps;
   },
 )
 
@@ -40,9 +38,7 @@ returns-in-Ok-false g c = (
     after_borrow = tt;
     dead = λ f. absurd (let e : (let r : Result Bool Error = Ok false in r) ≡ Err Disconnect = sym (c.in-Ok-false.is ∙ ap (λ (b : Bool). Ok b) c.in-Ok-false.field-0-test) ∙ (c.poll.ensures.dead (ap (λ (t : Standing). t.failed) c.self.view_is ∙ f)).0 in cc);
     memory = λ f m. absurd m;
-    agreement = c.poll.ensures.agreement;
-    hosts = c.poll.ensures.hosts;
-    groups = c.poll.ensures.groups;
+    keeps = c.poll.ensures.keeps;
   },
 )
 
@@ -58,8 +54,6 @@ returns-in-Err g c = (
     after_borrow = tt;
     dead = λ f. let d = c.poll.ensures.dead (ap (λ (t : Standing). t.failed) c.self.view_is ∙ f) in ((let e : (let r : Result Bool Error = Err c.in-Err.error in r) ≡ Err Disconnect = sym c.in-Err.is ∙ d.0 in cc), d.2);
     memory = subst (λ (t : Standing). t.failed ≡ false → c.in-Err.error ≡ Memory → MayWant (says_of g.A.Agreement.lawful g.A.Agreement.offered g.A.Agreement.client_makes g.A.Agreement.server_makes g.A.Agreement.agrees g.H.HostKeys.lawful g.H.HostKeys.obliging g.H.HostKeys.accepts g.H.HostKeys.trusts g.H.HostKeys.makes g.G.GroupLookup.lawful g.G.GroupLookup.group t.config c.args.parts.now.agreement c.args.parts.now.hosts c.args.parts.now.groups) t) c.self.view_is (λ f m. c.poll.ensures.wants f (c.in-Err.is ∙ ap (λ (x : Error). Err x) m));
-    agreement = c.poll.ensures.agreement;
-    hosts = c.poll.ensures.hosts;
-    groups = c.poll.ensures.groups;
+    keeps = c.poll.ensures.keeps;
   },
 )

@@ -1,0 +1,29 @@
+//! What the parts of a side are asked, and what of it they refuse, so that a clause names them once.
+
+ghost use Rattle.ssh_kex.specs.declared.exchange.ServerHost.{ServerHost};
+ghost use Rattle.ssh_rules.specs.Asking.{PartCalls, counted_by};
+ghost use Rattle.ssh_rules.specs.LinkCauses.{Rises, rises_of};
+ghost use Rattle.ssh_rules.specs.Refusing.{untrusted_of};
+
+use ssh_kex::{Agreement, GroupLookup, HostKeys, Parts};
+
+/// How often the parts of a side were asked, and what they counted.
+pub trait Asked {
+    // How often each was asked.
+    ghost calls: { Self → PartCalls };
+
+    // What it means that the host keys don't trust a host.
+    ghost distrusts: { Self → Self → ServerHost → Type 0 };
+
+    // Which of their counts of refusals rose.
+    ghost rises: { Self → Self → Rises };
+}
+
+impl<A: Agreement, H: HostKeys, G: GroupLookup, R> Asked for Parts<A, H, G, R> {
+    ghost calls = { λ p. counted_by A.calls H.calls G.calls p.agreement p.hosts p.groups };
+
+    ghost distrusts = { λ p q. untrusted_of H.obliging H.trusts H.refused_check p.hosts q.hosts };
+
+    ghost rises = { λ p q. rises_of A.refusals H.refused_sign H.refused_verify H.refused_check G.refusals
+        p.agreement q.agreement p.hosts q.hosts p.groups q.groups };
+}
