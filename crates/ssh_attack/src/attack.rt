@@ -2,10 +2,8 @@
 
 ghost use Rattle.std.specs.Prelude.{◌≡◌, ◌⊎◌, Err, IfErr, IfOk, IfSome, Some};
 ghost use Rattle.ssh_wire.specs.declared.error.ConfigFault.{ConfigFault};
-ghost use Rattle.ssh_kex.specs.Parts.{KeepsAgreement, KeepsGroups, KeepsHosts};
-ghost use Rattle.ssh_rules.specs.Asking.{counted_by};
-ghost use Rattle.ssh_rules.specs.AttackCauses.{IsAttackedRun, parts_of};
-ghost use Rattle.ssh_rules.specs.Attacking.{AttacksEnd, AttacksSide, attacked_report, tells_by};
+ghost use Rattle.ssh_rules.specs.AttackCauses.{IsAttackedRun};
+ghost use Rattle.ssh_rules.specs.Attacking.{AttacksEnd, AttacksSide, attacked_report};
 ghost use Rattle.ssh_rules.specs.Valid as valid;
 ghost use Rattle.ssh_rules.specs.Valid.{first_config_fault};
 ghost use Rattle.ssh_attack.specs.AttackEnds.{end_of, none_asked};
@@ -13,8 +11,10 @@ ghost use Rattle.ssh_wire.specs.declared.error.Error.TheVariants.{InvalidConfig,
 ghost use Rattle.ssh_wire.specs.declared.side.Side.TheVariants.{Client, Server};
 
 use crate::attack_end::AttackEnd;
+use crate::attacked::Attacked;
 use rand_core::Rng;
-use ssh_kex::{Agreement, Config, GroupLookup, HostKeys, Parts};
+use ssh_kex::{Agreement, Config, GroupLookup, Handed, HostKeys, Parts};
+use ssh_rules::Asked;
 use ssh_rules::link::{AnswerList, AttackReport, AttackStep};
 use ssh_rules::sizes_are_u32;
 use ssh_transport::{Transport, config_fault};
@@ -40,9 +40,15 @@ pub fn run_attacked<A: Agreement, H: HostKeys, G: GroupLookup, R: Rng>(
     server_parts: &mut Parts<A, H, G, R>,
     steps: &[AttackStep],
 ) -> Result<AttackReport, Error>
-    ensures configs { IfSome (first_config_fault (valid.config_fault Client client.now) (valid.config_fault Server server.now)) (λ f. result ≡ Err (InvalidConfig f)) }
-    ensures refused { IfErr result (λ e. (e ≡ Memory) ⊎ ((f : ConfigFault) × (first_config_fault (valid.config_fault Client client.now) (valid.config_fault Server server.now) ≡ Some f) × (e ≡ InvalidConfig f))) }
-    ensures run { IfOk result (IsAttackedRun (parts_of A.lawful A.obliging A.offered A.client_makes A.server_makes A.agrees A.refusals A.calls H.lawful H.obliging H.accepts H.trusts H.refused_sign H.refused_verify H.refused_check H.calls G.lawful G.obliging G.group G.refusals G.calls (record { client = client.now; server = server.now }) client_parts.old.agreement client_parts.new.agreement client_parts.old.hosts client_parts.new.hosts client_parts.old.groups client_parts.new.groups) (parts_of A.lawful A.obliging A.offered A.client_makes A.server_makes A.agrees A.refusals A.calls H.lawful H.obliging H.accepts H.trusts H.refused_sign H.refused_verify H.refused_check H.calls G.lawful G.obliging G.group G.refusals G.calls (record { client = client.now; server = server.now }) server_parts.old.agreement server_parts.new.agreement server_parts.old.hosts server_parts.new.hosts server_parts.old.groups server_parts.new.groups) client.now server.now steps.now) }
+    ensures configs { IfSome (first_config_fault (valid.config_fault Client client.now)
+        (valid.config_fault Server server.now)) (λ f. result ≡ Err (InvalidConfig f)) }
+    ensures refused { IfErr result (λ e. (e ≡ Memory) ⊎ ((f : ConfigFault)
+        × (first_config_fault (valid.config_fault Client client.now) (valid.config_fault Server server.now) ≡ Some f)
+        × (e ≡ InvalidConfig f))) }
+    ensures run { IfOk result (IsAttackedRun (⟦<Parts<A, H, G, R> as Attacked>⟧.does
+        (record { client = client.now; server = server.now }) client_parts.old client_parts.new)
+        (⟦<Parts<A, H, G, R> as Attacked>⟧.does (record { client = client.now; server = server.now }) server_parts.old
+        server_parts.new) client.now server.now steps.now) }
     ensures client_keeps { ⟦<Parts<A, H, G, R> as Handed>⟧.keeps client_parts.old client_parts.new }
     ensures server_keeps { ⟦<Parts<A, H, G, R> as Handed>⟧.keeps server_parts.old server_parts.new }
 {
@@ -66,7 +72,9 @@ impl<'c> Attack<'c> {
         alloc: Global,
         answers: Vec<Result<(), Error>>,
     ) -> Result<AttackReport, AllocError>
-        ensures { IfOk result (λ report. report ≡ record { client = attacked_report (end_of self.entry.client none_asked); server = attacked_report (end_of self.entry.server none_asked); answers = answers.items }) }
+        ensures { IfOk result (λ report. report ≡ record { client = attacked_report
+            (end_of self.entry.client none_asked); server = attacked_report (end_of self.entry.server none_asked);
+            answers = answers.items }) }
     {
         Ok(AttackReport {
             client: self.client.report(alloc)?,
@@ -84,8 +92,14 @@ impl<'c> Attack<'c> {
         steps: &[AttackStep],
     ) -> Result<Vec<Result<(), Error>>, Error>
         ensures err { IfErr result (λ e. e ≡ Memory) }
-        ensures client { IfOk result (λ answers. AttacksSide (tells_by A.lawful A.obliging A.offered A.client_makes A.server_makes A.agrees A.refusals A.calls H.lawful H.obliging H.accepts H.trusts H.makes H.refused_sign H.refused_verify H.refused_check H.calls G.lawful G.obliging G.group G.refusals G.calls self.old.client.transport.config client_parts.old.agreement client_parts.new.agreement client_parts.old.hosts client_parts.new.hosts client_parts.old.groups client_parts.new.groups) Client steps.now answers.items (end_of self.old.client (⟦<Parts<A, H, G, R> as Handed>⟧.calls client_parts.old)) (end_of self.new.client (⟦<Parts<A, H, G, R> as Handed>⟧.calls client_parts.new))) }
-        ensures server { IfOk result (λ answers. AttacksSide (tells_by A.lawful A.obliging A.offered A.client_makes A.server_makes A.agrees A.refusals A.calls H.lawful H.obliging H.accepts H.trusts H.makes H.refused_sign H.refused_verify H.refused_check H.calls G.lawful G.obliging G.group G.refusals G.calls self.old.server.transport.config server_parts.old.agreement server_parts.new.agreement server_parts.old.hosts server_parts.new.hosts server_parts.old.groups server_parts.new.groups) Server steps.now answers.items (end_of self.old.server (⟦<Parts<A, H, G, R> as Handed>⟧.calls server_parts.old)) (end_of self.new.server (⟦<Parts<A, H, G, R> as Handed>⟧.calls server_parts.new))) }
+        ensures client { IfOk result (λ answers. AttacksSide (⟦<Parts<A, H, G, R> as Attacked>⟧.tells
+            self.old.client.transport.config client_parts.old client_parts.new) Client steps.now answers.items
+            (end_of self.old.client (⟦<Parts<A, H, G, R> as Asked>⟧.calls client_parts.old))
+            (end_of self.new.client (⟦<Parts<A, H, G, R> as Asked>⟧.calls client_parts.new))) }
+        ensures server { IfOk result (λ answers. AttacksSide (⟦<Parts<A, H, G, R> as Attacked>⟧.tells
+            self.old.server.transport.config server_parts.old server_parts.new) Server steps.now answers.items
+            (end_of self.old.server (⟦<Parts<A, H, G, R> as Asked>⟧.calls server_parts.old))
+            (end_of self.new.server (⟦<Parts<A, H, G, R> as Asked>⟧.calls server_parts.new))) }
         ensures client_keeps { ⟦<Parts<A, H, G, R> as Handed>⟧.keeps client_parts.old client_parts.new }
         ensures server_keeps { ⟦<Parts<A, H, G, R> as Handed>⟧.keeps server_parts.old server_parts.new }
     {
@@ -107,8 +121,14 @@ impl<'c> Attack<'c> {
         server_parts: &mut Parts<A, H, G, R>,
         step: &AttackStep,
     ) -> Result<(), Error>
-        ensures client { (result ≡ Err Memory → ⊥) → AttacksEnd (tells_by A.lawful A.obliging A.offered A.client_makes A.server_makes A.agrees A.refusals A.calls H.lawful H.obliging H.accepts H.trusts H.makes H.refused_sign H.refused_verify H.refused_check H.calls G.lawful G.obliging G.group G.refusals G.calls self.old.client.transport.config client_parts.old.agreement client_parts.new.agreement client_parts.old.hosts client_parts.new.hosts client_parts.old.groups client_parts.new.groups) Client step.now result (end_of self.old.client (⟦<Parts<A, H, G, R> as Handed>⟧.calls client_parts.old)) (end_of self.new.client (⟦<Parts<A, H, G, R> as Handed>⟧.calls client_parts.new)) }
-        ensures server { (result ≡ Err Memory → ⊥) → AttacksEnd (tells_by A.lawful A.obliging A.offered A.client_makes A.server_makes A.agrees A.refusals A.calls H.lawful H.obliging H.accepts H.trusts H.makes H.refused_sign H.refused_verify H.refused_check H.calls G.lawful G.obliging G.group G.refusals G.calls self.old.server.transport.config server_parts.old.agreement server_parts.new.agreement server_parts.old.hosts server_parts.new.hosts server_parts.old.groups server_parts.new.groups) Server step.now result (end_of self.old.server (⟦<Parts<A, H, G, R> as Handed>⟧.calls server_parts.old)) (end_of self.new.server (⟦<Parts<A, H, G, R> as Handed>⟧.calls server_parts.new)) }
+        ensures client { (result ≡ Err Memory → ⊥) → AttacksEnd (⟦<Parts<A, H, G, R> as Attacked>⟧.tells
+            self.old.client.transport.config client_parts.old client_parts.new) Client step.now result
+            (end_of self.old.client (⟦<Parts<A, H, G, R> as Asked>⟧.calls client_parts.old))
+            (end_of self.new.client (⟦<Parts<A, H, G, R> as Asked>⟧.calls client_parts.new)) }
+        ensures server { (result ≡ Err Memory → ⊥) → AttacksEnd (⟦<Parts<A, H, G, R> as Attacked>⟧.tells
+            self.old.server.transport.config server_parts.old server_parts.new) Server step.now result
+            (end_of self.old.server (⟦<Parts<A, H, G, R> as Asked>⟧.calls server_parts.old))
+            (end_of self.new.server (⟦<Parts<A, H, G, R> as Asked>⟧.calls server_parts.new)) }
         ensures client_keeps { ⟦<Parts<A, H, G, R> as Handed>⟧.keeps client_parts.old client_parts.new }
         ensures server_keeps { ⟦<Parts<A, H, G, R> as Handed>⟧.keeps server_parts.old server_parts.new }
     {
@@ -133,7 +153,8 @@ impl<'c> Attack<'c> {
 
 /// The first test that refuses one of two configurations, the client's tested first, if one does.
 fn first_fault(client: &Config, server: &Config) -> Option<ConfigFault>
-    ensures { result ≡ first_config_fault (valid.config_fault Client client.now) (valid.config_fault Server server.now) }
+    ensures { result ≡ first_config_fault (valid.config_fault Client client.now)
+        (valid.config_fault Server server.now) }
 {
     match config_fault(Side::Client, client) {
         Some(fault) => Some(fault),

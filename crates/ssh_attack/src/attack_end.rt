@@ -3,8 +3,10 @@
 ghost use Rattle.std.specs.Prelude.{◌≡◌, ◌++◌, [], Err, IfOk, OnOk, length};
 ghost use Rattle.ssh_wire.specs.Forms.{AreBytes};
 
+use crate::attacked::Attacked;
 use rand_core::Rng;
-use ssh_kex::{Agreement, GroupLookup, HostKeys, Parts};
+use ssh_kex::{Agreement, GroupLookup, Handed, HostKeys, Parts};
+use ssh_rules::Asked;
 use ssh_rules::link::{ExchangeList, SideReport};
 use ssh_transport::Transport;
 use ssh_wire::{Blob, Error, Payload, PayloadList};
@@ -20,9 +22,7 @@ pub(crate) struct AttackEnd<'c> {
 }
 
 impl<'c> AttackEnd<'c> {
-    ghost use Rattle.ssh_kex.specs.Parts.{KeepsAgreement, KeepsGroups, KeepsHosts};
-    ghost use Rattle.ssh_rules.specs.Asking.{counted_by};
-    ghost use Rattle.ssh_rules.specs.Attacking.{FeedsEnd, RekeysBy, SubmitsBy, tells_by};
+    ghost use Rattle.ssh_rules.specs.Attacking.{FeedsEnd, RekeysBy, SubmitsBy};
     ghost use Rattle.ssh_attack.specs.AttackEnds.{end_of};
     ghost use Rattle.ssh_wire.specs.declared.error.Error.TheVariants.{Memory};
 
@@ -45,7 +45,10 @@ impl<'c> AttackEnd<'c> {
         parts: &mut Parts<A, H, G, R>,
         payload: &[u8],
     ) -> Result<(), Error>
-        ensures submits { (result ≡ Err Memory → ⊥) → SubmitsBy self.old.transport.failed (tells_by A.lawful A.obliging A.offered A.client_makes A.server_makes A.agrees A.refusals A.calls H.lawful H.obliging H.accepts H.trusts H.makes H.refused_sign H.refused_verify H.refused_check H.calls G.lawful G.obliging G.group G.refusals G.calls self.old.transport.config parts.old.agreement parts.new.agreement parts.old.hosts parts.new.hosts parts.old.groups parts.new.groups) (end_of self.old (⟦<Parts<A, H, G, R> as Handed>⟧.calls parts.old)) payload.now result (end_of self.new (⟦<Parts<A, H, G, R> as Handed>⟧.calls parts.new)) }
+        ensures submits { (result ≡ Err Memory → ⊥) → SubmitsBy self.old.transport.failed
+            (⟦<Parts<A, H, G, R> as Attacked>⟧.tells self.old.transport.config parts.old parts.new)
+            (end_of self.old (⟦<Parts<A, H, G, R> as Asked>⟧.calls parts.old)) payload.now result
+            (end_of self.new (⟦<Parts<A, H, G, R> as Asked>⟧.calls parts.new)) }
         ensures keeps { ⟦<Parts<A, H, G, R> as Handed>⟧.keeps parts.old parts.new }
     {
         self.transport.submit(parts, payload)
@@ -56,7 +59,10 @@ impl<'c> AttackEnd<'c> {
         &mut self,
         parts: &mut Parts<A, H, G, R>,
     ) -> Result<(), Error>
-        ensures rekeys { (result ≡ Err Memory → ⊥) → RekeysBy self.old.transport.failed (tells_by A.lawful A.obliging A.offered A.client_makes A.server_makes A.agrees A.refusals A.calls H.lawful H.obliging H.accepts H.trusts H.makes H.refused_sign H.refused_verify H.refused_check H.calls G.lawful G.obliging G.group G.refusals G.calls self.old.transport.config parts.old.agreement parts.new.agreement parts.old.hosts parts.new.hosts parts.old.groups parts.new.groups) (end_of self.old (⟦<Parts<A, H, G, R> as Handed>⟧.calls parts.old)) result (end_of self.new (⟦<Parts<A, H, G, R> as Handed>⟧.calls parts.new)) }
+        ensures rekeys { (result ≡ Err Memory → ⊥) → RekeysBy self.old.transport.failed
+            (⟦<Parts<A, H, G, R> as Attacked>⟧.tells self.old.transport.config parts.old parts.new)
+            (end_of self.old (⟦<Parts<A, H, G, R> as Asked>⟧.calls parts.old)) result
+            (end_of self.new (⟦<Parts<A, H, G, R> as Asked>⟧.calls parts.new)) }
         ensures keeps { ⟦<Parts<A, H, G, R> as Handed>⟧.keeps parts.old parts.new }
     {
         self.transport.rekey(parts)
@@ -68,7 +74,10 @@ impl<'c> AttackEnd<'c> {
         parts: &mut Parts<A, H, G, R>,
         bytes: &[u8],
     ) -> Result<(), Error>
-        ensures feeds { (result ≡ Err Memory → ⊥) → FeedsEnd (tells_by A.lawful A.obliging A.offered A.client_makes A.server_makes A.agrees A.refusals A.calls H.lawful H.obliging H.accepts H.trusts H.makes H.refused_sign H.refused_verify H.refused_check H.calls G.lawful G.obliging G.group G.refusals G.calls self.old.transport.config parts.old.agreement parts.new.agreement parts.old.hosts parts.new.hosts parts.old.groups parts.new.groups) (end_of self.old (⟦<Parts<A, H, G, R> as Handed>⟧.calls parts.old)) bytes.now result (end_of self.new (⟦<Parts<A, H, G, R> as Handed>⟧.calls parts.new)) }
+        ensures feeds { (result ≡ Err Memory → ⊥) → FeedsEnd (⟦<Parts<A, H, G, R> as Attacked>⟧.tells
+            self.old.transport.config parts.old parts.new) (end_of self.old
+            (⟦<Parts<A, H, G, R> as Asked>⟧.calls parts.old)) bytes.now result
+            (end_of self.new (⟦<Parts<A, H, G, R> as Asked>⟧.calls parts.new)) }
         ensures keeps { ⟦<Parts<A, H, G, R> as Handed>⟧.keeps parts.old parts.new }
     {
         see_bytes(bytes);
@@ -87,7 +96,8 @@ impl<'c> AttackEnd<'c> {
 
     /// What it did. Memory.
     pub(crate) fn report(self, alloc: Global) -> Result<SideReport, AllocError>
-        ensures { IfOk result (λ r. r ≡ record { wire = self.entry.transport.output; taken = self.entry.taken; delivered = self.entry.delivered.items; exchanges = self.entry.transport.state.records }) }
+        ensures { IfOk result (λ r. r ≡ record { wire = self.entry.transport.output; taken = self.entry.taken; delivered
+            = self.entry.delivered.items; exchanges = self.entry.transport.state.records }) }
     {
         let exchanges = exchanges(alloc, &self.transport)?;
         Ok(SideReport {

@@ -3,5 +3,7 @@
 
 mod attack;
 mod attack_end;
+mod attacked;
 
 pub use crate::attack::run_attacked;
+pub use crate::attacked::Attacked;

@@ -114,7 +114,8 @@ impl<'c> Connection<'c> {
         ensures refused_few { self.old.failed ≡ false → IfErr result
             (λ e. RefusesPieceAsking (⟦<Parts<A, H, G, R> as Handed>⟧.says self.old.session.config.now parts.old)
             (⟦<Parts<A, H, G, R> as Handed>⟧.denies parts.old parts.new)
-            (⟦<Parts<A, H, G, R> as Asked>⟧.distrusts parts.old parts.new) (standing_of self.old) piece.now e (standing_of self.new)
+            (⟦<Parts<A, H, G, R> as Asked>⟧.distrusts parts.old parts.new) (standing_of self.old) piece.now e
+            (standing_of self.new)
             (⟦<Parts<A, H, G, R> as Asked>⟧.calls parts.old) (⟦<Parts<A, H, G, R> as Asked>⟧.calls parts.new)) }
     {
         if self.failed {

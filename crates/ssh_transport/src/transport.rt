@@ -128,9 +128,9 @@ impl<'c> Transport<'c> {
         self.connection.feed(parts, piece)
     }
 
-    /// Keeps the first bytes of a piece that the other side sent, as many as there is room for, until `poll_payload` or `feed`
-    /// makes something of them: at most 262245 bytes are kept. How many were taken of the piece. Disconnect after a refusal.
-    /// It takes no memory.
+    /// Keeps the first bytes of a piece that the other side sent, as many as there is room for, until `poll_payload` or
+    /// `feed` makes something of them: at most 262245 bytes are kept. How many were taken of the piece. Disconnect
+    /// after a refusal. It takes no memory.
     pub fn take_input(&mut self, piece: &[u8]) -> Result<usize, Error>
         ensures dead { self.old.failed ≡ true → (result ≡ Err Disconnect) × (self.new ≡ self.old) }
         ensures taken { self.old.failed ≡ false → (result ≡ Ok (input_room self.old (length piece.now)))

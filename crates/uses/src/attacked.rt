@@ -13,8 +13,9 @@ use ssh_rules::same_delivered;
 use ssh_wire::Error;
 use std::alloc::Global;
 
-/// Runs two sides of these configurations twice, by either list of steps, each time with parts of their own. What a side is
-/// delivered rests on the bytes that it was fed and on the exchanges that it recorded, and not on where the bytes were cut.
+/// Runs two sides of these configurations twice, by either list of steps, each time with parts of their own. What a
+/// side is delivered rests on the bytes that it was fed and on the exchanges that it recorded, and not on where the
+/// bytes were cut.
 ///
 /// InvalidConfig where a configuration falls; Memory.
 pub fn attack_twice<A: Agreement, H: HostKeys, G: GroupLookup, R: Rng>(
@@ -30,11 +31,13 @@ pub fn attack_twice<A: Agreement, H: HostKeys, G: GroupLookup, R: Rng>(
 ) -> Result<(AttackReport, AttackReport), Error>
     ensures client { fed_to Client steps.now ≡ fed_to Client other_steps.now
         → IfOk result (λ both. both.0.client.exchanges ≡ both.1.client.exchanges
-        → IsByReader (first_refusal Client steps.now both.0.answers) → IsByReader (first_refusal Client other_steps.now both.1.answers)
+        → IsByReader (first_refusal Client steps.now both.0.answers) → IsByReader
+        (first_refusal Client other_steps.now both.1.answers)
         → both.0.client.delivered ≡ both.1.client.delivered) }
     ensures server { fed_to Server steps.now ≡ fed_to Server other_steps.now
         → IfOk result (λ both. both.0.server.exchanges ≡ both.1.server.exchanges
-        → IsByReader (first_refusal Server steps.now both.0.answers) → IsByReader (first_refusal Server other_steps.now both.1.answers)
+        → IsByReader (first_refusal Server steps.now both.0.answers) → IsByReader
+        (first_refusal Server other_steps.now both.1.answers)
         → both.0.server.delivered ≡ both.1.server.delivered) }
 {
     same_delivered::<A, H>();

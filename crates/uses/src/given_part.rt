@@ -19,8 +19,9 @@ struct GivenValue {
     secret: Vec<u8>,
 }
 
-/// Answers the public values and the secrets of exchanges, one after the other, whatever it is asked; the last ones stay.
-/// It keeps none of the laws of an agreement, so no value of it is lawful; what holds of whatever agreement holds of it.
+/// Answers the public values and the secrets of exchanges, one after the other, whatever it is asked; the last ones
+/// stay. It keeps none of the laws of an agreement, so no value of it is lawful; what holds of whatever agreement holds
+/// of it.
 #[derive(Drop)]
 pub struct GivenAgreement {
     values: Vec<GivenValue>,
@@ -151,8 +152,8 @@ impl Agreement for GivenAgreement {
     ghost obliging_lawful = { λ v s obliging. obliging };
 }
 
-/// Signs by the signatures of exchanges, one after the other, whatever it is asked, the last one again and again; accepts
-/// and trusts whatever it is shown. No value of it is lawful.
+/// Signs by the signatures of exchanges, one after the other, whatever it is asked, the last one again and again;
+/// accepts and trusts whatever it is shown. No value of it is lawful.
 #[derive(Drop)]
 pub struct GivenHosts {
     signatures: Vec<Vec<u8>>,
@@ -243,8 +244,8 @@ impl HostKeys for GivenHosts {
     ghost obliging_accepts = { λ v s host hash signature obliging. absurd obliging };
 }
 
-/// Answers the groups of exchanges, one after the other, whatever sizes are asked; the last one stays. No value of it is
-/// lawful.
+/// Answers the groups of exchanges, one after the other, whatever sizes are asked; the last one stays. No value of it
+/// is lawful.
 #[derive(Drop)]
 pub struct GivenGroups {
     groups: Vec<DhGroup>,

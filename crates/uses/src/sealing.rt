@@ -42,8 +42,8 @@ pub fn carry<R: Rng>(
     }
 }
 
-/// Seals three payloads under `aes256-gcm@openssh.com`, and opens them. Payloads of at most 262157 bytes fail for want of
-/// memory alone.
+/// Seals three payloads under `aes256-gcm@openssh.com`, and opens them. Payloads of at most 262157 bytes fail for want
+/// of memory alone.
 pub fn carry_three<R: Rng>(
     alloc: Global,
     rng: &mut R,

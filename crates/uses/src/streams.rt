@@ -1,14 +1,12 @@
 //! A stream of the other side's bytes, read by a transport that lends its payloads.
 
 ghost use Rattle.std.specs.Prelude.{◌≡◌, ◌⊎◌, ◌++◌, ◌<◌, List, ℕ, Err, IfErr, IfOk, OnOk, [], false, true, length};
-ghost use Rattle.ssh_kex.specs.Parts.{KeepsAgreement, KeepsGroups, KeepsHosts};
-ghost use Rattle.ssh_kex.specs.Stepping.{says_of};
 ghost use Rattle.ssh_rules.specs.Polling.{Polls};
 ghost use Rattle.ssh_wire.specs.declared.error.Error.TheVariants.{Disconnect, Memory};
 ghost use Rattle.uses.specs.Streams.{FedLent};
 
 use rand_core::Rng;
-use ssh_kex::{Agreement, GroupLookup, HostKeys, Parts};
+use ssh_kex::{Agreement, GroupLookup, Handed, HostKeys, Parts};
 use ssh_transport::Transport;
 use ssh_wire::{Error, Payload, PayloadList};
 use std::alloc::Global;
@@ -21,7 +19,8 @@ pub fn read_stream<A: Agreement, H: HostKeys, G: GroupLookup, R: Rng>(
     parts: &mut Parts<A, H, G, R>,
     bytes: &[u8],
 ) -> Result<PayloadList, Error>
-    ensures read { IfOk result (λ lent. FedLent (⟦<Parts<A, H, G, R> as Handed>⟧.says transport.old.config parts.old) transport.old bytes.now lent transport.new) }
+    ensures read { IfOk result (λ lent. FedLent (⟦<Parts<A, H, G, R> as Handed>⟧.says transport.old.config parts.old)
+        transport.old bytes.now lent transport.new) }
     ensures causes { IfErr result (λ e. (e ≡ Memory) ⊎ ((e ≡ Disconnect) × (transport.new.failed ≡ true))) }
 {
     let mut lent = Vec::new(alloc);
@@ -42,7 +41,8 @@ fn read_kept<A: Agreement, H: HostKeys, G: GroupLookup, R: Rng>(
     lent: &mut Vec<Payload>,
 ) -> Result<(), Error>
     ensures read { OnOk result ((more : List (List ℕ)) × (lent.new.items ≡ lent.old.items ++ more)
-        × FedLent (⟦<Parts<A, H, G, R> as Handed>⟧.says transport.old.config parts.old) transport.old [] more transport.new) }
+        × FedLent (⟦<Parts<A, H, G, R> as Handed>⟧.says transport.old.config parts.old) transport.old [] more
+        transport.new) }
     ensures causes { IfErr result (λ e. (e ≡ Memory) ⊎ ((e ≡ Disconnect) × (transport.new.failed ≡ true))) }
     ensures config { transport.new.config ≡ transport.old.config }
     ensures keeps { ⟦<Parts<A, H, G, R> as Handed>⟧.keeps parts.old parts.new }
@@ -61,7 +61,8 @@ fn read_payload<A: Agreement, H: HostKeys, G: GroupLookup, R: Rng>(
     transport: &mut Transport<'_>,
     parts: &mut Parts<A, H, G, R>,
 ) -> Result<Option<Payload>, Error>
-    ensures polled { IfOk result (λ lent. Polls (⟦<Parts<A, H, G, R> as Handed>⟧.says transport.old.config parts.old) transport.old lent transport.new) }
+    ensures polled { IfOk result (λ lent. Polls (⟦<Parts<A, H, G, R> as Handed>⟧.says transport.old.config parts.old)
+        transport.old lent transport.new) }
     ensures causes { IfErr result (λ e. (e ≡ Memory) ⊎ ((e ≡ Disconnect) × (transport.new.failed ≡ true))) }
     ensures config { transport.new.config ≡ transport.old.config }
     ensures keeps { ⟦<Parts<A, H, G, R> as Handed>⟧.keeps parts.old parts.new }

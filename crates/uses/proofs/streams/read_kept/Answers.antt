@@ -24,9 +24,9 @@ payloads-preserved g c =
         kept_some (λ (x : Config). says_of g.A.Agreement.lawful g.A.Agreement.offered g.A.Agreement.client_makes g.A.Agreement.server_makes g.A.Agreement.agrees g.H.HostKeys.lawful g.H.HostKeys.obliging g.H.HostKeys.accepts g.H.HostKeys.trusts g.H.HostKeys.makes g.G.GroupLookup.lawful g.G.GroupLookup.group x c.args.parts.now.agreement c.args.parts.now.hosts c.args.parts.now.groups) (λ (x : Config). says_of g.A.Agreement.lawful g.A.Agreement.offered g.A.Agreement.client_makes g.A.Agreement.server_makes g.A.Agreement.agrees g.H.HostKeys.lawful g.H.HostKeys.obliging g.H.HostKeys.accepts g.H.HostKeys.trusts g.H.HostKeys.makes g.G.GroupLookup.lawful g.G.GroupLookup.group x c.payloads.parts.agreement c.payloads.parts.hosts c.payloads.parts.groups) (λ (x : Config). kept_weaker _ _ _ _ _ _ _ _ _ g.H.HostKeys.makes _ _ _ _ _ _ _ _ _ _ _ _ _ _ _ _ _ _ _ c.payloads.invariant.agreement c.payloads.invariant.hosts c.payloads.invariant.groups) c.args.transport.now c.payloads.transport c.read_payload.new.transport so.0 c.in_ok-payload.field-0 c.in-Some.payload c.in-Some.is c.payloads.invariant.config so.2 c.in_ok-payload.ensures.polled,
       );
       config = c.read_payload.ensures.config ∙ c.payloads.invariant.config;
-      agreement = agreement_after _ _ _ _ _ _ _ _ c.payloads.invariant.agreement c.read_payload.ensures.agreement;
-      hosts = hosts_after _ _ _ _ _ _ _ _ _ _ _ c.payloads.invariant.hosts c.read_payload.ensures.hosts;
-      groups = groups_after _ _ _ _ _ _ _ _ c.payloads.invariant.groups c.read_payload.ensures.groups;
+      agreement = agreement_after _ _ _ _ _ _ _ _ c.payloads.invariant.agreement c.read_payload.ensures.keeps.agreement;
+      hosts = hosts_after _ _ _ _ _ _ _ _ _ _ _ c.payloads.invariant.hosts c.read_payload.ensures.keeps.hosts;
+      groups = groups_after _ _ _ _ _ _ _ _ c.payloads.invariant.groups c.read_payload.ensures.keeps.groups;
     }
 
 pub payloads-smaller : goal.payloads-smaller
