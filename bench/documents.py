@@ -2,9 +2,10 @@
 """Usage: bench/documents.py
 
 Checks what the documents show. Each name of docs/DEFINITIONS.md is defined in a file that its row names, below the crate
-of its heading, and each definition file of each crate is named in some row. Each piece of code of README.md stands in a
-source file, and its first script and report are those of examples/clear. Prints what isn't so, and ends with status 1
-then.
+of its heading, and each definition file of each crate is named in some row. Each piece of code of README.md and
+docs/LIBRARY.md stands in a source file, and the first script and report of README.md are those of examples/clear. Each link
+of a page leads to a file, each page of docs/ is in its index, and each example in its own. Prints what isn't so, and ends
+with status 1 then.
 """
 import pathlib
 import re
@@ -47,19 +48,35 @@ def faulty_definitions():
 
 
 def faulty_snippets():
-    text = (TOP / "README.md").read_text()
     sources = [path.read_text() for path in TOP.glob("crates/*/src/*.rt")]
-    for snippet in re.findall(r"^```rust\n(.*?)^```", text, re.M | re.S):
-        if not any(snippet in source for source in sources):
-            yield f"README.md: no source has {snippet.splitlines()[0]}"
+    for page in ("README.md", "docs/LIBRARY.md"):
+        for snippet in re.findall(r"^```rust\n(.*?)^```", (TOP / page).read_text(), re.M | re.S):
+            if not any(snippet in source for source in sources):
+                yield f"{page}: no source has {snippet.splitlines()[0]}"
+    text = (TOP / "README.md").read_text()
     shown = re.findall(r"^```\n(.*?)^```", text.split("## A first script")[1], re.M | re.S)
     script = "".join(line for line in (TOP / "examples/clear.txt").open() if not line.startswith("#"))
     if shown[:2] != [script, (TOP / "examples/clear.stdout").read_text()]:
         yield "README.md: the first script or its report isn't that of examples/clear"
 
 
+def pages():
+    return [TOP / "README.md", *sorted(TOP.glob("docs/*.md")), TOP / "examples/README.md"]
+
+
+def faulty_links():
+    for page in pages():
+        for link in re.findall(r"\]\(([^)#]+)[^)]*\)", page.read_text()):
+            if "://" not in link and not (page.parent / link).exists():
+                yield f"{page.relative_to(TOP)}: {link} isn't there"
+    index = (TOP / "docs/README.md").read_text()
+    yield from (f"docs/README.md: {page.name} is missing" for page in TOP.glob("docs/*.md") if f"({page.name})" not in index + "(README.md)")
+    index = (TOP / "examples/README.md").read_text()
+    yield from (f"examples/README.md: {script.name} is missing" for script in TOP.glob("examples/*.txt") if f"({script.name})" not in index)
+
+
 def main():
-    faults = [*faulty_definitions(), *faulty_snippets()]
+    faults = [*faulty_definitions(), *faulty_snippets(), *faulty_links()]
     print("\n".join(faults) if faults else "documents: what they show stands where they say")
     sys.exit(1 if faults else 0)
 

@@ -1,5 +1,5 @@
 //! Compares rows of values with what the public calls of the exchange answer (sizes, groups, secrets, canonical
-//! signatures, lengths of keys), the parts of the tests, proved callers, and links whose sides hold given secrets. The
+//! signatures, lengths of keys), the parts of the tests, proved callers, and links whose sides hold secrets that may differ. The
 //! status is 0 where none failed and at least one passed.
 #![tactic(auto)]
 
@@ -7,6 +7,7 @@ mod callers;
 mod forms;
 mod handed;
 mod joined;
+mod zeroed;
 
 use std::process::ExitCode;
 use vector_rows::{Answers, Fault, Row, check};

@@ -14,9 +14,8 @@ use crate::attack_end::AttackEnd;
 use crate::attacked::Attacked;
 use rand_core::Rng;
 use ssh_kex::{Agreement, Config, GroupLookup, Handed, HostKeys, Parts};
-use ssh_rules::Asked;
 use ssh_rules::link::{AnswerList, AttackReport, AttackStep};
-use ssh_rules::sizes_are_u32;
+use ssh_rules::{Asked, sizes_are_u32};
 use ssh_transport::{Transport, config_fault};
 use ssh_wire::{ConfigFault, Error, Side};
 use std::alloc::{AllocError, Global};
@@ -72,9 +71,12 @@ impl<'c> Attack<'c> {
         alloc: Global,
         answers: Vec<Result<(), Error>>,
     ) -> Result<AttackReport, AllocError>
-        ensures { IfOk result (λ report. report ≡ record { client = attacked_report
-            (end_of self.entry.client none_asked); server = attacked_report (end_of self.entry.server none_asked);
-            answers = answers.items }) }
+        ensures { IfOk result (λ report. report ≡ record {
+          client = attacked_report
+              (end_of self.entry.client none_asked);
+          server = attacked_report (end_of self.entry.server none_asked);
+          answers = answers.items;
+        }) }
     {
         Ok(AttackReport {
             client: self.client.report(alloc)?,

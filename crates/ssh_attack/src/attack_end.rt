@@ -96,8 +96,13 @@ impl<'c> AttackEnd<'c> {
 
     /// What it did. Memory.
     pub(crate) fn report(self, alloc: Global) -> Result<SideReport, AllocError>
-        ensures { IfOk result (λ r. r ≡ record { wire = self.entry.transport.output; taken = self.entry.taken; delivered
-            = self.entry.delivered.items; exchanges = self.entry.transport.state.records }) }
+        ensures { IfOk result (λ r. r ≡ record {
+          wire = self.entry.transport.output;
+          taken = self.entry.taken;
+          delivered
+              = self.entry.delivered.items;
+          exchanges = self.entry.transport.state.records;
+        }) }
     {
         let exchanges = exchanges(alloc, &self.transport)?;
         Ok(SideReport {

@@ -20,7 +20,7 @@ use Rattle.ssh_rules.specs.Log.{causes_in, delivered_in, read_bytes, sent_bytes,
 use Rattle.ssh_rules.specs.Machine.{AnswerSent, Event, Inside, SendsAnswer, SideState, Spot, Steps, spot_after, spot_renumbered, strict_now}
 use Rattle.ssh_rules.specs.Standing.{HearsNone}
 use Rattle.ssh_transport.specs.Handling.{IsFlagged}
-use Rattle.ssh_transport.proofs.Saying.{sends_item}
+use Rattle.ssh_transport.proofs.Kexinits.{sends_item}
 
 -- ---- one message
 

@@ -31,7 +31,6 @@ use Rattle.ssh_rules.specs.Standing.{OfMemory, OfPacket, RefusalCause}
 use Rattle.ssh_rules.proofs.Lemmas.{asks_join, asks_left, asks_lookups, asks_steps, asks_still, begun_first, begun_steps, cause_none, dropped_asks, dropped_calls, dropped_group, groups_more, request_alone, stage_bounds, taken_group}
 use Rattle.ssh_transport.specs.Asking.{AsksBetween, AsksTo, MoveAsks, StepAsks, asks_trust, nowhere, state_of}
 use Rattle.ssh_transport.specs.Handling.{Installs, IsFor, IsOpen, Moves}
-use Rattle.ssh_transport.specs.Kexinits.{setting_between}
 use Rattle.ssh_transport.specs.Saying.{GoesOn, GoesPart, IsFixed, nothing_said}
 use Rattle.ssh_transport.specs.States.{between, reading_of, stands_of, state_at}
 use Rattle.ssh_transport.specs.Taking.{Hears, TakesUp}
@@ -39,6 +38,7 @@ use Rattle.ssh_transport.specs.declared.connection.Connection.{Connection}
 use Rattle.ssh_transport.specs.declared.session.Handled.{Handled}
 use Rattle.ssh_transport.specs.declared.session.Handled.TheVariants.{Delivers, Done, Rekeys}
 use Rattle.ssh_transport.specs.declared.session.Session.{Session}
+use Rattle.ssh_transport.proofs.Kexinits.{between_side}
 use Rattle.ssh_transport.proofs.Refusing.{set_for}
 
 -- ---- a machine's step
@@ -243,10 +243,6 @@ parts_for s s1 m after e (inr f) =
     let stands : stands_of s.finished.items s.kex ≡ Inside m.stage = ap (λ (k : SessionKexState Machine). stands_of s.finished.items k) f.0 in
     let one : open_count (stands_of s.finished.items s.kex) ≡ 1 = ap open_count stands in
     parts_inside s.side m.stage (stands_of s.finished.items s.kex) (begun (state_of s)) after stands (omega (arith, e, same, one))
-
-between_side : (side : Side) (config : Config) (peer : List ℕ) (cause : KexCause) → (setting_between side config peer cause).side ≡ side
-between_side Client config peer cause = refl
-between_side Server config peer cause = refl
 
 -- ---- group exchanges
 

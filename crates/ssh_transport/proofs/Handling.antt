@@ -40,6 +40,7 @@ use Rattle.ssh_transport.specs.declared.session.Handled.TheVariants.{Delivers, D
 use Rattle.ssh_transport.specs.declared.session.Session.{Session}
 use Rattle.ssh_transport.proofs.Answering.{Answered, answered_taken, answering, spot_of, taken_flagged}
 use Rattle.ssh_transport.proofs.Kexes.{never_skips}
+use Rattle.ssh_transport.proofs.Kexinits.{between_config, between_side}
 use Rattle.ssh_transport.proofs.Saying.{stated}
 
 -- ---- between whom
@@ -52,14 +53,6 @@ id_same Failed = refl
 pub setting_by : (side : Side) (config : Config) (line : IdReading) (st : SideState) → st.heard ≡ heard_of line → setting side config (id_text config.id) st ≡ setting_between side config (text_heard line) (cause_of st.records)
 setting_by Client config line st h = ap (λ (x : List ℕ). setting_between Client config x (cause_of st.records)) (ap id_or_none h ∙ id_same line)
 setting_by Server config line st h = ap (λ (x : List ℕ). setting_between Server config x (cause_of st.records)) (ap id_or_none h ∙ id_same line)
-
-between_side : (side : Side) (config : Config) (peer : List ℕ) (cause : KexCause) → (setting_between side config peer cause).side ≡ side
-between_side Client config peer cause = refl
-between_side Server config peer cause = refl
-
-between_config : (side : Side) (config : Config) (peer : List ℕ) (cause : KexCause) → (setting_between side config peer cause).config ≡ config
-between_config Client config peer cause = refl
-between_config Server config peer cause = refl
 
 pub own_side : (s : Session) (m : Machine) → IsOwn s m → m.setting.side ≡ s.side
 own_side s m o = ap (λ (x : Setting). x.side) o.setting_is ∙ between_side s.side s.config.now (text_heard s.line) (cause_of s.finished.items)

@@ -8,13 +8,24 @@ use Rattle.ssh_packet.specs.Sealing.{Item, IsAdmissible, IsPadded, item_of}
 use Rattle.ssh_packet.specs.Writing.{Writer, Sends, with_item}
 use Rattle.ssh_wire.specs.declared.error.Error.{Error}
 use Rattle.ssh_wire.specs.declared.side.Side.{Side}
+use Rattle.ssh_negotiate.specs.declared.kex.KexCause.{KexCause}
 use Rattle.ssh_kex.specs.Stages.{Machine, Created}
 use Rattle.ssh_kex.specs.declared.config.Config.{Config}
-use Rattle.ssh_transport.specs.Kexinits.{SendsKexinit}
+use Rattle.ssh_transport.specs.Kexinits.{SendsKexinit, setting_between}
 
-sends_item : (w w' : Writer) (payload : List ℕ) (stream : Stream) → 0 < length payload → Sends w payload stream w' → w' ≡ record (with_item w (item_of w.sealing payload stream)) { room = w'.room }
+-- a payload that isn't empty is one packet
+pub sends_item : (w w' : Writer) (payload : List ℕ) (stream : Stream) → 0 < length payload → Sends w payload stream w' → w' ≡ record (with_item w (item_of w.sealing payload stream)) { room = w'.room }
 sends_item w w' [] stream l h = absurd (omega (arith, l))
 sends_item w w' (b ∷ rest) stream l h = h
+
+-- whose setting it is
+pub between_side : (side : Side) (config : Config) (peer : List ℕ) (cause : KexCause) → (setting_between side config peer cause).side ≡ side
+between_side Client config peer cause = refl
+between_side Server config peer cause = refl
+
+pub between_config : (side : Side) (config : Config) (peer : List ℕ) (cause : KexCause) → (setting_between side config peer cause).config ≡ config
+between_config Client config peer cause = refl
+between_config Server config peer cause = refl
 
 pub client_sends : (config : Config) (w w' : Writer) (stream : Stream) → length (cookie_from stream) ≡ 16 → IsAdmissible w.sealing (item_of w.sealing (kexinit_drawn config.preferred None stream) (behind_cookie stream)) → IsPadded w.sealing (item_of w.sealing (kexinit_drawn config.preferred None stream) (behind_cookie stream)) → Sends w (kexinit_drawn config.preferred None stream) (behind_cookie stream) w' → SendsKexinit Client config w (item_of w.sealing (kexinit_drawn config.preferred None stream) (behind_cookie stream)) w'
 unfolding advertised.offers_with

@@ -3,6 +3,7 @@ pub mod Appending
 pub mod Asking
 pub mod Configs
 pub mod Denying
+pub mod Drawing
 pub mod Failing
 pub mod Handling
 pub mod Heard

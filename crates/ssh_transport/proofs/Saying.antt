@@ -25,6 +25,7 @@ use Rattle.ssh_transport.specs.Kexinits.{SendsKexinit, setting_between}
 use Rattle.ssh_transport.specs.Saying.{AreGood, Begins, GoesOn, GoesPart, IsSettled, IsUnsaid, OnlyWrites, Opens, Writes, nothing_said}
 use Rattle.ssh_transport.specs.States.{heard_of, stands_of, state_at}
 use Rattle.ssh_transport.specs.declared.session.Session.{Session}
+use Rattle.ssh_transport.proofs.Kexinits.{between_config, between_side}
 
 -- ---- events that only write
 
@@ -157,10 +158,6 @@ writes_begun s s' read cause n a may g b = record {
   good = subst AreGood (sym (ap (λ (x : Session). x.held.items) b.becomes)) g;
 }
 
-pub sends_item : (w w' : Writer) (payload : List ℕ) (stream : Stream) → 0 < length payload → Sends w payload stream w' → w' ≡ record (with_item w (item_of w.sealing payload stream)) { room = w'.room }
-sends_item w w' [] stream l h = absurd (omega (arith, l))
-sends_item w w' (b ∷ rest) stream l h = h
-
 pub good_some : (p : List ℕ) → is_good_payload p ≡ true → 0 < length p
 good_some [] h = cc
 good_some (b ∷ p) h = omega arith
@@ -256,14 +253,6 @@ settled_outside s read o e w r at = record {
 }
 
 -- ---- what calls leave
-
-between_side : (side : Side) (config : Config) (peer : List ℕ) (cause : KexCause) → (setting_between side config peer cause).side ≡ side
-between_side sides.Client config peer cause = refl
-between_side sides.Server config peer cause = refl
-
-between_config : (side : Side) (config : Config) (peer : List ℕ) (cause : KexCause) → (setting_between side config peer cause).config ≡ config
-between_config sides.Client config peer cause = refl
-between_config sides.Server config peer cause = refl
 
 pub opened : (s : Session) (m m' : Machine) (w' : Writer) (cause : KexCause) (peer : List ℕ) → m ≡ record { setting = setting_between s.side s.config.now peer cause; stage = Created [] } → cause ≡ cause_of s.finished.items → peer ≡ text_heard s.line → (x : Item) × SendsKexinit m.setting.side m.setting.config s.writer x w' × (m' ≡ record m { stage = Created x.payload }) → Opens s m' (record s { writer = w' })
 opened s m m' w' cause peer e c p h = record {

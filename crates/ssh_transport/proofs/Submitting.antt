@@ -20,7 +20,8 @@ use Rattle.ssh_transport.specs.Submitting.{Breaks, Submits}
 use Rattle.ssh_transport.specs.declared.connection.Connection.{Connection}
 use Rattle.ssh_transport.specs.declared.session.Session.{Session}
 use Rattle.ssh_transport.proofs.Kept.{kept_session}
-use Rattle.ssh_transport.proofs.Saying.{begins_exchange, good_some, good_type, only_silent, sends_item, settled_inside, stated, unread_steps}
+use Rattle.ssh_transport.proofs.Kexinits.{sends_item}
+use Rattle.ssh_transport.proofs.Saying.{begins_exchange, good_some, good_type, only_silent, settled_inside, stated, unread_steps}
 
 good_snoc : (held : List (List ℕ)) (p : List ℕ) → AreGood held → is_good_payload p ≡ true → AreGood (held ++ p ∷ [])
 good_snoc [] p h g = (g, tt)

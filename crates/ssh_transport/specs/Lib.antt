@@ -1,5 +1,6 @@
 pub mod Asking
 pub mod Kexinits
+pub mod Drawing
 pub mod Handling
 pub mod Hearing
 pub mod Kept

@@ -48,6 +48,7 @@ impl<'c> Connection<'c> {
     ghost use Rattle.ssh_rules.specs.Standing.{IsNew, Rekeyed, Submitted, TakesInput, WaitsInPart, input_room, is_outside, unfinished, with_input};
     ghost use Rattle.ssh_wire.specs.Reading.{waiting_length};
     ghost use Rattle.ssh_transport.specs.Asking.{AsksBetween, AsksTo};
+    ghost use Rattle.ssh_transport.specs.Drawing.{AtMostNext, GoesNext, kexinit_packet, packet_with};
     ghost use Rattle.ssh_transport.specs.Handling.{IsHeard, IsOpen};
     ghost use Rattle.ssh_transport.specs.Hearing.{EndsBy};
     ghost use Rattle.ssh_transport.specs.Kept.{IsKept, IsLive};
@@ -293,6 +294,13 @@ impl<'c> Connection<'c> {
             → is_payload_type (message_type payload.now) ≡ false
             → (result ≡ Err Inconsistent) × (self.new ≡ self.old) × (parts.new ≡ parts.old) }
         ensures sent { OnOk result (Submitted nothing_said (standing_of self.old) payload.now (standing_of self.new)) }
+        ensures drawn { is_outside (standing_of self.old).state.stands ≡ true → OnOk result
+            (GoesNext (standing_of self.old).output (packet_with (standing_of self.old).state.writing payload.now
+            (R.stream parts.old.rng)) (standing_of self.new).output) }
+        ensures leaves { self.old.failed ≡ false → is_good_payload payload.now ≡ true → OnErr result
+            (((standing_of self.new).state.records ≡ (standing_of self.old).state.records)
+            × AtMostNext (standing_of self.old).output (packet_with (standing_of self.old).state.writing payload.now
+            (R.stream parts.old.rng)) (standing_of self.new).output) }
         ensures memory { self.old.failed ≡ false → is_good_payload payload.now ≡ true
             → OnErr result ((result ≡ Err Memory) × Breaks (standing_of self.old) (standing_of self.new)) }
         ensures parts { (parts.new.agreement ≡ parts.old.agreement) × (parts.new.hosts ≡ parts.old.hosts)
@@ -322,6 +330,12 @@ impl<'c> Connection<'c> {
         ensures dead { self.old.failed ≡ true → (result ≡ Err Disconnect) × (self.new ≡ self.old)
             × (parts.new ≡ parts.old) }
         ensures begun { OnOk result (Rekeyed nothing_said (standing_of self.old) (standing_of self.new)) }
+        ensures drawn { is_outside (standing_of self.old).state.stands ≡ true → OnOk result
+            ((standing_of self.new).output ≡ (standing_of self.old).output ++ kexinit_packet (standing_of self.old).side
+            (standing_of self.old).config (standing_of self.old).state.writing (R.stream parts.old.rng)) }
+        ensures leaves { self.old.failed ≡ false → OnErr result
+            (((standing_of self.new).state.records ≡ (standing_of self.old).state.records)
+            × ((standing_of self.new).output ≡ (standing_of self.old).output)) }
         ensures inside { self.old.failed ≡ false → is_outside (standing_of self.old).state.stands ≡ false
             → (result ≡ Ok tt) × (self.new ≡ self.old) × (parts.new ≡ parts.old) }
         ensures memory { self.old.failed ≡ false → OnErr result ((result ≡ Err Memory) × Breaks (standing_of self.old)

@@ -11,3 +11,4 @@ mod transport;
 pub use crate::config::config_fault;
 pub use crate::transport::Transport;
 pub use ssh_kex::{Config, FinishedExchange};
+pub use ssh_rules::link::ExchangeList;

@@ -1,11 +1,12 @@
 //! The machine of an exchange, of either side.
 
-ghost use Rattle.std.specs.Prelude.{◌≡◌, ◌+◌, ◌≤◌, ◌<◌, ◌^◌, [], Some, IfErr, IfOk, OnErr, OnOk, length, is_some};
+ghost use Rattle.std.specs.Prelude.{◌≡◌, ◌++◌, ◌+◌, ◌≤◌, ◌<◌, ◌^◌, [], Some, IfErr, IfOk, OnErr, OnOk, length, is_some};
 ghost use Rattle.ssh_kex.specs.Refusals.{IsCreated};
 ghost use Rattle.ssh_kex.specs.Stages.{Created, is_strict, names_of, has_ignored};
 ghost use Rattle.ssh_kex.specs.Stepping.{Progresses, PutsFront, RefusesStep, asks_agreement, asks_groups, asks_hosts, next_of};
 ghost use Rattle.ssh_packet.specs.Sealing.{Item};
 ghost use Rattle.ssh_packet.specs.Writing.{SameButRoom};
+ghost use Rattle.ssh_transport.specs.Drawing.{kexinit_packet, writing_at};
 ghost use Rattle.ssh_transport.specs.Kexinits.{SendsKexinit, setting_between};
 ghost use Rattle.ssh_transport.specs.Usable.{IsUsable};
 ghost use Rattle.ssh_wire.specs.declared.error.Error.TheVariants.{Memory};
@@ -88,6 +89,8 @@ impl<'c> SessionKex<'c> {
         ensures sent { OnOk result ((item : Item) × SendsKexinit self.old.setting.side self.old.setting.config
             output.old item output.new
             × (self.new ≡ record self.old { stage = Created item.payload })) }
+        ensures drawn { OnOk result (output.new.output ≡ output.old.output ++ kexinit_packet self.old.setting.side
+            self.old.setting.config (writing_at output.old) (R.stream rng.old)) }
         ensures unchanged { OnErr result ((self.new ≡ self.old) × SameButRoom output.old output.new) }
         ensures err { IfErr result (λ e. e ≡ Memory) }
     {
@@ -165,6 +168,8 @@ fn client_kexinit<'c, R: Rng>(
     ensures sent { OnOk result ((item : Item) × SendsKexinit kex.old.setting.side kex.old.setting.config output.old item
         output.new
         × (kex.new ≡ record kex.old { stage = Created item.payload })) }
+    ensures drawn { OnOk result (output.new.output ≡ output.old.output ++ kexinit_packet kex.old.setting.side
+        kex.old.setting.config (writing_at output.old) (R.stream rng.old)) }
     ensures unchanged { OnErr result ((kex.new ≡ kex.old) × SameButRoom output.old output.new) }
     ensures err { IfErr result (λ e. e ≡ Memory) }
 {
@@ -181,6 +186,8 @@ fn server_kexinit<'c, R: Rng>(
     ensures sent { OnOk result ((item : Item) × SendsKexinit kex.old.setting.side kex.old.setting.config output.old item
         output.new
         × (kex.new ≡ record kex.old { stage = Created item.payload })) }
+    ensures drawn { OnOk result (output.new.output ≡ output.old.output ++ kexinit_packet kex.old.setting.side
+        kex.old.setting.config (writing_at output.old) (R.stream rng.old)) }
     ensures unchanged { OnErr result ((kex.new ≡ kex.old) × SameButRoom output.old output.new) }
     ensures err { IfErr result (λ e. e ≡ Memory) }
 {

@@ -1,9 +1,10 @@
 //! What a side says: its version line, its messages of exchanges, the payloads that it seals or holds.
 
-ghost use Rattle.std.specs.Prelude.{◌≡◌, [], ◌+◌, ◌<◌, ◌≤◌, ◌-◌, if◌then◌else◌, ◌^◌, ◌||◌, ◌&&◌, ◌⊎◌, ℕ, nat_le, not, List, Some, Ok, Err, true, false, IfErr, IfOk, IfSome, OnErr, OnOk, length, take};
+ghost use Rattle.std.specs.Prelude.{◌≡◌, [], ◌++◌, ◌+◌, ◌<◌, ◌≤◌, ◌-◌, if◌then◌else◌, ◌^◌, ◌||◌, ◌&&◌, ◌⊎◌, ℕ, nat_le, not, List, Some, Ok, Err, true, false, IfErr, IfOk, IfSome, OnErr, OnOk, length, take};
 ghost use Rattle.ssh_rules.specs.Asking.{AsksForMessage, AsksForType};
 ghost use Rattle.ssh_rules.specs.MessageTypes.{is_payload_type, is_violation};
 ghost use Rattle.ssh_transport.specs.Asking.{asks_trust};
+ghost use Rattle.ssh_transport.specs.Drawing.{AtMostNext, GoesNext, kexinit_packet, packet_with, writing_at};
 ghost use Rattle.ssh_transport.specs.Stopping.{IsDistrusted};
 ghost use Rattle.ssh_transport.specs.declared.session.Handled.TheVariants.{Delivers};
 ghost use Rattle.ssh_kex.specs.Parts.{KeepsHosts};
@@ -143,6 +144,8 @@ impl<'c> Session<'c> {
     fn open<R: Rng>(&mut self, rng: &mut R) -> Result<SessionKex<'c>, Error>
         requires { CanBegin self.old }
         ensures opens { IfOk result (λ k. Opens self.old k self.new) }
+        ensures drawn { OnOk result (self.new.writer.output ≡ self.old.writer.output ++ kexinit_packet self.old.side
+            self.old.config.now (writing_at self.old.writer) (R.stream rng.old)) }
         ensures begins { CanBegin self.new }
         ensures line { self.new.line ≡ self.old.line }
         ensures unsaid { OnErr result (IsUnsaid self.old self.new) }
@@ -160,6 +163,8 @@ impl<'c> Session<'c> {
     pub(crate) fn begin<R: Rng>(&mut self, rng: &mut R) -> Result<(), Error>
         requires { CanBegin self.old }
         ensures begun { OnOk result (Begins self.old self.new) }
+        ensures drawn { OnOk result (self.new.writer.output ≡ self.old.writer.output ++ kexinit_packet self.old.side
+            self.old.config.now (writing_at self.old.writer) (R.stream rng.old)) }
         ensures begins { CanBegin self.new }
         ensures line { self.new.line ≡ self.old.line }
         ensures unsaid { OnErr result (IsUnsaid self.old self.new) }
@@ -197,6 +202,12 @@ impl<'c> Session<'c> {
         requires opened { IsOpen self.old }
         ensures opened { OnOk result (IsOpen self.new) }
         ensures sent { OnOk result (Submits self.old read payload.now self.new) }
+        ensures drawn { is_outside (stands_of self.old.finished.items self.old.kex) ≡ true → OnOk result
+            (GoesNext self.old.writer.output (packet_with (writing_at self.old.writer) payload.now (R.stream rng.old))
+            self.new.writer.output) }
+        ensures leaves { OnErr result ((self.new.finished.items ≡ self.old.finished.items)
+            × AtMostNext self.old.writer.output (packet_with (writing_at self.old.writer) payload.now
+            (R.stream rng.old)) self.new.writer.output) }
         ensures fixed { IsFixed self.old self.new }
         ensures begins { CanBegin self.new }
         ensures err { IfErr result (λ e. e ≡ Memory) }

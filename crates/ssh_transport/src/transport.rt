@@ -1,7 +1,7 @@
 //! One side of a connection, driven by the bytes that its caller carries.
 
 ghost use Rattle.std.specs.Borrow.{sem};
-ghost use Rattle.std.specs.Prelude.{◌≡◌, ◌⊎◌, ◌≤◌, ◌-◌, true, false, [], drop, take, length, not, IfErr, IfOk, IfSome, IsTrue, OnErr, OnOk, Ok, Err, Some};
+ghost use Rattle.std.specs.Prelude.{◌≡◌, ◌⊎◌, ◌≤◌, ◌++◌, ◌-◌, true, false, [], drop, take, length, not, IfErr, IfOk, IfSome, IsTrue, OnErr, OnOk, Ok, Err, Some};
 ghost use Rattle.std.specs.List.{slice_get};
 ghost use Rattle.ssh_rules.specs.Asking.{AsksFew, AsksWithin, RefusesAsking};
 ghost use Rattle.ssh_rules.specs.Refusing.{RefusesPiece, RefusesPieceAsking};
@@ -46,6 +46,7 @@ impl<'c> Model for Transport<'c> {
 impl<'c> Transport<'c> {
     ghost use Rattle.ssh_rules.specs.Polling.{MayWant};
     ghost use Rattle.ssh_rules.specs.Standing.{IsNew, Rekeyed, Submitted, TakesInput, input_room, is_outside, most_unfinished, unfinished, with_input};
+    ghost use Rattle.ssh_transport.specs.Drawing.{AtMostNext, GoesNext, kexinit_packet, packet_with};
     ghost use Rattle.ssh_transport.specs.Lending.{IsRefusedWith, LendsPoll};
     ghost use Rattle.ssh_transport.specs.Submitting.{Breaks};
 
@@ -178,7 +179,8 @@ impl<'c> Transport<'c> {
     /// 1 to 262157 bytes, and its type is 5 to 7 or at least 50.
     ///
     /// Disconnect after a refusal; PacketSize with another number of bytes; Inconsistent with another type; these
-    /// change nothing. Memory, which is the end of the transport.
+    /// change nothing. Memory, which is the end of the transport: output and finished exchanges stay, and at most the
+    /// payload's packet stands behind the output.
     pub fn submit<A: Agreement, H: HostKeys, G: GroupLookup, R: Rng>(
         &mut self,
         parts: &mut Parts<A, H, G, R>,
@@ -193,6 +195,11 @@ impl<'c> Transport<'c> {
             → (result ≡ Err Inconsistent) × (self.new ≡ self.old) × (parts.new ≡ parts.old) }
         ensures sent { OnOk result (Submitted (⟦<Parts<A, H, G, R> as Handed>⟧.says self.old.config parts.old) self.old
             payload.now self.new) }
+        ensures drawn { is_outside self.old.state.stands ≡ true → OnOk result (GoesNext self.old.output
+            (packet_with self.old.state.writing payload.now (R.stream parts.old.rng)) self.new.output) }
+        ensures leaves { self.old.failed ≡ false → is_good_payload payload.now ≡ true → OnErr result
+            ((self.new.state.records ≡ self.old.state.records) × AtMostNext self.old.output
+            (packet_with self.old.state.writing payload.now (R.stream parts.old.rng)) self.new.output) }
         ensures memory { self.old.failed ≡ false → is_good_payload payload.now ≡ true
             → OnErr result ((result ≡ Err Memory) × Breaks self.old self.new) }
         ensures parts { (parts.new.agreement ≡ parts.old.agreement) × (parts.new.hosts ≡ parts.old.hosts)
@@ -202,7 +209,7 @@ impl<'c> Transport<'c> {
     }
 
     /// Begins an exchange outside one; inside one nothing changes. Disconnect after a refusal; Memory, which is the end
-    /// of the transport.
+    /// of the transport: output and finished exchanges stay.
     pub fn rekey<A: Agreement, H: HostKeys, G: GroupLookup, R: Rng>(
         &mut self,
         parts: &mut Parts<A, H, G, R>,
@@ -211,6 +218,11 @@ impl<'c> Transport<'c> {
             × (parts.new ≡ parts.old) }
         ensures begun { OnOk result (Rekeyed (⟦<Parts<A, H, G, R> as Handed>⟧.says self.old.config parts.old) self.old
             self.new) }
+        ensures drawn { is_outside self.old.state.stands ≡ true → OnOk result (self.new.output
+            ≡ self.old.output ++ kexinit_packet self.old.side self.old.config self.old.state.writing
+            (R.stream parts.old.rng)) }
+        ensures leaves { self.old.failed ≡ false → OnErr result
+            ((self.new.state.records ≡ self.old.state.records) × (self.new.output ≡ self.old.output)) }
         ensures inside { self.old.failed ≡ false → is_outside self.old.state.stands ≡ false
             → (result ≡ Ok tt) × (self.new ≡ self.old) × (parts.new ≡ parts.old) }
         ensures memory { self.old.failed ≡ false → OnErr result ((result ≡ Err Memory) × Breaks self.old self.new) }

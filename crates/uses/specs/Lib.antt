@@ -3,3 +3,4 @@ pub mod OneGroup
 pub mod OneGroupLaws
 pub mod Streams
 pub mod FedAlike
+pub mod TwoSides

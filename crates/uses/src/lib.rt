@@ -9,6 +9,7 @@ mod own_part;
 mod running;
 mod sealing;
 mod streams;
+mod two_sides;
 
 pub use crate::agreeing::{Secrets, agree, agree_in_group};
 pub use crate::attacked::attack_twice;
@@ -18,3 +19,4 @@ pub use crate::own_part::OneGroup;
 pub use crate::running::{own_tag_accepted, there_and_back};
 pub use crate::sealing::{carry, carry_three};
 pub use crate::streams::read_stream;
+pub use crate::two_sides::hand_over;

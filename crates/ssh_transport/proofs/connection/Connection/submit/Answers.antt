@@ -1,6 +1,8 @@
-use Rattle.std.proofs.Common.{ℕ, sym, subst}
+use Rattle.std.proofs.Common.{ℕ, List, sym, subst}
 use Rattle.ssh_transport.specs.Saying.{IsSettled}
 use Rattle.ssh_transport.specs.States.{standing_of}
+use Rattle.ssh_transport.specs.Drawing.{AtMostNext, GoesNext, packet_with, writing_at}
+use Rattle.ssh_transport.proofs.Drawing.{drawn_answer, left_answer}
 use Rattle.ssh_transport.proofs.Opened.{on_both}
 use Rattle.ssh_transport.proofs.Submitting.{broken_answer, kept_behind, sent_answer}
 use Rattle.ssh_transport.proofs.connection.Connection.submit.Goals as goal
@@ -16,3 +18,9 @@ returns-clause-sent g c = sent_answer c.args.self.now c.fail_on.new.self c.submi
 
 pub returns-clause-memory : goal.returns-clause-memory
 returns-clause-memory g c = λ f v. broken_answer c.args.self.now c.submit-sent.new.self (standing_of c.fail_on.new.self) c.submit-sent.result c.fail_on.result c.submit-sent.ensures.fixed.0 c.submit-sent.ensures.fixed.1 c.fail_on.ensures.result c.submit-sent.ensures.err c.fail_on.ensures.breaks
+
+pub returns-clause-drawn : goal.returns-clause-drawn
+returns-clause-drawn g c = λ o. drawn_answer c.args.self.now c.fail_on.new.self c.submit-sent.new.self (GoesNext c.args.self.now.session.writer.output _) c.submit-sent.result c.fail_on.result c.fail_on.ensures.result c.fail_on.ensures.same (c.submit-sent.ensures.drawn o)
+
+pub returns-clause-leaves : goal.returns-clause-leaves
+returns-clause-leaves g c = λ f v. left_answer c.args.self.now c.fail_on.new.self c.submit-sent.new.self (λ (a b : List ℕ). AtMostNext a _ b) c.submit-sent.result c.fail_on.result c.fail_on.ensures.result c.fail_on.ensures.rests c.submit-sent.ensures.leaves

@@ -1,4 +1,6 @@
 use Rattle.std.proofs.Common.{List, ℕ, [], ◌∷◌, ◌++◌, refl, ap, ◌∙◌}
+use Rattle.ssh_transport.specs.Drawing.{writing_at}
+use Rattle.ssh_transport.proofs.Drawing.{on_refusal, sealed_alone, sealed_next}
 use Rattle.ssh_transport.proofs.Saying.{flipped, flipped_true, good_some, on_ok, outside_is}
 use Rattle.ssh_transport.proofs.Submitting.{submits_inside, submits_outside}
 use Rattle.ssh_transport.proofs.session.Session.submit.Goals as goal
@@ -15,3 +17,12 @@ returns-clause-sent g c =
     (outside_is _ (flipped c.is_inside.result _ c.is_inside.ensures c.if-is_inside.false)) c.requires.settled c.requires.payload
     (c.in_ok-packet_raw.ensures.admissible (good_some c.args.payload.now c.requires.payload)) (c.in_ok-packet_raw.ensures.padded (good_some c.args.payload.now c.requires.payload))
     c.in_ok-packet_raw.ensures.sent refl h) c.go_on.ensures.ok
+
+pub returns-clause-drawn : goal.returns-clause-drawn
+returns-clause-drawn g c = λ o. on_ok c.go_on.result _ _ (λ h. sealed_next c.args.self.now (record c.args.self.now { writer = c.packet_raw.new.self }) c.go_on.new.self c.args.read c.args.payload.now _ (good_some c.args.payload.now c.requires.payload) c.in_ok-packet_raw.ensures.sent h) c.go_on.ensures.ok
+
+pub returns-clause-leaves : goal.returns-clause-leaves
+returns-clause-leaves g c =
+    let o = outside_is _ (flipped c.is_inside.result _ c.is_inside.ensures c.if-is_inside.false) in
+    on_refusal c.go_on.result _ _ (λ w. sealed_alone c.args.self.now (record c.args.self.now { writer = c.packet_raw.new.self }) c.go_on.new.self c.args.read c.args.payload.now _ (good_some c.args.payload.now c.requires.payload) c.in_ok-packet_raw.ensures.sent refl w)
+    (c.go_on.ensures.due (λ _. (c.requires.settled (writing_at c.args.self.now.writer)).sent o))

@@ -1,0 +1,78 @@
+-- What a side sends of itself is padded, and its cookie drawn, by what the generator gives next.
+use Rattle.std.proofs.Common.{◌≡◌, ℕ, ◌<◌, ◌++◌, List, [], ◌∷◌, length, Some, None, Option, Bool, true, Result, Ok, Err, OnOk, OnErr, refl, sym, ap, ◌∙◌, subst, arith, append-nil, inl, inr}
+use Rattle.std.specs.Borrow.{Bor}
+use Rattle.rand_core.specs.Stream.{Stream}
+use Rattle.ssh_wire.specs.declared.error.Error.{Error}
+use Rattle.ssh_wire.specs.declared.side.Side.{Side}
+use Rattle.ssh_wire.specs.declared.side.Side.TheVariants.{Client, Server}
+use Rattle.ssh_negotiate.specs.Reading.{behind_cookie, kexinit_drawn}
+use Rattle.ssh_negotiate.specs.declared.kex.KexCause.{KexCause}
+use Rattle.ssh_packet.specs.Sealing.{IsAdmissible, item_of}
+use Rattle.ssh_packet.specs.Writing.{SameButRoom, Sends, Writer}
+use Rattle.ssh_kex.specs.Stages.{Machine}
+use Rattle.ssh_kex.specs.declared.config.Config.{Config}
+use Rattle.ssh_transport.specs.Drawing.{AtMostNext, GoesNext, kexinit_packet, packet_with, writing_at}
+use Rattle.ssh_transport.specs.Kexinits.{setting_between}
+use Rattle.ssh_transport.specs.Saying.{GoesOn, IsUnsaid}
+use Rattle.ssh_transport.specs.States.{standing_of}
+use Rattle.ssh_transport.specs.Stopping.{IsAsBefore, WantsKeys}
+use Rattle.ssh_transport.specs.declared.connection.Connection.{Connection}
+use Rattle.ssh_transport.specs.declared.session.Session.{Session}
+use Rattle.ssh_transport.proofs.Kexinits.{between_config, between_side, sends_item}
+
+-- a payload that isn't empty goes behind the output
+sent_next : (w w' : Writer) (payload : List ℕ) (stream : Stream) → 0 < length payload → Sends w payload stream w' → w'.output ≡ w.output ++ packet_with (writing_at w) payload stream
+sent_next w w' payload stream l h = ap (λ (x : Writer). x.output) (sends_item w w' payload stream l h)
+
+-- ---- a KEXINIT
+
+pub client_drawn : (side : Side) (config : Config) (w w' : Writer) (stream : Stream) (answer : Result (Unit {0}) Error) → side ≡ Client
+    → OnOk answer (Sends w (kexinit_drawn config.preferred None stream) (behind_cookie stream) w')
+    → OnOk answer (IsAdmissible w.sealing (item_of w.sealing (kexinit_drawn config.preferred None stream) (behind_cookie stream)))
+    → OnOk answer (w'.output ≡ w.output ++ kexinit_packet side config (writing_at w) stream)
+client_drawn side config w w' stream (Ok u) e h a = subst (λ (x : Side). w'.output ≡ w.output ++ kexinit_packet x config (writing_at w) stream) (sym e) (sent_next w w' (kexinit_drawn config.preferred None stream) (behind_cookie stream) a.payload h)
+client_drawn side config w w' stream (Err x) e h a = tt
+
+pub server_drawn : (side : Side) (config : Config) (w w' : Writer) (stream : Stream) (answer : Result (Unit {0}) Error) → side ≡ Server
+    → OnOk answer (Sends w (kexinit_drawn config.preferred (Some config.host) stream) (behind_cookie stream) w')
+    → OnOk answer (IsAdmissible w.sealing (item_of w.sealing (kexinit_drawn config.preferred (Some config.host) stream) (behind_cookie stream)))
+    → OnOk answer (w'.output ≡ w.output ++ kexinit_packet side config (writing_at w) stream)
+server_drawn side config w w' stream (Ok u) e h a = subst (λ (x : Side). w'.output ≡ w.output ++ kexinit_packet x config (writing_at w) stream) (sym e) (sent_next w w' (kexinit_drawn config.preferred (Some config.host) stream) (behind_cookie stream) a.payload h)
+server_drawn side config w w' stream (Err x) e h a = tt
+
+-- that of the machine which a side makes
+pub opened_drawn : (s : Session) (m : Machine) (w' : Writer) (cause : KexCause) (peer : List ℕ) (stream : Stream) → m.setting ≡ setting_between s.side s.config.now peer cause → w'.output ≡ s.writer.output ++ kexinit_packet m.setting.side m.setting.config (writing_at s.writer) stream → w'.output ≡ s.writer.output ++ kexinit_packet s.side s.config.now (writing_at s.writer) stream
+opened_drawn s m w' cause peer stream e h =
+    subst (λ (x : Config). w'.output ≡ s.writer.output ++ kexinit_packet s.side x (writing_at s.writer) stream) (ap (λ x. x.config) e ∙ between_config s.side s.config.now peer cause)
+    (subst (λ (x : Side). w'.output ≡ s.writer.output ++ kexinit_packet x m.setting.config (writing_at s.writer) stream) (ap (λ x. x.side) e ∙ between_side s.side s.config.now peer cause) h)
+
+-- ---- a payload
+
+pub sealed_next : (s s1 s' : Session) (read : ℕ) (p : List ℕ) (stream : Stream) → 0 < length p → Sends s.writer p stream s1.writer → GoesOn s1 read s' → GoesNext s.writer.output (packet_with (writing_at s.writer) p stream) s'.writer.output
+sealed_next s s1 s' read p stream l h g = (Rattle.ssh_rules.specs.Log.sent_bytes s1.side (record { sealing = s1.writer.sealing; number = s1.writer.number }) g.events, g.writes.output ∙ ap (λ (t : List ℕ). t ++ Rattle.ssh_rules.specs.Log.sent_bytes s1.side (record { sealing = s1.writer.sealing; number = s1.writer.number }) g.events) (sent_next s.writer s1.writer p stream l h))
+
+-- outside an exchange nothing is held, so all that memory was wanting for is the exchange that a limit begins
+pub sealed_alone : (s s1 s' : Session) (read : ℕ) (p : List ℕ) (stream : Stream) → 0 < length p → Sends s.writer p stream s1.writer → s1 ≡ record s { writer = s1.writer } → WantsKeys s1 read s'
+    → (s'.finished.items ≡ s.finished.items) × AtMostNext s.writer.output (packet_with (writing_at s.writer) p stream) s'.writer.output
+sealed_alone s s1 s' read p stream l h e w = (w.still.records ∙ ap (λ (x : Session). x.finished.items) e, inr (w.still.output ∙ sent_next s.writer s1.writer p stream l h))
+
+-- nothing was said
+pub unsaid_left : (s s' : Session) → IsUnsaid s s' → (s'.finished.items ≡ s.finished.items) × (s'.writer.output ≡ s.writer.output)
+unsaid_left s s' e = (ap (λ (x : Session). x.finished.items) e, ap (λ (x : Session). x.writer.output) e)
+
+pub on_refusal : {T : Type 0} (answer : Result T Error) (P Q : Type 0) → (P → Q) → OnErr answer P → OnErr answer Q
+on_refusal {T} (Ok x) P Q f h = tt
+on_refusal {T} (Err e) P Q f h = f h
+
+-- ---- as contracts see it
+
+-- what a call left of the session is left of the connection
+pub left_answer : {T : Type 0} (c c' : Connection) (s' : Session) (P : List ℕ → List ℕ → Type 0) (answer done : Result T Error) → done ≡ answer → OnErr answer (IsAsBefore s' c'.session) → OnErr answer ((s'.finished.items ≡ c.session.finished.items) × P c.session.writer.output s'.writer.output)
+    → OnErr done (((standing_of c').state.records ≡ (standing_of c).state.records) × P (standing_of c).output (standing_of c').output)
+left_answer {T} c c' s' P (Ok u) done d r h = subst (λ (y : Result T Error). OnErr y (((standing_of c').state.records ≡ (standing_of c).state.records) × P (standing_of c).output (standing_of c').output)) (sym d) tt
+left_answer {T} c c' s' P (Err x) done d r h = subst (λ (y : Result T Error). OnErr y (((standing_of c').state.records ≡ (standing_of c).state.records) × P (standing_of c).output (standing_of c').output)) (sym d)
+    (r.records ∙ h.0, subst (λ (o : List ℕ). P c.session.writer.output o) (sym r.output) h.1)
+
+pub drawn_answer : {T : Type 0} (c c' : Connection) (s' : Session) (P : List ℕ → Type 0) (answer done : Result T Error) → done ≡ answer → OnOk answer (c' ≡ record c { session = s' }) → OnOk answer (P s'.writer.output) → OnOk done (P (standing_of c').output)
+drawn_answer {T} c c' s' P (Ok u) done d e h = subst (λ (y : Result T Error). OnOk y (P (standing_of c').output)) (sym d) (subst (λ (x : Connection). P x.session.writer.output) (sym e) h)
+drawn_answer {T} c c' s' P (Err x) done d e h = subst (λ (y : Result T Error). OnOk y (P (standing_of c').output)) (sym d) tt
