@@ -6,7 +6,8 @@
 set -u
 cd "$(dirname "$0")/.." || exit 1
 if [ $# = 0 ]; then
-  set -- $(find crates -path '*/planted/*.edit' | cut -d/ -f2 | sort -u)
+  mapfile -t names < <(find crates -path '*/planted/*.edit' | cut -d/ -f2 | sort -u)
+  set -- "${names[@]}"
 fi
 copy=$(mktemp -d)
 trap 'rm -rf "$copy"' EXIT
