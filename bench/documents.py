@@ -4,8 +4,8 @@
 Checks what the documents show. Each name of docs/DEFINITIONS.md is defined in a file that its row names, below the crate
 of its heading, and each definition file of each crate is named in some row. Each piece of code of README.md and
 docs/LIBRARY.md stands in a source file, and the first script and report of README.md are those of examples/clear. Each link
-of a page leads to a file, each page of docs/ is in its index, and each example in its own. Prints what isn't so, and ends
-with status 1 then.
+of a page leads to a file, each page of docs/ is in its index, and each example in its own. Each row of docs/PROTOCOL.md names
+definitions of its crates, functions of some source, and files of rows. Prints what isn't so, and ends with status 1 then.
 """
 import pathlib
 import re
@@ -75,8 +75,27 @@ def faulty_links():
     yield from (f"examples/README.md: {script.name} is missing" for script in TOP.glob("examples/*.txt") if f"({script.name})" not in index)
 
 
+def faulty_protocol():
+    known = {}
+    for path in TOP.glob("crates/*/specs/*.antt"):
+        known.setdefault(path.parent.parent.name, set()).update(defined(path))
+    sources = "\n".join(path.read_text() for path in TOP.glob("crates/*/src/*.rt"))
+    items = set(re.findall(r"\b(?:fn|struct|trait|enum|ensures\*?) (\w+)", sources))
+    for line in (TOP / "docs/PROTOCOL.md").read_text().split("\n"):
+        cells = [cell.strip() for cell in line.strip("|").split("|")]
+        if len(cells) != 5 or "`" not in line:
+            continue
+        for crate, names in re.findall(r"`(\w+)`: ([^;]*)", cells[2]):
+            there = known.get(crate, set())
+            yield from (f"docs/PROTOCOL.md: {crate} has no {name}" for name in re.findall(r"`([^`]+)`", names) if name not in there)
+        words = (word.split("::")[-1] for word in re.findall(r"`([^`]+)`", cells[3]))
+        yield from (f"docs/PROTOCOL.md: no source has {word}" for word in words if word not in items)
+        files = re.findall(r"`([^`]+)`", cells[4])
+        yield from (f"docs/PROTOCOL.md: there is no {file}" for file in files if not (TOP / "vectors" / file).exists())
+
+
 def main():
-    faults = [*faulty_definitions(), *faulty_snippets(), *faulty_links()]
+    faults = [*faulty_definitions(), *faulty_snippets(), *faulty_links(), *faulty_protocol()]
     print("\n".join(faults) if faults else "documents: what they show stands where they say")
     sys.exit(1 if faults else 0)
 
