@@ -25,7 +25,7 @@ use Rattle.ssh_transport.specs.Kexinits.{SendsKexinit, setting_between}
 use Rattle.ssh_transport.specs.Saying.{AreGood, Begins, GoesOn, GoesPart, IsSettled, IsUnsaid, OnlyWrites, Opens, Writes, nothing_said}
 use Rattle.ssh_transport.specs.States.{heard_of, stands_of, state_at}
 use Rattle.ssh_transport.specs.declared.session.Session.{Session}
-use Rattle.ssh_transport.proofs.Kexinits.{between_config, between_side}
+use Rattle.ssh_transport.proofs.Kexinits.{between_config, between_side, sends_item}
 
 -- ---- events that only write
 

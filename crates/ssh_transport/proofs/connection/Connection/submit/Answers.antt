@@ -23,4 +23,4 @@ pub returns-clause-drawn : goal.returns-clause-drawn
 returns-clause-drawn g c = λ o. drawn_answer c.args.self.now c.fail_on.new.self c.submit-sent.new.self (GoesNext c.args.self.now.session.writer.output _) c.submit-sent.result c.fail_on.result c.fail_on.ensures.result c.fail_on.ensures.same (c.submit-sent.ensures.drawn o)
 
 pub returns-clause-leaves : goal.returns-clause-leaves
-returns-clause-leaves g c = λ f v. left_answer c.args.self.now c.fail_on.new.self c.submit-sent.new.self (λ (a b : List ℕ). AtMostNext a _ b) c.submit-sent.result c.fail_on.result c.fail_on.ensures.result c.fail_on.ensures.rests c.submit-sent.ensures.leaves
+returns-clause-leaves g c = λ f v. left_answer c.args.self.now c.fail_on.new.self c.submit-sent.new.self (λ (a b : List ℕ). AtMostNext a (packet_with (writing_at c.args.self.now.session.writer) c.args.payload.now (g.R.Rng.stream c.args.parts.now.rng)) b) c.submit-sent.result c.fail_on.result c.fail_on.ensures.result c.fail_on.ensures.rests c.submit-sent.ensures.leaves
