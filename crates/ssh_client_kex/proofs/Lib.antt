@@ -6,3 +6,4 @@ mod ClientRefusals
 mod Replied
 mod ClientAnswers
 mod Sent
+mod Agreed

@@ -1,3 +1,4 @@
 pub mod Reading
 pub mod ClientViews
 pub mod ClientRows
+pub mod Agreed

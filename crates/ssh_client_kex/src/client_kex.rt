@@ -12,6 +12,7 @@ ghost use Rattle.ssh_wire.specs.Lines.{id_text};
 ghost use Rattle.ssh_wire.specs.Outside.{Rose};
 ghost use Rattle.ssh_wire.specs.declared.error.Error.TheVariants.{Memory};
 ghost use Rattle.ssh_wire.specs.declared.side.Side.TheVariants.{Client as client_side};
+ghost use Rattle.ssh_client_kex.specs.Agreed.{AgreesFirst};
 ghost use Rattle.ssh_client_kex.specs.ClientRows.{AnswersGroup, AnswersKexinit, OpensWithValue, SendsOfGroup, RefusesGroup, RefusesKexinit, RefusesValue, SendsValue};
 ghost use Rattle.ssh_client_kex.specs.ClientViews.{behind_guess, client_machine, drops_guess, ClientHolds, HasNoValues};
 ghost use Rattle.ssh_client_kex.specs.declared.client_kex.ClientState.TheVariants.{AwaitsGroup as awaits_group};
@@ -21,7 +22,8 @@ ghost use Rattle.ssh_kex.specs.Parts.{IsSmall, KeepsAgreement, Setup};
 ghost use Rattle.ssh_kex.specs.Fields.{IsInside, IsOutside};
 ghost use Rattle.ssh_kex.specs.Setting.{offers_of};
 ghost use Rattle.ssh_kex.specs.Stages.{Created as created, has_ignored, names_of, is_strict};
-ghost use Rattle.ssh_kex.specs.Stepping.{at_kexinit, asks_agreement, asks_hosts, asks_groups, next_of, Progresses, RefusesStep, Puts, PutsFront};
+ghost use Rattle.ssh_kex.specs.Stepping.{at_kexinit, asks_agreement, asks_hosts, asks_groups, next_of, Progresses, RefusesStep, Puts};
+ghost use Rattle.ssh_kex.specs.Unasked.{asks_nobody, has_front, is_early};
 ghost use Rattle.ssh_kex.specs.Views.{HasShortSides};
 
 use crate::client_reply::take_reply;
@@ -114,7 +116,8 @@ impl<'c> ClientKex<'c> {
     }
 
     /// One message of the peer. What each stage takes, refuses and writes is said of the stages; a wrong guess is
-    /// dropped. A refusal leaves the output as it was.
+    /// dropped. A refusal leaves the output as it was. No part is asked for a message that is refused as it is read;
+    /// the agreement is asked before a reply's signature is read.
     pub fn step<A: Agreement, H: HostKeys, G: GroupLookup, R: Rng>(
         self,
         parts: &mut Parts<A, H, G, R>,
@@ -133,8 +136,13 @@ impl<'c> ClientKex<'c> {
         ensures causes { IfErr result (λ e. RefusesStep (⟦<Parts<A, H, G, R> as Handed>⟧.says self.entry.setting.config
             parts.old)
             (⟦<Parts<A, H, G, R> as Handed>⟧.denies parts.old parts.new) self.entry input.entry e) }
-        ensures front { OnErr result (PutsFront self.entry.stage output.old output.new) }
-        ensures unchanged { IfErr result (λ e. (e ≡ Memory → ⊥) → SameButRoom output.old output.new) }
+        ensures unchanged { OnErr result (SameButRoom output.old output.new) }
+        ensures unasked_agreement { asks_nobody (has_front self.entry.stage input.entry) result ≡ true
+            → parts.new.agreement ≡ parts.old.agreement }
+        ensures unasked_hosts { asks_nobody false result ≡ true → parts.new.hosts ≡ parts.old.hosts }
+        ensures unasked_groups { parts.new.groups ≡ parts.old.groups }
+        ensures agreed { IfErr result (AgreesFirst (⟦<Parts<A, H, G, R> as Handed>⟧.says
+            self.entry.setting.config parts.old) self.entry.stage input.entry) }
     {
         let Some(incoming) = input else {
             return Err(Error::KexInit);
@@ -333,6 +341,7 @@ fn send_value<A: Agreement, R: Rng>(
         → IsSmall v) (Rose (A.refusals agreement.old) (A.refusals agreement.new)
         × ((s : Setup) → A.obliging agreement.old s → A.offered agreement.old algorithm.old.name ≡ true → ⊥))) }
     ensures unchanged { OnErr result (SameButRoom output.old output.new) }
+    ensures late { IfErr result (λ e. is_early false e ≡ false) }
 {
     let mut message = Vec::new(alloc);
     if let Err(error) = algorithm.client_dh(agreement, rng, client_ephemeral, &mut message) {
@@ -412,6 +421,7 @@ fn open_with_value<'c, A: Agreement, R: Rng>(
         → IsSmall v) (Rose (A.refusals agreement.old) (A.refusals agreement.new)
         × ((s : Setup) → A.obliging agreement.old s → A.offered agreement.old names.kex ≡ true → ⊥))) }
     ensures unchanged { OnErr result (SameButRoom output.old output.new) }
+    ensures late { asks_nobody false result ≡ false }
 {
     let mut algorithm = KexAlgorithm::new(alloc, names.kex);
     let mut client_ephemeral = Blob::new(Vec::new(alloc));
@@ -465,6 +475,7 @@ fn take_kexinit<'c, A: Agreement, R: Rng>(
         × ((s : Setup) → A.obliging agreement.old s → A.offered agreement.old n ≡ true
         → ⊥)) config.now cause incoming.entry) }
     ensures unchanged { OnErr result (SameButRoom output.old output.new) }
+    ensures unasked { asks_nobody false result ≡ true → agreement.new ≡ agreement.old }
 {
     let names = match client_names(alloc, config, &cause, &incoming) {
         Ok(names) => names,
@@ -528,6 +539,7 @@ fn answer_group<'c, A: Agreement, R: Rng>(
         → IsSmall v) (Rose (A.refusals agreement.old) (A.refusals agreement.new)
         × ((s : Setup) → A.obliging agreement.old s → A.offered agreement.old names.kex ≡ true → ⊥))) }
     ensures unchanged { OnErr result (SameButRoom output.old output.new) }
+    ensures late { asks_nobody false result ≡ false }
 {
     let mut algorithm = match algorithm_of(alloc, names.kex, &group) {
         Ok(algorithm) => algorithm,
@@ -587,6 +599,7 @@ fn take_group<'c, A: Agreement, R: Rng>(
         × ((s : Setup) → A.obliging agreement.old s → A.offered agreement.old names.kex ≡ true
         → ⊥)) config.now payload.now) }
     ensures unchanged { OnErr result (SameButRoom output.old output.new) }
+    ensures unasked { asks_nobody false result ≡ true → agreement.new ≡ agreement.old }
 {
     if !has_type(payload, msg::KEX_DH_GEX_GROUP) {
         return Err(Error::KexInit);

@@ -1,17 +1,20 @@
 //! The server's reply, which a client agrees on, verifies and answers with NEWKEYS.
 
-ghost use Rattle.std.specs.Prelude.{◌≡◌, ◌⊎◌, ◌+◌, ◌≤◌, ◌^◌, ◌<◌, [], true, false, length, List, ℕ, Option, None, Some, Err, IfOk, IfErr, OnOk, OnErr};
+ghost use Rattle.std.specs.Prelude.{◌≡◌, ◌⊎◌, ◌+◌, ◌≤◌, ◌^◌, ◌<◌, [], true, false, is_ok, length, List, ℕ, Option, None, Some, Err, IfOk, IfErr, OnOk, OnErr};
 ghost use Rattle.ssh_negotiate.specs.Tables.{shape_of};
 ghost use Rattle.ssh_packet.specs.Stream.{message_type as message_type_of};
 ghost use Rattle.ssh_packet.specs.Writing.{SameButRoom};
 ghost use Rattle.ssh_wire.specs.Outside.{Rose};
 ghost use Rattle.ssh_wire.specs.declared.error.Error.TheVariants.{Memory, WrongServerSig};
+ghost use Rattle.ssh_client_kex.specs.Agreed.{MakesFirst};
 ghost use Rattle.ssh_client_kex.specs.ClientRows.{AcceptsReply, AgreesOnReply, AnswersReply, made_with, RefusesReply, RefusesToAgree};
 ghost use Rattle.ssh_client_kex.specs.ClientViews.{local_of, HasValue};
 ghost use Rattle.ssh_kex.specs.Agreeing.{IsWhole};
+ghost use Rattle.ssh_kex.specs.Fields.{fields, reply_front};
 ghost use Rattle.ssh_kex.specs.Signature.{judged, or_same};
 ghost use Rattle.ssh_kex.specs.Messages.{host_with, is_gex, reply_message};
 ghost use Rattle.ssh_kex.specs.Parts.{KeepsAgreement, KeepsHosts, Setup};
+ghost use Rattle.ssh_kex.specs.Unasked.{asks_nobody, is_early};
 ghost use Rattle.ssh_kex.specs.Views.{HasShortSides};
 
 use crate::client_kex::{ClientKex, ClientState, waits};
@@ -70,6 +73,11 @@ fn agree_on_reply<'a, A: Agreement>(
         → A.server_makes algorithm.old.name algorithm.old.group v → ⊥)) (λ l v x. (s : Setup) (public : List ℕ)
         → A.lawful agreement.old s → A.client_makes algorithm.old.name algorithm.old.group l public
         → A.agrees algorithm.old.name algorithm.old.group public v x) algorithm.old payload.now) }
+    ensures unasked { IfErr result (λ e. is_early (is_ok (reply_front (fields payload.now))) e ≡ true
+        → agreement.new ≡ agreement.old) }
+    ensures agreed { IfErr result (MakesFirst (λ v x. (s : Setup) (public : List ℕ) → A.lawful agreement.old s
+        → A.client_makes algorithm.old.name algorithm.old.group (local_of algorithm.old.local) public
+        → A.agrees algorithm.old.name algorithm.old.group public v x) payload.now) }
 {
     if !has_type(payload, reply_type(algorithm.is_dh_gex())) {
         return Err(Error::KexInit);
@@ -160,6 +168,7 @@ fn accept_reply<'c, H: HostKeys, R: Rng>(
         (made_with cause names exchange algorithm.secret reply.entry.host.now reply.entry.value.now).hash
         (judged reply.entry.signature.now) ≡ true → ⊥)))) }
     ensures unchanged { OnErr result (SameButRoom output.old output.new) }
+    ensures late { asks_nobody false result ≡ false }
 {
     exchange.server_ephemeral = Blob::copy_of(alloc, reply.value)?;
     let host = ServerHost {
@@ -223,6 +232,12 @@ pub(crate) fn take_reply<'c, A: Agreement, H: HostKeys, R: Rng>(
         (H.refused_verify hosts.new) × ((s : Setup) → H.obliging hosts.old s → H.accepts hosts.old h d g ≡ true
         → ⊥)) cause exchange names algorithm payload.now) }
     ensures unchanged { OnErr result (SameButRoom output.old output.new) }
+    ensures unasked_agreement { asks_nobody (is_ok (reply_front (fields payload.now))) result ≡ true
+        → agreement.new ≡ agreement.old }
+    ensures unasked_hosts { asks_nobody false result ≡ true → hosts.new ≡ hosts.old }
+    ensures agreed { IfErr result (MakesFirst (λ v x. (s : Setup) (public : List ℕ) → A.lawful agreement.old s
+        → A.client_makes algorithm.name algorithm.group (local_of algorithm.local) public
+        → A.agrees algorithm.name algorithm.group public v x) payload.now) }
 {
     let mut algorithm = algorithm;
     let reply = match agree_on_reply(&mut algorithm, agreement, payload) {

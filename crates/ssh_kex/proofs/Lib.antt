@@ -3,6 +3,7 @@ pub mod Presenting
 pub mod Taking
 pub mod KeyBytes
 pub mod Stretching
+pub mod Rooms
 pub mod Sizes
 pub mod Refused
 pub mod Ended

@@ -13,3 +13,5 @@ pub mod Opening
 pub mod Views
 pub mod Sessions
 pub mod Laws
+pub mod Shown
+pub mod Unasked

@@ -6,7 +6,7 @@ ghost use Rattle.ssh_packet.specs.Keys.{opening_of, sealing_of};
 ghost use Rattle.ssh_wire.specs.Outside.{Rose};
 ghost use Rattle.ssh_wire.specs.Sides.{other_side};
 ghost use Rattle.ssh_wire.specs.declared.error.Error.TheVariants.{Kex, KexInit, Memory};
-ghost use Rattle.ssh_negotiate.specs.Tables.{shape_of};
+ghost use Rattle.ssh_negotiate.specs.Tables.{kex_text, shape_of};
 ghost use Rattle.ssh_kex.specs.Agreeing.{Agreeing, ClientAgrees, ClientStarts, IsGexOrMemory, HoldsOne, IsWhole, ServerAgrees, bytes_of, error_of};
 ghost use Rattle.ssh_kex.specs.Exchange.{exchange_hash, keys_of, sealing_after, secret_of, secret_text, side_if};
 ghost use Rattle.ssh_kex.specs.Messages.{is_gex, request_message, value_message};
@@ -50,6 +50,8 @@ impl Model for KexAlgorithm {
 
 /// Shows the name, and no byte of a value.
 impl fmt::Debug for KexAlgorithm {
+    ghost debug_output = { λ k. Some (kex_text k.name) };
+
     fn fmt<W: fmt::Write>(&self, f: &mut fmt::Formatter<W>) -> fmt::Result {
         f.write_str(self.name.as_str())
     }

@@ -1,9 +1,10 @@
 //! What an exchange knows and what it makes.
 
-ghost use Rattle.std.specs.Prelude.{◌≡◌, ◌↔◌, ◌<◌, ◌-◌, ◌^◌, [], length, None, IfOk, IfErr, IsTrue};
+ghost use Rattle.std.specs.Prelude.{◌≡◌, ◌↔◌, ◌<◌, ◌-◌, ◌^◌, [], length, codes, None, Some, IfOk, IfErr, IsTrue};
 ghost use Rattle.ssh_wire.specs.declared.error.Error.TheVariants.{Memory};
 ghost use Rattle.ssh_kex.specs.Agreeing.{IsWhole};
 ghost use Rattle.ssh_kex.specs.Exchange.{bytes_in};
+ghost use Rattle.ssh_kex.specs.Shown.{secret_form};
 ghost use Rattle.ssh_kex.specs.declared.exchange.SharedSecret.TheVariants.{Mpint, Str};
 
 use crate::group::{DhGroup, GexParams};
@@ -52,6 +53,8 @@ impl SharedSecret {
 
 /// Shows the form alone, and no byte of the secret.
 impl fmt::Debug for SharedSecret {
+    ghost debug_output = { λ s. Some (secret_form s) };
+
     fn fmt<W: fmt::Write>(&self, f: &mut fmt::Formatter<W>) -> fmt::Result {
         f.write_str(match self {
             SharedSecret::Mpint(_) => "Mpint",
@@ -74,6 +77,8 @@ pub struct Keys {
 
 /// Shows no byte of a key.
 impl fmt::Debug for Keys {
+    ghost debug_output = { λ k. Some (codes "Keys") };
+
     fn fmt<W: fmt::Write>(&self, f: &mut fmt::Formatter<W>) -> fmt::Result {
         f.write_str("Keys")
     }

@@ -7,6 +7,7 @@ pub mod Lending
 pub mod Names
 pub mod Reading
 pub mod Sealing
+pub mod Shown
 pub mod Stream
 pub mod Carried
 pub mod Writing

@@ -1,9 +1,10 @@
 //! The keys of a direction, by kind.
 
-ghost use Rattle.std.specs.Prelude.{◌≡◌, length};
+ghost use Rattle.std.specs.Prelude.{◌≡◌, length, Some};
 ghost use Rattle.ssh_mac.specs.Names.{mac_key_length, mac_named};
 ghost use Rattle.ssh_packet.specs.Keys.{opening_of, sealing_of};
 ghost use Rattle.ssh_packet.specs.Names.{cipher_key_length, nonce_length, sealing_named};
+ghost use Rattle.ssh_packet.specs.Shown.{open_kind, seal_kind};
 
 use crate::cipher::{Name, OpeningKey, SealingKey};
 use crate::error::OpenError;
@@ -41,6 +42,8 @@ pub struct CipherPair {
 
 /// Shows the kind alone, and no byte of a key.
 impl fmt::Debug for SealKey {
+    ghost debug_output = { λ k. Some (seal_kind k) };
+
     fn fmt<W: fmt::Write>(&self, f: &mut fmt::Formatter<W>) -> fmt::Result {
         f.write_str(match self {
             SealKey::Clear(_) => "Clear",
@@ -53,6 +56,8 @@ impl fmt::Debug for SealKey {
 
 /// Shows the kind alone, and no byte of a key.
 impl fmt::Debug for OpenKey {
+    ghost debug_output = { λ k. Some (open_kind k) };
+
     fn fmt<W: fmt::Write>(&self, f: &mut fmt::Formatter<W>) -> fmt::Result {
         f.write_str(match self {
             OpenKey::Clear(_) => "Clear",

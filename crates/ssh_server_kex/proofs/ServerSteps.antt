@@ -1,6 +1,6 @@
 -- A server's rows are rows of its machine.
-use Rattle.std.proofs.Common.{◌≡◌, refl, sym, ap, subst, ◌∙◌, Bool, false, ◌||◌, Some, None, Result, Ok, Err, inl, inr}
-use Rattle.std.specs.Prelude.{IfOk, OnErr}
+use Rattle.std.proofs.Common.{◌≡◌, refl, sym, ap, subst, ◌∙◌, Bool, false, ◌||◌, Some, None, Result, Ok, Err, inr}
+use Rattle.std.specs.Prelude.{IfOk}
 use Rattle.std.specs.Global.{Box}
 use Rattle.ssh_negotiate.specs.Causes.{was_strict}
 use Rattle.ssh_negotiate.specs.declared.kex.KexCause.{KexCause}
@@ -12,12 +12,12 @@ use Rattle.ssh_wire.specs.declared.error.Error.{Error}
 use Rattle.ssh_wire.specs.declared.side.Side.TheVariants.{Server}
 use Rattle.ssh_kex.specs.Messages.{host_with, is_gex}
 use Rattle.ssh_server_kex.specs.ServerAnswers.{AnswersClient, AnswersSizes}
-use Rattle.ssh_server_kex.specs.ServerRows.{AnswersRequest, AnswersValue, PutsAtMostReply}
+use Rattle.ssh_server_kex.specs.ServerRows.{AnswersRequest, AnswersValue}
 use Rattle.ssh_server_kex.specs.ServerViews.{ServerKeeps, behind_guess, drops_guess, server_machine, server_opened}
 use Rattle.ssh_kex.specs.Setting.{Says, Setting, group_of, made_of}
 use Rattle.ssh_kex.specs.Signature.{judged}
 use Rattle.ssh_kex.specs.Stages.{Machine, AwaitsNewkeys}
-use Rattle.ssh_kex.specs.Stepping.{Progresses, PutsFront}
+use Rattle.ssh_kex.specs.Stepping.{Progresses}
 use Rattle.ssh_kex.specs.declared.config.Config.{Config}
 use Rattle.ssh_kex.specs.declared.exchange.Exchange.{Exchange}
 use Rattle.ssh_kex.specs.declared.exchange.FinishedExchange.{FinishedExchange}
@@ -111,13 +111,3 @@ value_progresses says config cause x state m n i old new (Err e) v s kept h = tt
 value_progresses says config cause x state m n i old new (Ok p) v s kept h =
     subst (λ (k : Machine). Progresses (says k.setting.config) k (Some i) old p new) (ap (server_machine config cause x) (sym s) ∙ v)
     (takes_value (says config) config cause x n i old new p (kept_value n state s kept) h)
-
--- what a refusal has written
-pub writes_front : (config : Config) (cause : KexCause) (x : Exchange) (state : ServerState) (m : Machine) (n : Names) (old new : Writer) (r : Result (KexProgress Machine) Error) → server_machine config cause x state ≡ m → state ≡ states.AwaitsValue n → OnErr r (PutsAtMostReply (is_gex n.kex) old new) → OnErr r (PutsFront m.stage old new)
-writes_front config cause x state m n old new (Ok p) v s h = tt
-writes_front config cause x state m n old new (Err e) v s h =
-    subst (λ (k : Machine). PutsFront k.stage old new) (ap (server_machine config cause x) (sym s) ∙ v) (by h)
-  where
-    by : PutsAtMostReply (is_gex n.kex) old new → PutsFront (server_machine config cause x (states.AwaitsValue n)).stage old new
-    by (inl same) = inl same
-    by (inr (host, value, signature, puts)) = inr (record { o = server_opened x n; gex = x.gex; waits = refl; host = host; value = value; signature = signature; puts = puts })

@@ -1,6 +1,6 @@
 //! A server's answer to the sizes that a client asks for.
 
-ghost use Rattle.std.specs.Prelude.{◌≡◌, ◌==◌, ◌+◌, ◌≤◌, ◌<◌, ◌^◌, ◌-◌, ◌++◌, ◌∷◌, ℕ, List, length, drop, Ok, IfOk, IfErr, OnOk, OnErr};
+ghost use Rattle.std.specs.Prelude.{◌≡◌, ◌==◌, ◌+◌, ◌≤◌, ◌<◌, ◌^◌, ◌-◌, ◌++◌, ◌∷◌, ℕ, List, length, drop, false, true, Ok, IfOk, IfErr, OnOk, OnErr};
 ghost use Rattle.ssh_packet.specs.Sealing.{longest_payload};
 ghost use Rattle.ssh_packet.specs.Writing.{IsSizeOrMemory, SameButRoom};
 ghost use Rattle.ssh_wire.specs.Outside.{Rose};
@@ -10,6 +10,7 @@ ghost use Rattle.ssh_kex.specs.Parts.{KeepsGroups, Setup};
 ghost use Rattle.ssh_kex.specs.Fields.{sizes_in};
 ghost use Rattle.ssh_server_kex.specs.ServerRows.{AnswersRequest, RefusesRequest, RefusesSizes};
 ghost use Rattle.ssh_kex.specs.Stepping.{Puts};
+ghost use Rattle.ssh_kex.specs.Unasked.{is_early};
 
 use rand_core::Rng;
 use ssh_kex::message::{has_type, put_message};
@@ -69,6 +70,7 @@ pub(crate) fn answer_request<G: GroupLookup, R: Rng>(
         → (q ≡ G.group groups.old sizes) × IsCanonical q) (λ sizes. Rose (G.refusals groups.old) (G.refusals groups.new)
         × ((s : Setup) → G.obliging groups.old s → ⊥)) payload.now) }
     ensures unchanged { OnErr result (SameButRoom output.old output.new) }
+    ensures unasked { IfErr result (λ e. is_early false e ≡ true → groups.new ≡ groups.old) }
 {
     let params = read_request(payload)?;
     let group = match groups.lookup_dh_gex_group(alloc, &params) {

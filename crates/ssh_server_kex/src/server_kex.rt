@@ -14,14 +14,15 @@ ghost use Rattle.ssh_wire.specs.Lines.{id_text};
 ghost use Rattle.ssh_wire.specs.declared.error.Error.TheVariants.{Memory};
 ghost use Rattle.ssh_wire.specs.declared.side.Side.TheVariants.{Server as server_side};
 ghost use Rattle.ssh_kex.specs.Parts.{IsSmall, KeepsAgreement, KeepsGroups, KeepsHosts, Setup};
-ghost use Rattle.ssh_server_kex.specs.ServerRows.{AreShortBlobs, CanAnswer, IsLongAnswer, PutsAtMostReply, RefusesRequest, RefusesValue};
+ghost use Rattle.ssh_server_kex.specs.ServerRows.{AreShortBlobs, CanAnswer, IsLongAnswer, RefusesRequest, RefusesValue};
 ghost use Rattle.ssh_server_kex.specs.ServerAnswers.{AnswersClient, AnswersOpening, AnswersSizes, RefusesKexinit};
 ghost use Rattle.ssh_wire.specs.Outside.{Rose};
 ghost use Rattle.ssh_server_kex.specs.ServerViews.{Begins, CanAsk, CanBegin, IsFresh, ServerKeeps, behind_guess, drops_guess, server_machine};
 ghost use Rattle.ssh_kex.specs.Setting.{group_of, offers_of};
 ghost use Rattle.ssh_kex.specs.Stages.{Created as created_stage, has_ignored, is_strict, names_of};
 ghost use Rattle.ssh_kex.specs.declared.progress.KexProgress.TheVariants.{NeedsReply};
-ghost use Rattle.ssh_kex.specs.Stepping.{asks_agreement, asks_hosts, asks_groups, next_of, Progresses, RefusesStep, PutsFront};
+ghost use Rattle.ssh_kex.specs.Stepping.{asks_agreement, asks_hosts, asks_groups, next_of, Progresses, RefusesStep};
+ghost use Rattle.ssh_kex.specs.Unasked.{asks_nobody};
 
 use crate::opening::open;
 use crate::request::answer_request;
@@ -173,8 +174,8 @@ impl<'c> ServerKex<'c> {
         }
     }
 
-    /// One message of the client. A wrong guess is dropped. A refusal leaves no machine, and it has written nothing,
-    /// but where memory is wanting behind a reply that was written.
+    /// One message of the client. A wrong guess is dropped. A refusal leaves no machine, and the output as it was. No
+    /// part is asked for a message that is refused as it is read.
     pub fn step<A: Agreement, H: HostKeys, G: GroupLookup, R: Rng>(
         self,
         parts: &mut Parts<A, H, G, R>,
@@ -193,8 +194,10 @@ impl<'c> ServerKex<'c> {
         ensures causes { IfErr result (λ e. RefusesStep (⟦<Parts<A, H, G, R> as Handed>⟧.says self.entry.setting.config
             parts.old)
             (⟦<Parts<A, H, G, R> as Handed>⟧.denies parts.old parts.new) self.entry input.entry e) }
-        ensures front { OnErr result (PutsFront self.entry.stage output.old output.new) }
-        ensures unchanged { IfErr result (λ e. (e ≡ Memory → ⊥) → SameButRoom output.old output.new) }
+        ensures unchanged { OnErr result (SameButRoom output.old output.new) }
+        ensures unasked_agreement { asks_nobody false result ≡ true → parts.new.agreement ≡ parts.old.agreement }
+        ensures unasked_hosts { asks_nobody false result ≡ true → parts.new.hosts ≡ parts.old.hosts }
+        ensures unasked_groups { asks_nobody false result ≡ true → parts.new.groups ≡ parts.old.groups }
     {
         let Some(incoming) = input else {
             return Err(Error::KexInit);
@@ -358,6 +361,7 @@ fn take_request<'c, G: GroupLookup, R: Rng>(
         → (q ≡ G.group groups.old sizes) × IsCanonical q) (λ sizes. Rose (G.refusals groups.old) (G.refusals groups.new)
         × ((s : Setup) → G.obliging groups.old s → ⊥)) payload.now) }
     ensures unchanged { OnErr result (SameButRoom output.old output.new) }
+    ensures unasked { asks_nobody false result ≡ true → groups.new ≡ groups.old }
 {
     match answer_request(alloc, groups, rng, payload, output) {
         Ok(gex) => {
@@ -408,8 +412,9 @@ fn take_value<'c, A: Agreement, H: HostKeys, G, R: Rng>(
         (λ v. (s : Setup) → A.lawful parts.old.agreement s → IsSmall v)
         (λ v. (s : Setup) → H.lawful parts.old.hosts s → IsSmall v) config.now names payload.now)
         payload.now) }
-    ensures front { OnErr result (PutsAtMostReply (is_gex names.kex) output.old output.new) }
-    ensures unchanged { IfErr result (λ e. (e ≡ Memory → ⊥) → SameButRoom output.old output.new) }
+    ensures unchanged { OnErr result (SameButRoom output.old output.new) }
+    ensures unasked_agreement { asks_nobody false result ≡ true → parts.new.agreement ≡ parts.old.agreement }
+    ensures unasked_hosts { asks_nobody false result ≡ true → parts.new.hosts ≡ parts.old.hosts }
 {
     let mut exchange = exchange;
     match answer_value(

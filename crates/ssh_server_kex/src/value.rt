@@ -4,20 +4,20 @@ ghost use Rattle.std.specs.Prelude.{◌≡◌, ◌+◌, ◌≤◌, ◌<◌, ◌^
 ghost use Rattle.std.specs.Option.{option_copied};
 ghost use Rattle.ssh_negotiate.specs.Tables.{shape_of};
 ghost use Rattle.ssh_packet.specs.Stream.{message_type};
-ghost use Rattle.ssh_packet.specs.Writing.{IsSizeOrMemory, SameButRoom};
+ghost use Rattle.ssh_packet.specs.Writing.{SameButRoom};
 ghost use Rattle.ssh_wire.specs.Outside.{Rose};
 ghost use Rattle.ssh_wire.specs.declared.error.Error.TheVariants.{Kex, Memory};
 ghost use Rattle.ssh_kex.specs.Messages.{is_gex, newkeys, reply_message, value_message};
 ghost use Rattle.ssh_kex.specs.Parts.{IsSmall, KeepsAgreement, KeepsHosts, Setup};
 ghost use Rattle.ssh_kex.specs.Fields.{value_in};
-ghost use Rattle.ssh_server_kex.specs.ServerRows.{AgreesOn, AnswersValue, CanAnswer, IsLongAnswer, PutsAtMostReply, RefusesText, RefusesValue};
+ghost use Rattle.ssh_server_kex.specs.ServerRows.{AgreesOn, AnswersValue, CanAnswer, IsLongAnswer, RefusesText, RefusesValue};
 ghost use Rattle.ssh_kex.specs.Setting.{group_of};
-ghost use Rattle.ssh_kex.specs.Stepping.{Puts, PutsAll};
+ghost use Rattle.ssh_kex.specs.Unasked.{is_early};
 
 use crate::presented::presented;
 use rand_core::Rng;
 use ssh_kex::last_message::finish;
-use ssh_kex::message::{has_type, put_message};
+use ssh_kex::message::{has_type, put_both};
 use ssh_kex::{
     Agreement, Config, Exchange, FinishedExchange, GexChosen, HostKeys, KexAlgorithm, Parts,
     Refusal, copy_of_group,
@@ -148,22 +148,9 @@ fn reply(
     Ok(message)
 }
 
-/// Sends a reply and NEWKEYS. PacketSize where the reply is over 262157 bytes, and then nothing was written; Memory,
-/// and then nothing or the reply alone.
-fn send_reply<R: Rng>(output: &mut PacketWriter, rng: &mut R, reply: &[u8]) -> Result<(), Error>
-    requires { 0 < length reply.now }
-    ensures puts { OnOk result (PutsAll output.old (reply.now ∷ newkeys ∷ []) output.new) }
-    ensures front { OnErr result (SameButRoom output.old output.new ⊎ Puts output.old reply.now output.new) }
-    ensures unchanged { IfErr result (λ e. (e ≡ Memory → ⊥) → SameButRoom output.old output.new) }
-    ensures causes { IfErr result (IsSizeOrMemory (length reply.now)) }
-{
-    put_message(output, rng, reply)?;
-    put_message(output, rng, &[msg::NEWKEYS])
-}
-
 /// Answers a client's value: agrees, signs the hash, sends reply and NEWKEYS. KexInit where it is another message;
 /// SshEncoding; Kex where the agreement refused, Signature where the key did, and each counted it; PacketSize where the
-/// reply is over 262157 bytes; Memory, and then nothing was written or the reply alone.
+/// reply is over 262157 bytes; Memory. Nothing is written by a refusal.
 pub(crate) fn answer_value<A: Agreement, H: HostKeys, G, R: Rng>(
     alloc: Global,
     config: &Config,
@@ -201,8 +188,9 @@ pub(crate) fn answer_value<A: Agreement, H: HostKeys, G, R: Rng>(
         (λ v. (s : Setup) → A.lawful parts.old.agreement s → IsSmall v)
         (λ v. (s : Setup) → H.lawful parts.old.hosts s → IsSmall v) config.now names.now payload.now)
         payload.now) }
-    ensures front { OnErr result (PutsAtMostReply (is_gex names.now.kex) output.old output.new) }
-    ensures unchanged { IfErr result (λ e. (e ≡ Memory → ⊥) → SameButRoom output.old output.new) }
+    ensures unchanged { OnErr result (SameButRoom output.old output.new) }
+    ensures unasked { IfErr result (λ e. is_early false e ≡ true → (parts.new.agreement ≡ parts.old.agreement)
+        × (parts.new.hosts ≡ parts.old.hosts)) }
 {
     let is_gex = is_gex(names.kex);
     let value = match read_value(payload, is_gex) {
@@ -234,7 +222,7 @@ pub(crate) fn answer_value<A: Agreement, H: HostKeys, G, R: Rng>(
         signature.as_slice(),
     )?;
     let ended = finish(alloc, &algorithm, cause, *names, hash, true)?;
-    match send_reply(output, &mut parts.rng, reply.as_slice()) {
+    match put_both(output, &mut parts.rng, reply.as_slice(), &[msg::NEWKEYS]) {
         Ok(()) => Ok(ended),
         Err(error) => Err(error),
     }

@@ -1,7 +1,9 @@
-use Rattle.std.proofs.Common.{◌≡◌, true, inl}
+use Rattle.std.proofs.Common.{◌≡◌, ℕ, List, true, inl}
 use Rattle.ssh_wire.specs.Outside.{Rose}
 use Rattle.ssh_kex.specs.Parts.{Setup}
+use Rattle.ssh_client_kex.proofs.Agreed.{read_whole}
 use Rattle.ssh_client_kex.proofs.Replied.{refuses_signature, reply_short, whole_reply}
+use Rattle.ssh_client_kex.specs.ClientViews.{local_of}
 use Rattle.ssh_client_kex.proofs.client_reply.take_reply.Goals as goal
 
 pub returns-in-Err-clause-err : goal.returns-in-Err-clause-err
@@ -18,3 +20,8 @@ pub returns-clause-err : goal.returns-clause-err
 returns-clause-err g c = refuses_signature _ _ _
     (λ host hash signature. Rose (g.H.HostKeys.refused_verify c.args.hosts.now) (g.H.HostKeys.refused_verify c.accept_reply.new.hosts) × ((s : Setup) → g.H.HostKeys.obliging c.args.hosts.now s → g.H.HostKeys.accepts c.args.hosts.now host hash signature ≡ true → ⊥))
     c.args.cause c.args.exchange c.args.names _ _ _ _ _ _ c.in-Ok.ensures.ok c.accept_reply.ensures.err
+
+pub returns-clause-agreed : goal.returns-clause-agreed
+returns-clause-agreed g c =
+    read_whole _ (λ v x. (s : Setup) (public : List ℕ) → g.A.Agreement.lawful c.args.agreement.now s → g.A.Agreement.client_makes c.args.algorithm.name c.args.algorithm.group (local_of c.args.algorithm.local) public → g.A.Agreement.agrees c.args.algorithm.name c.args.algorithm.group public v x)
+    c.args.payload.now c.accept_reply.result c.accept_reply.ensures.err

@@ -5,6 +5,9 @@ use Rattle.ssh_wire.specs.declared.side.Side.TheVariants.{Client}
 use Rattle.ssh_client_kex.specs.ClientViews.{client_stage, ClientHolds}
 use Rattle.ssh_kex.specs.Parts.{Setup}
 use Rattle.ssh_kex.specs.Stages.{Machine}
+use Rattle.ssh_kex.specs.Stepping.{says_of}
+use Rattle.ssh_kex.specs.Unasked.{asks_nobody}
+use Rattle.ssh_client_kex.proofs.Agreed.{front_at, reply_agreed}
 use Rattle.ssh_client_kex.proofs.ClientAnswers.{group_progresses, kept_group, reply_progresses, reply_refused, still_holds}
 use Rattle.ssh_client_kex.proofs.ClientRefusals.{group_refused, kexinit_refused}
 use Rattle.ssh_client_kex.proofs.ClientSteps.{kexinit_progresses}
@@ -97,3 +100,28 @@ returns-in-AwaitsNewkeys-clause-causes g c =
     (last_refused_if _ _ c.args.self c.in-Some.incoming c.self.inside.exchange (Some c.in-AwaitsNewkeys.host) c.in-AwaitsNewkeys.made c.in-AwaitsNewkeys.cipher c.last.result
     (ap (λ (m : Machine). m.stage) (sym c.self.view_is) ∙ ap (client_stage c.self.inside.exchange) c.in-AwaitsNewkeys.is)
     c.last.ensures)
+
+pub returns-in-Created-clause-unasked_agreement : goal.returns-in-Created-clause-unasked_agreement
+returns-in-Created-clause-unasked_agreement g c =
+    rw (c.in-Some.is)
+    (λ e. c.take_kexinit.ensures.unasked (ap (λ b. asks_nobody b c.take_kexinit.result) (sym (front_at _ _ _ _ _ _ c.in-Some.incoming c.self.view_is c.in-Created.is)) ∙ e))
+
+pub returns-in-AwaitsGroup-clause-unasked_agreement : goal.returns-in-AwaitsGroup-clause-unasked_agreement
+returns-in-AwaitsGroup-clause-unasked_agreement g c =
+    rw (c.in-Some.is)
+    (λ e. c.take_group.ensures.unasked (ap (λ b. asks_nobody b c.take_group.result) (sym (front_at _ _ _ _ _ _ c.in-Some.incoming c.self.view_is c.in-AwaitsGroup.is)) ∙ e))
+
+pub returns-in-AwaitsReply-clause-unasked_agreement : goal.returns-in-AwaitsReply-clause-unasked_agreement
+returns-in-AwaitsReply-clause-unasked_agreement g c =
+    rw (c.in-Some.is)
+    (λ e. c.take_reply.ensures.unasked_agreement (ap (λ b. asks_nobody b c.take_reply.result) (sym (front_at _ _ _ _ _ _ c.in-Some.incoming c.self.view_is c.in-AwaitsReply.is)) ∙ e))
+
+pub returns-in-AwaitsReply-clause-agreed : goal.returns-in-AwaitsReply-clause-agreed
+returns-in-AwaitsReply-clause-agreed g c =
+    rw (c.in-Some.is)
+    (reply_agreed
+    (says_of g.A.Agreement.lawful g.A.Agreement.offered g.A.Agreement.client_makes g.A.Agreement.server_makes g.A.Agreement.agrees g.H.HostKeys.lawful g.H.HostKeys.obliging g.H.HostKeys.accepts g.H.HostKeys.trusts g.H.HostKeys.makes g.G.GroupLookup.lawful g.G.GroupLookup.group c.args.self.setting.config c.args.parts.now.agreement c.args.parts.now.hosts c.args.parts.now.groups)
+    (λ k q l v z. (s : Setup) (public : List ℕ) → g.A.Agreement.lawful c.args.parts.now.agreement s → g.A.Agreement.client_makes k q l public → g.A.Agreement.agrees k q public v z)
+    (λ k q l v z public h cm s law. h s public law (cm s law))
+    _ _ _ c.in-AwaitsReply.names c.in-AwaitsReply.algorithm _ _ c.in-Some.incoming c.take_reply.result c.self.view_is c.in-AwaitsReply.is
+    ((subst (ClientHolds c.self.inside.config.now c.self.inside.exchange) c.in-AwaitsReply.is c.self.invariant).1) c.take_reply.ensures.agreed)

@@ -7,7 +7,7 @@ use Rattle.ssh_kex.specs.Stepping.{says_of}
 use Rattle.ssh_kex.proofs.Lemmas.{last_refused_if}
 use Rattle.ssh_server_kex.proofs.ServerOpens.{ended, opening_progresses}
 use Rattle.ssh_server_kex.proofs.ServerRefusals.{opening_refused, request_refused, value_refused}
-use Rattle.ssh_server_kex.proofs.ServerSteps.{request_progresses, still_keeps, value_progresses, writes_front}
+use Rattle.ssh_server_kex.proofs.ServerSteps.{request_progresses, still_keeps, value_progresses}
 use Rattle.ssh_server_kex.proofs.server_kex.ServerKex.step.Goals as goal
 
 pub waits-requires : goal.waits-requires
@@ -61,10 +61,6 @@ pub returns-in-AwaitsValue-clause-causes : goal.returns-in-AwaitsValue-clause-ca
 returns-in-AwaitsValue-clause-causes g c =
     rw (c.in-Some.is)
     (value_refused _ _ c.self.inside.config.now c.self.inside.cause c.self.inside.exchange c.self.inside.state c.args.self c.in-AwaitsValue.names c.in-Some.incoming c.take_value.result c.self.view_is c.in-AwaitsValue.is (sym c.drops_guess.ensures ∙ c.if-drops_guess.false) c.take_value.ensures.causes)
-
-pub returns-in-AwaitsValue-clause-front : goal.returns-in-AwaitsValue-clause-front
-returns-in-AwaitsValue-clause-front g c =
-    writes_front c.self.inside.config.now c.self.inside.cause c.self.inside.exchange c.self.inside.state c.args.self c.in-AwaitsValue.names c.args.output.now _ c.take_value.result c.self.view_is c.in-AwaitsValue.is c.take_value.ensures.front
 
 pub returns-in-AwaitsNewkeys-clause-goes : goal.returns-in-AwaitsNewkeys-clause-goes
 returns-in-AwaitsNewkeys-clause-goes g c =
