@@ -189,17 +189,3 @@ Progresses says m (Some i) old (Done host k) new = IsDone m i old host k new
 abbrev pub RefusesStep : Says → Denies → Machine → Option Incoming → Error → Type 0
 RefusesStep says denies m None error = (error ≡ errors.KexInit) ⊎ (error ≡ errors.Memory)
 RefusesStep says denies m (Some i) error = RefusesMessage says denies m.setting m.stage i.seqn i.payload.now error
-
--- the reply was written, and memory was wanting for NEWKEYS
-pub record PutsReply (stage : Stage) (old new : Writer) : Type 0 where
-  pub o : Opened
-  pub gex : Option GexChosen
-  pub waits : stage ≡ AwaitsValue o gex
-  pub host : List ℕ
-  pub value : List ℕ
-  pub signature : List ℕ
-  pub puts : Puts old (reply_message (is_gex o.names.kex) host value signature) new
-
--- what a refused step has written: nothing, or a reply
-abbrev pub PutsFront : Stage → Writer → Writer → Type 0
-PutsFront stage old new = SameButRoom old new ⊎ PutsReply stage old new

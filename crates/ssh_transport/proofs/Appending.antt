@@ -4,8 +4,8 @@ use Rattle.std.proofs.Math.Seq.{take-append_seam}
 use Rattle.ssh_packet.specs.Sealing.{item_of, sealed_packet}
 use Rattle.ssh_packet.specs.Writing.{SameButRoom, Writer}
 use Rattle.ssh_packet.specs.declared.reader.Incoming.{Incoming}
-use Rattle.ssh_kex.specs.Stages.{Machine, Stage}
-use Rattle.ssh_kex.specs.Stepping.{IsDone, Puts, PutsAll, PutsFront}
+use Rattle.ssh_kex.specs.Stages.{Machine}
+use Rattle.ssh_kex.specs.Stepping.{IsDone, Puts, PutsAll}
 use Rattle.ssh_kex.specs.declared.exchange.NewKeys.{NewKeys}
 use Rattle.ssh_kex.specs.declared.exchange.ServerHost.{ServerHost}
 use Rattle.ssh_transport.specs.Handling.{IsFor}
@@ -30,10 +30,6 @@ all_behind : (old new : Writer) (payloads : List (List ℕ)) → PutsAll old pay
 all_behind old new [] h = same_behind old new h
 all_behind old new (p ∷ payloads) h = then_behind old h.0 new (put_behind old h.0 p h.1) (all_behind h.0 new payloads h.2)
 
-front_behind : (stage : Stage) (old new : Writer) → PutsFront stage old new → Behind old new
-front_behind stage old new (inl e) = same_behind old new e
-front_behind stage old new (inr r) = put_behind old new _ r.puts
-
 appends_by : (s s' : Session) → Behind s.writer s'.writer → s'.finished.items ≡ s.finished.items → Appends s s'
 appends_by s s' b e = record { more = b.0; output = b.1; records = e }
 
@@ -43,8 +39,8 @@ appends_same s s' h = record { more = []; output = h.output ∙ sym (append-nil 
 pub appends_join : (a b c : Session) → Appends a b → Appends b c → Appends a c
 appends_join a b c h k = record { more = h.more ++ k.more; output = k.output ∙ ap (λ (t : List ℕ). t ++ k.more) h.output ∙ append_assoc a.writer.output h.more k.more; records = k.records ∙ h.records }
 
-pub appends_front : (s : Session) (stage : Stage) (w : Writer) → PutsFront stage s.writer w → Appends s (record s { writer = w })
-appends_front s stage w h = appends_by s (record s { writer = w }) (front_behind stage s.writer w h) refl
+pub appends_none : (s : Session) (w : Writer) → SameButRoom s.writer w → Appends s (record s { writer = w })
+appends_none s w h = appends_by s (record s { writer = w }) (same_behind s.writer w h) refl
 
 pub appends_done : (s : Session) (m : Machine) (i : Incoming) (host : Rattle.std.proofs.Common.Option ServerHost) (k : NewKeys) (w : Writer) → IsDone m i s.writer host k w → Appends s (record s { writer = w })
 appends_done s m i host k w h = appends_by s (record s { writer = w }) (all_behind s.writer w h.written h.puts) refl

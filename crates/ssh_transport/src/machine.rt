@@ -3,7 +3,7 @@
 ghost use Rattle.std.specs.Prelude.{◌≡◌, ◌++◌, ◌+◌, ◌≤◌, ◌<◌, ◌^◌, [], Some, IfErr, IfOk, OnErr, OnOk, length, is_some};
 ghost use Rattle.ssh_kex.specs.Refusals.{IsCreated};
 ghost use Rattle.ssh_kex.specs.Stages.{Created, is_strict, names_of, has_ignored};
-ghost use Rattle.ssh_kex.specs.Stepping.{Progresses, PutsFront, RefusesStep, asks_agreement, asks_groups, asks_hosts, next_of};
+ghost use Rattle.ssh_kex.specs.Stepping.{Progresses, RefusesStep, asks_agreement, asks_groups, asks_hosts, next_of};
 ghost use Rattle.ssh_packet.specs.Sealing.{Item};
 ghost use Rattle.ssh_packet.specs.Writing.{SameButRoom};
 ghost use Rattle.ssh_transport.specs.Drawing.{kexinit_packet, writing_at};
@@ -149,7 +149,7 @@ impl<'c> SessionKex<'c> {
             parts.old)
             (⟦<Parts<A, H, G, R> as Handed>⟧.denies parts.old parts.new)
             self.entry (Some incoming.entry) e) }
-        ensures front { OnErr result (PutsFront self.entry.stage output.old output.new) }
+        ensures unchanged { OnErr result (SameButRoom output.old output.new) }
     {
         match self.side {
             SideKex::Client(kex) => Ok(client_progress(kex.step(parts, Some(incoming), output)?)),
