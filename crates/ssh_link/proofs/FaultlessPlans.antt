@@ -125,10 +125,10 @@ generated_faultless seed count =
         good = generated_good seed count;
       };
       parts = record {
-        client = record { agreement = refl; hosts = refl; groups = refl };
-        server = record { agreement = refl; hosts = refl; groups = refl };
+        client = record { agreement = refl; hosts = refl };
+        server = record { agreement = refl; hosts = refl };
         trusted = key_trusted;
-        group = record { lawful = record { most = omega arith }; least = omega arith; within = omega arith };
+        lookup = record { groups = refl; group = record { lawful = record { most = omega arith }; least = omega arith; within = omega arith } };
       };
     }
 

@@ -1,5 +1,6 @@
 -- Why the run of a plan is refused, from why the run of its link is.
-use Rattle.std.proofs.Common.{◌≡◌, inl, inr, ℕ, List, Bool, true, Result, Ok, Err, IfErr, IfOk, refl, sym, subst}
+use Rattle.std.proofs.Common.{◌≡◌, ◌≢◌, ◌⊎◌, inl, inr, ℕ, List, Bool, true, Option, Some, None, IfSome, Result, Ok, Err, IfErr, IfOk, refl, sym, subst}
+use Rattle.ssh_wire.specs.declared.error.ConfigFault.{ConfigFault}
 use Rattle.ssh_wire.specs.declared.error.Error.{Error}
 use Rattle.ssh_wire.specs.declared.error.Error.TheVariants as errors
 use Rattle.ssh_wire.specs.declared.side.Side.{Side}
@@ -14,7 +15,7 @@ use Rattle.ssh_vectors.specs.Hosts.{TrustsAll}
 use Rattle.ssh_vectors.specs.Primes.{IsLawful, group_for}
 use Rattle.ssh_vectors.specs.declared.hosts.TrustedHost.{TrustedHost}
 use Rattle.ssh_vectors.proofs.Lemmas.{hosts_trusted}
-use Rattle.ssh_link.specs.PlanParts.{IsFaultlessPlan, IsPlanCause, any_rises, configs_of, offers_exchange, trusted_of}
+use Rattle.ssh_link.specs.PlanParts.{IsFaultlessPlan, IsPlanCause, any_rises, configs_of, fault_of, offers_exchange, trusted_of}
 use Rattle.ssh_script.specs.Plans.{Plan}
 use Rattle.ssh_link.specs.Program.{AnswersPlan, IsRefusal}
 use Rattle.ssh_link.specs.declared.answer.Answer.{Answer}
@@ -89,10 +90,16 @@ plan_valid plan steps same f = record {
 pub all_trusted : (plan : Plan) (trusted : List TrustedHost) → trusted ≡ trusted_of plan.server.config.host → IsFaultlessPlan plan → TrustsAll trusted plan.server.config
 all_trusted plan trusted same f = subst (λ t. TrustsAll t plan.server.config) (sym same) (hosts_trusted (trusted_of plan.server.config.host) plan.server.config f.parts.trusted)
 
--- what is answered to it
-refused_answer : (plan : Plan) (e : Error) (answer : Answer) → IsPlanCause plan e → (IsFaultlessPlan plan → e ≡ errors.Memory) → IsRefusal e answer → AnswersPlan plan answer
-refused_answer plan e answer cause complete r = subst (AnswersPlan plan) (sym r.0) (record { kept = r.1; cause = cause; faulty = λ f. r.1 (complete f) })
+-- a refused configuration is told, since want of memory isn't
+kept_fault : (o : Option ConfigFault) (e : Error) → e ≢ errors.Memory → IfSome o (λ f. (e ≡ errors.Memory) ⊎ (e ≡ errors.InvalidConfig f)) → IfSome o (λ f. e ≡ errors.InvalidConfig f)
+kept_fault None e kept h = tt
+kept_fault (Some f) e kept (inl m) = absurd (kept m)
+kept_fault (Some f) e kept (inr h) = h
 
-pub plan_refused : (plan : Plan) (e : Error) (r : Result Answer ReadError) → IsPlanCause plan e → (IsFaultlessPlan plan → e ≡ errors.Memory) → IfOk r (IsRefusal e) → IfOk r (λ answer. AnswersPlan plan answer)
-plan_refused plan e (Ok answer) cause complete r = refused_answer plan e answer cause complete r
-plan_refused plan e (Err f) cause complete r = tt
+-- what is answered to it
+refused_answer : (plan : Plan) (e : Error) (answer : Answer) → IsPlanCause plan e → IfSome (fault_of plan) (λ f. (e ≡ errors.Memory) ⊎ (e ≡ errors.InvalidConfig f)) → (IsFaultlessPlan plan → e ≡ errors.Memory) → IsRefusal e answer → AnswersPlan plan answer
+refused_answer plan e answer cause configs complete r = subst (AnswersPlan plan) (sym r.0) (record { kept = r.1; cause = cause; config = kept_fault (fault_of plan) e r.1 configs; faulty = λ f. r.1 (complete f) })
+
+pub plan_refused : (plan : Plan) (e : Error) (r : Result Answer ReadError) → IsPlanCause plan e → IfSome (fault_of plan) (λ f. (e ≡ errors.Memory) ⊎ (e ≡ errors.InvalidConfig f)) → (IsFaultlessPlan plan → e ≡ errors.Memory) → IfOk r (IsRefusal e) → IfOk r (λ answer. AnswersPlan plan answer)
+plan_refused plan e (Ok answer) cause configs complete r = refused_answer plan e answer cause configs complete r
+plan_refused plan e (Err f) cause configs complete r = tt

@@ -1,12 +1,12 @@
 -- The top call of the program: what it answers, and how it ends.
-use Rattle.std.specs.Prelude.{◌≡◌, ◌≢◌, ℕ, ◌⊎◌, Bool, true, false, if◌then◌else◌, nat_lt, List, [], ◌∷◌, codes, drop, map, Option, Some, None, IfSome, Result, Ok, Err}
+use Rattle.std.specs.Prelude.{◌≡◌, ◌≢◌, ℕ, ◌⊎◌, Bool, true, false, if◌then◌else◌, nat_lt, List, [], ◌∷◌, codes, drop, map, Option, Some, None, IfSome, OnSome, Result, Ok, Err}
 use Rattle.std.specs.Global.{Global}
 use Rattle.std.specs.Str.{bytes_eq}
 use Rattle.std.specs.String.{string_bytes}
 use Rattle.std.specs.Vec.Iter.{into_iter_items}
 use Rattle.std.specs.declared.string.String.{String}
 use Rattle.std.specs.declared.vec.IntoIter.{IntoIter}
-use Rattle.ssh_wire.specs.Outside.{Appends, Rose, AppendsFront}
+use Rattle.ssh_wire.specs.Outside.{Appends, ReachesEnd, Rose, AppendsFront}
 use Rattle.ssh_wire.specs.declared.error.Error.{Error}
 use Rattle.ssh_wire.specs.declared.error.Error.TheVariants.{Memory}
 use Rattle.ssh_wire.specs.declared.ssh_id.SshId.{SshId}
@@ -256,6 +256,13 @@ abbrev pub IsWritten : Answer → ℕ → Option (List ℕ) → Option (List ℕ
 IsWritten answer status held now faults faults_now =
     ((status ≡ answer_status answer) × Appends (answer_text answer) held now)
     ⊎ ((status ≡ sink_failed) × Rose faults faults_now × AppendsFront (answer_text answer) held now)
+
+-- Where a script was run, or its run refused, the source was read to its end.
+pub record IsReadWhole (words : List (List ℕ)) (answer : Answer) (old new : Option (List ℕ)) : Type 0 where
+  pub run_end : OnSome (shown_clear answer) (ReachesEnd old new)
+  pub link_end : IsReading words → OnSome (shown_report answer) (ReachesEnd old new)
+  pub attack_end : OnSome (shown_attack answer) (ReachesEnd old new)
+  pub refused_end : IsReading words → OnSome (shown_refused answer) (ReachesEnd old new)
 
 -- The words are those of the command `attack`, and the text that is left is a script whose configurations no test refuses.
 pub record IsAttackable (words : List (List ℕ)) (left : Option (List ℕ)) : Type 0 where

@@ -5,7 +5,7 @@ ghost use Rattle.std.specs.Process.{exit_status};
 ghost use Rattle.ssh_wire.specs.Outside.{Rose, TakesAtMost, ReachesEnd};
 ghost use Rattle.ssh_wire.specs.declared.ssh_id.SshId.TheVariants.{Standard};
 ghost use Rattle.ssh_script.specs.Parsing.{IsRefusal};
-ghost use Rattle.ssh_link.specs.Program.{AreWords, IsAttackable, IsCommand, IsReading, AnswersCommand, AnswersLeft, reads, IsAnswer, Shows, ShowsNone, IsWritten, answer_text, shown_attack, shown_clear, shown_report, shown_refused};
+ghost use Rattle.ssh_link.specs.Program.{AreWords, IsAttackable, IsCommand, IsReading, AnswersCommand, AnswersLeft, reads, IsAnswer, IsReadWhole, Shows, ShowsNone, IsWritten, answer_text, shown_attack, shown_clear, shown_report, shown_refused};
 ghost use Rattle.ssh_script.specs.Script.{clear_script, longest_script};
 ghost use Rattle.ssh_link.specs.Statuses.{no_command, report_written, source_failed, sink_failed, want_of_memory};
 ghost use Rattle.ssh_link.specs.declared.answer.Answer.{Answer};
@@ -34,12 +34,25 @@ pub fn exit_code<S: Source, K: Sink>(
     ensures answered { exit_status result ≢ source_failed → exit_status result ≢ want_of_memory
         → (words : List (List ℕ)) × AreWords arguments words
         × ((answer : Answer) × IsAnswer words (S.left source.old) answer
-        × IsWritten answer (exit_status result) (K.held sink.old) (K.held sink.new) (K.faults sink.old) (K.faults sink.new)) }
+        × IsReadWhole words answer (S.left source.old) (S.left source.new)
+        × IsWritten answer (exit_status result) (K.held sink.old) (K.held sink.new) (K.faults sink.old)
+        (K.faults sink.new)) }
     ensures source_failed { exit_status result ≡ source_failed → Rose (S.faults source.old) (S.faults source.new) }
     ensures silent { (exit_status result ≡ source_failed) ⊎ (exit_status result ≡ want_of_memory)
         → K.held sink.new ≡ K.held sink.old }
+    ensures usage { (words : List (List ℕ)) → AreWords arguments words → ¬ (IsCommand words)
+        → (exit_status result ≡ no_command)
+        ⊎ ((exit_status result ≡ sink_failed) ⊎ (exit_status result ≡ want_of_memory)) }
+    ensures read { (words : List (List ℕ)) → AreWords arguments words → exit_status result ≡ source_failed
+        → IsReading words }
     ensures source_unfailed { exit_status result ≢ source_failed → S.faults source.new ≡ S.faults source.old }
     ensures sink_unfailed { exit_status result ≢ sink_failed → K.faults sink.new ≡ K.faults sink.old }
+    ensures unread { (words : List (List ℕ)) → AreWords arguments words → ¬ (IsReading words)
+        → S.left source.new ≡ S.left source.old }
+    ensures bounded { TakesAtMost (longest_script + 1) (S.left source.old) (S.left source.new) }
+    ensures attacked { (words : List (List ℕ)) → AreWords arguments words → IsAttackable words (S.left source.old)
+        → exit_status result ≢ source_failed → exit_status result ≢ sink_failed
+        → (exit_status result ≡ report_written) ⊎ (exit_status result ≡ want_of_memory) }
 {
     match words_of(alloc, arguments) {
         Ok(words) => ExitCode::from(link_main(alloc, words.as_slice(), source, sink).status),

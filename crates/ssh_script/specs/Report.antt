@@ -1,7 +1,7 @@
 -- The text of a report, and of a refusal.
-use Rattle.std.specs.Prelude.{◌≡◌, ℕ, List, [], ◌∷◌, ◌++◌, codes, refl}
+use Rattle.std.specs.Prelude.{◌≡◌, ℕ, ◌+◌, ◌*◌, List, [], ◌∷◌, ◌++◌, codes, length, map, refl}
 use Rattle.std.specs.Fmt.{decimal, digits}
-use Rattle.std.specs.List.{flat_map, join_with_byte}
+use Rattle.std.specs.List.{flat_map, join_with_byte, sum}
 use Rattle.hex.specs.Hex.{encode_lower, encode_with}
 use Rattle.ssh_wire.specs.declared.side.Side.{Side}
 use Rattle.ssh_wire.specs.declared.side.Side.TheVariants.{Client, Server}
@@ -41,6 +41,11 @@ delivered_lines side payloads = flat_map (λ payload. report_line side (codes "d
 abbrev pub side_lines : Side → ClearSide → List ℕ
 side_lines side report = report_line side (codes "wire") (hex_word report.wire)
     ++ report_line side (codes "taken") (decimal report.taken) ++ delivered_lines side report.delivered
+
+-- The room for what is told of a side, in bytes: two for each byte of its wire and of a payload, 64 for the words of the
+-- wire and of a number, and 32 for those of a payload.
+abbrev pub room_for : List ℕ → List (List ℕ) → ℕ
+room_for wire delivered = 2 * length wire + 64 + sum (map (λ (payload : List ℕ). 2 * length payload + 32) delivered)
 
 -- the report of a clear link: the client, then the server
 abbrev pub clear_report_text : ClearReport → List ℕ

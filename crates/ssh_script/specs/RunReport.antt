@@ -1,5 +1,5 @@
 -- The text of a link's report, and of an attacked run's.
-use Rattle.std.specs.Prelude.{◌≡◌, ℕ, ◌+◌, if◌then◌else◌, List, [], ◌∷◌, ◌++◌, length, codes, refl, Result, Ok, Err}
+use Rattle.std.specs.Prelude.{◌≡◌, ℕ, ◌+◌, ◌*◌, if◌then◌else◌, List, [], ◌∷◌, ◌++◌, length, codes, refl, Result, Ok, Err}
 use Rattle.std.specs.Fmt.{decimal, digits}
 use Rattle.std.specs.List.{join_with_byte}
 use Rattle.hex.specs.Hex.{encode_with}
@@ -16,7 +16,7 @@ use Rattle.ssh_rules.specs.declared.link.SideReport.{SideReport}
 use Rattle.ssh_rules.specs.declared.link.LinkReport.{LinkReport}
 use Rattle.ssh_wire.specs.declared.error.Error.{Error}
 use Rattle.ssh_wire.specs.declared.error.Error.TheVariants as errors
-use Rattle.ssh_script.specs.Report.{side_name, hex_word, report_line, delivered_lines, error_text}
+use Rattle.ssh_script.specs.Report.{side_name, hex_word, report_line, room_for, delivered_lines, error_text}
 
 -- KEY: the type of the certificate where one was chosen
 abbrev pub key_word : Names → List ℕ
@@ -50,6 +50,10 @@ link_side_lines side report =
     ++ report_line side (codes "finished") (decimal (length report.exchanges))
     ++ exchange_lines side 1 report.exchanges
     ++ delivered_lines side report.delivered
+
+-- the room for it: besides 512 bytes for each exchange, and 32 for how many these are
+abbrev pub link_room : SideReport → ℕ
+link_room report = room_for report.wire report.delivered + 512 * length report.exchanges + 32
 
 -- the report of a link: the client, then the server
 abbrev pub link_report_text : LinkReport → List ℕ

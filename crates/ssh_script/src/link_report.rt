@@ -1,9 +1,9 @@
 //! The texts of a link's report and of an attacked run's.
 
-ghost use Rattle.std.specs.Prelude.{◌≡◌, ◌++◌, ◌∷◌, IfOk, IfErr, OnOk};
+ghost use Rattle.std.specs.Prelude.{◌≡◌, ◌++◌, ◌∷◌, ◌-◌, ◌^◌, min, IfOk, IfErr, OnOk};
 ghost use Rattle.std.specs.List.{flat_map};
 ghost use Rattle.ssh_wire.specs.declared.error.Error.TheVariants.{Memory};
-ghost use Rattle.ssh_script.specs.RunReport.{key_word, names_words, exchange_line, exchange_lines, link_side_lines, link_report_text, answer_line, answer_lines, answer_word, attack_report_text};
+ghost use Rattle.ssh_script.specs.RunReport.{key_word, names_words, exchange_line, exchange_lines, link_side_lines, link_report_text, link_room, answer_line, answer_lines, answer_word, attack_report_text};
 
 use crate::print::{push_decimal, push_hex, push_numbered, push_text};
 use crate::refusal::push_error;
@@ -89,7 +89,9 @@ fn push_answer_word(out: &mut Vec<u8>, answer: &Result<(), Error>) -> Result<(),
 const EXCHANGE_ROOM: usize = 512;
 
 /// More than the length of what is printed of a side, so that the text doesn't grow.
-fn text_room(report: &SideReport) -> usize {
+fn text_room(report: &SideReport) -> usize
+    ensures { result ≡ min (link_room report.now) (2 ^ 64 - 1) }
+{
     let exchanges = report.exchanges.as_slice().len();
     room_of(report.wire.as_slice(), report.delivered.as_slice())
         .saturating_add(exchanges.saturating_mul(EXCHANGE_ROOM))

@@ -1,14 +1,16 @@
 //! The lines of a report.
 
-ghost use Rattle.std.specs.Prelude.{◌≡◌, ◌∷◌, [], ◌++◌, decimal, IfErr, OnOk};
+ghost use Rattle.std.specs.Prelude.{◌≡◌, ◌∷◌, [], ◌++◌, ◌-◌, ◌^◌, decimal, min, IfErr, OnOk};
 ghost use Rattle.ssh_wire.specs.declared.error.Error.TheVariants.{Memory};
-ghost use Rattle.ssh_script.specs.Report.{side_name, hex_word, report_line, delivered_lines};
+ghost use Rattle.ssh_script.specs.Report.{side_name, hex_word, report_line, room_for, delivered_lines};
 
 use crate::print::{push_decimal, push_hex};
 use ssh_wire::{Error, Payload, Side, put_u8};
 
-/// More than the length of what is printed of a wire, a number and payloads.
-pub(crate) fn room_of(wire: &[u8], delivered: &[Payload]) -> usize {
+/// More than the length of what is printed of a wire, a number and payloads; it stops at its end.
+pub(crate) fn room_of(wire: &[u8], delivered: &[Payload]) -> usize
+    ensures { result ≡ min (room_for wire.now delivered.now) (2 ^ 64 - 1) }
+{
     let mut room = wire.len().saturating_mul(2).saturating_add(64);
     for payload in delivered {
         room = room.saturating_add(
