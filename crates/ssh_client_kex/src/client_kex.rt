@@ -201,7 +201,8 @@ impl<'c> ClientKex<'c> {
     }
 
     /// Sends the own KEXINIT, with 16 drawn bytes as cookie, and keeps it. It is for a machine before the server's.
-    /// Memory, and then machine and writer are as they were.
+    /// A second call sends another, which takes the place of the first. Memory, and then machine and writer are as they
+    /// were.
     pub fn kexinit<R: Rng>(&mut self, rng: &mut R, output: &mut PacketWriter) -> Result<(), Error>
         requires { IsCreated self.old.stage }
         ensures ok { OnOk result (self.new ≡ record self.old {

@@ -44,6 +44,9 @@ pub struct Agreed {
 }
 
 /// Agrees on secrets. What is said of both sides' values is said of the type, for all its values alike.
+///
+/// A public value is the body of its field: in a finite-field exchange that of an `mpint` (RFC 4253 section 8), so with
+/// a zero byte before a first bit that is set. Bare bytes would be sent as a negative number.
 pub trait Agreement {
     // Which names it offers.
     ghost offered: { Self → kexes.Name → Bool };
@@ -171,7 +174,8 @@ pub trait GroupLookup {
     ghost obliging_lawful: { (v : Self) (s : Setup) → obliging v s → lawful v s };
 }
 
-/// Signs, and judges signatures and hosts.
+/// Signs, and judges signatures and hosts. A signature is the blob of RFC 4253 section 6.6: two strings, the name of its
+/// format and what that format makes.
 pub trait HostKeys {
     // The hosts, hashes and signatures that are accepted, and the hosts that are trusted.
     ghost accepts: { Self → ServerHost → List ℕ → List ℕ → Bool };

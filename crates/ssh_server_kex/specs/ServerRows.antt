@@ -12,7 +12,7 @@ use Rattle.ssh_negotiate.specs.declared.preferred.HostKey.{HostKey}
 use Rattle.ssh_packet.specs.Sealing.{longest_payload}
 use Rattle.ssh_packet.specs.Stream.{message_type}
 use Rattle.ssh_packet.specs.declared.keys.CipherPair.{CipherPair}
-use Rattle.ssh_packet.specs.Writing.{SameButRoom, Writer}
+use Rattle.ssh_packet.specs.Writing.{Writer}
 use Rattle.ssh_wire.specs.declared.error.EncodingFault.{EncodingFault}
 use Rattle.ssh_wire.specs.declared.error.Error.{Error}
 use Rattle.ssh_wire.specs.declared.error.Error.TheVariants as errors
@@ -145,12 +145,6 @@ RefusesAnswer Denied Unsigned Long payload error =
 abbrev pub RefusesValue : Bool → (List ℕ → Type 0) → Type 0 → (ℕ → Type 0) → List ℕ → Error → Type 0
 RefusesValue gex Denied Unsigned Long payload error = RefusesText gex payload error
     ⊎ ((message_type payload ≡ message_type (value_message gex [])) × RefusesAnswer Denied Unsigned Long payload error)
-
--- what a refusal has written: nothing, or a reply
-abbrev pub PutsAtMostReply : Bool → Writer → Writer → Type 0
-PutsAtMostReply gex old new = SameButRoom old new
-    ⊎ ((host : List ℕ) × (value : List ℕ) × (signature : List ℕ)
-    × Puts old (reply_message gex host value signature) new)
 
 -- what is needed so that a server can answer a value: short byte strings, a group where it is a group exchange, and
 -- something to present
