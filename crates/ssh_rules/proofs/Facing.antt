@@ -9,6 +9,7 @@ use Rattle.ssh_wire.specs.declared.side.Side.TheVariants.{Client, Server}
 use Rattle.ssh_negotiate.specs.Causes.{was_strict}
 use Rattle.ssh_negotiate.specs.Laws.{IsWithin, kept_strict}
 use Rattle.ssh_negotiate.specs.Reading.{names_read}
+use Rattle.ssh_negotiate.specs.declared.kex.Name.{Name as KexName}
 use Rattle.ssh_negotiate.specs.declared.negotiation.Names.{Names}
 use Rattle.ssh_kex.specs.Messages.{is_gex, newkeys}
 use Rattle.ssh_kex.specs.Refusals.{kexinit_read}
@@ -16,7 +17,7 @@ use Rattle.ssh_kex.specs.Setting.{Says, Setting, offers_of}
 use Rattle.ssh_kex.specs.Stages.{Stage, Created, AwaitsGroup, AwaitsReply, AwaitsRequest, AwaitsValue, AwaitsNewkeys}
 use Rattle.ssh_kex.specs.declared.config.Config.{Config}
 use Rattle.ssh_kex.specs.declared.exchange.FinishedExchange.{FinishedExchange}
-use Rattle.ssh_rules.specs.Headline.{chosen_by}
+use Rattle.ssh_rules.specs.Headline.{chosen_by, kind_by}
 use Rattle.ssh_rules.specs.Laws.{FindsCanonical, OneLink, OneSecret}
 use Rattle.ssh_rules.specs.Log.{wrote, handled, kept_in, recorded}
 use Rattle.ssh_rules.specs.Machine.{Where, Silent, Outside, Inside, SideState, Event, IdHeard, PayloadSubmitted, ExchangeBegun, AnswerSent, PayloadSent, MessageTaken, GuessDropped, PayloadDelivered, PacketDropped, ExchangeFinished, Step, cause_of, first_state, names_now, setting}
@@ -160,17 +161,34 @@ serves_by says s (AwaitsRequest o) own theirs f = f.server
 serves_by says s (AwaitsValue o gex) own theirs f = tt
 serves_by says s (AwaitsNewkeys exchange x host) own theirs f = tt
 
-kex_by : (config : Side → Config) (side : Side) (own_id : List ℕ) (names : Names) (st : SideState) (stage : Stage) (m : List ℕ) → IsWithin (offers_of Client (config Client)) → IsWithin (offers_of Server (config Server)) → chosen_by (config Client) (config Server) ≡ Ok names → IsReadable (other_side side) (config (other_side side)) stage m → ReadsKex (setting side (config side) own_id st) stage m names.kex
-kex_by config side own_id names st (Created k) m c s e r = λ n h.
+-- where a group is asked for, a group exchange was chosen
+abbrev IsGexAt : Stage → KexName → Type 0
+IsGexAt (Created k) kex = Unit {0}
+IsGexAt (AwaitsGroup o) kex = is_gex kex ≡ true
+IsGexAt (AwaitsReply o gex local public) kex = Unit {0}
+IsGexAt (AwaitsRequest o) kex = is_gex kex ≡ true
+IsGexAt (AwaitsValue o gex) kex = Unit {0}
+IsGexAt (AwaitsNewkeys exchange x host) kex = Unit {0}
+
+gex_by_stage : (config : Side → Config) (names : Names) (says : Says) (s : Setting) (stage : Stage) (own theirs : List (List ℕ)) → chosen_by (config Client) (config Server) ≡ Ok names → KindIs (kind_chosen config) (names_now (Inside stage)) → FitsStage says s stage own theirs → IsGexAt stage names.kex
+gex_by_stage config names says s (Created own_kexinit) own theirs e k f = tt
+gex_by_stage config names says s (AwaitsGroup o) own theirs e k f = sym (ap kind_by e) ∙ (sym k ∙ f.kind)
+gex_by_stage config names says s (AwaitsReply o gex local public) own theirs e k f = tt
+gex_by_stage config names says s (AwaitsRequest o) own theirs e k f = sym (ap kind_by e) ∙ (sym k ∙ f.kind)
+gex_by_stage config names says s (AwaitsValue o gex) own theirs e k f = tt
+gex_by_stage config names says s (AwaitsNewkeys exchange x host) own theirs e k f = tt
+
+kex_by : (config : Side → Config) (side : Side) (own_id : List ℕ) (names : Names) (st : SideState) (stage : Stage) (m : List ℕ) → IsWithin (offers_of Client (config Client)) → IsWithin (offers_of Server (config Server)) → chosen_by (config Client) (config Server) ≡ Ok names → IsReadable (other_side side) (config (other_side side)) stage m → IsGexAt stage names.kex → ReadsKex (setting side (config side) own_id st) stage m names.kex
+kex_by config side own_id names st (Created k) m c s e r g = λ n h.
     let still = was_strict (cause_of st.records) in
     let read : kexinit_read (setting side (config side) own_id st) m ≡ Ok (kept_strict still names) = at_setting side (config side) own_id st m (kept_strict still names) (ap (names_read side (offers_of side (config side)) still) r.2 ∙ reads_names side config names still r.0 c s e r.1) in
     let same : n ≡ kept_strict still names = (let q : Ok n ≡ Ok (kept_strict still names) = sym h ∙ read in cc) in
     ap (λ (x : Names). x.kex) same
-kex_by config side own_id names st (AwaitsGroup o) m c s e r = tt
-kex_by config side own_id names st (AwaitsReply o gex local public) m c s e r = tt
-kex_by config side own_id names st (AwaitsRequest o) m c s e r = tt
-kex_by config side own_id names st (AwaitsValue o gex) m c s e r = tt
-kex_by config side own_id names st (AwaitsNewkeys exchange x host) m c s e r = tt
+kex_by config side own_id names st (AwaitsGroup o) m c s e r g = g
+kex_by config side own_id names st (AwaitsReply o gex local public) m c s e r g = tt
+kex_by config side own_id names st (AwaitsRequest o) m c s e r g = g
+kex_by config side own_id names st (AwaitsValue o gex) m c s e r g = tt
+kex_by config side own_id names st (AwaitsNewkeys exchange x host) m c s e r g = tt
 
 one_stage : (a b : Stage) → Inside a ≡ Inside b → a ≡ b
 one_stage a b e = cc
@@ -198,7 +216,7 @@ is_faced says config side log plog h peer stage j more names sizes cw sw secret 
   readable = readable;
   short = written_short (says o) o (config o) theirs c.mid c.event c.next j c.writes c.step;
   met = met_here looks;
-  kex = kex_by config side own names st stage j.payload cw sw chosen readable;
+  kex = kex_by config side own names st stage j.payload cw sw chosen readable (gex_here looks);
   serves = serves_here looks;
 } where
   o : Side
@@ -288,6 +306,10 @@ is_faced says config side log plog h peer stage j more names sizes cw sw secret 
   serves_here : LooksIn st.stands stage → Serves s stage
   serves_here (inl inside) = serves_by (says side) s stage t.own t.theirs (here inside)
   serves_here (inr z) = subst (Serves s) (sym (z.1).1) tt
+
+  gex_here : LooksIn st.stands stage → IsGexAt stage names.kex
+  gex_here (inl inside) = gex_by_stage config names (says side) s stage t.own t.theirs chosen (subst (λ x. KindIs (kind_chosen config) (names_now x)) inside known) (here inside)
+  gex_here (inr z) = subst (λ q. IsGexAt q names.kex) (sym (z.1).1) tt
 
   met : st.stands ≡ Inside stage → 0 < length t.theirs → (p : Setting) × AreBoth says config s p × Faces says s p stage j.payload
   met inside some =

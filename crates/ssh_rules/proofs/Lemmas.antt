@@ -32,6 +32,7 @@ pub use Rattle.ssh_rules.proofs.Starts.{start_is_snapshot, rests_again, reading_
 pub use Rattle.ssh_rules.proofs.Moments.{held_by}
 pub use Rattle.ssh_rules.proofs.LinkFew.{link_bounded, most_begun}
 pub use Rattle.ssh_rules.proofs.LinkIs.{asked_last, asked_more, link_is, submitted_last}
+pub use Rattle.ssh_rules.proofs.Grouped.{FindsOnly, link_in_group}
 pub use Rattle.ssh_rules.proofs.Next.{next_is, next_accepted}
 pub use Rattle.ssh_rules.proofs.Forms.{readable}
 pub use Rattle.ssh_rules.proofs.Early.{early_run, awaited_passes}

@@ -78,6 +78,7 @@ pub mod Asking
 pub mod FewAsked
 pub mod LinkFew
 pub mod LinkIs
+pub mod Grouped
 pub mod Kept
 pub mod KindRead
 pub mod RunHandled

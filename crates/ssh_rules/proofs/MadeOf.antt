@@ -22,7 +22,7 @@ use Rattle.ssh_kex.specs.declared.exchange.ServerHost.{ServerHost}
 use Rattle.ssh_kex.specs.declared.group.DhGroup.{DhGroup}
 use Rattle.ssh_kex.specs.declared.group.GexParams.{GexParams}
 use Rattle.ssh_rules.specs.Fills.{Fills, messages}
-use Rattle.ssh_rules.specs.Headline.{IsMadeOf, chosen_by, first_hash, gex_by, keys_for}
+use Rattle.ssh_rules.specs.Headline.{IsMadeOf, IsWithinSizes, chosen_by, first_hash, gex_by, keys_for}
 use Rattle.ssh_rules.specs.Laws.{OneSecret, FindsCanonical}
 use Rattle.ssh_rules.proofs.Ledgers.{setting_at}
 use Rattle.ssh_rules.specs.Machine.{cause_of}
@@ -100,6 +100,10 @@ canonical_or : (gex : Option GexChosen) (params : GexParams) (kind : Bool) → k
 canonical_or None params kind e o k = absurd (not_both (sym k ∙ e))
 canonical_or (Some g) params kind e o k = o.canonical
 
+within_sizes : (gex : Option GexChosen) (params : GexParams) → IfSome gex (IsOwnGroup params) → IfSome gex (IsWithinSizes params)
+within_sizes None params h = tt
+within_sizes (Some g) params h = record { least = h.least; most = h.most }
+
 pub is_made_of : (client server : Says) (client_makes : ClientPairs) (server_makes : ServerValues) (agrees : Secrets)
     (cc sc : Config) (before : List FinishedExchange) (a b : List (List ℕ)) (d e : Exchange) (x y : FinishedExchange) (g h : Option ServerHost)
     → TellsParts client server client_makes server_makes agrees → OneSecret client server → FindsCanonical server → IsWithin (offers_of Client cc) → IsWithin (offers_of Server sc) → AreChosen (chosen_by cc sc) before
@@ -131,6 +135,7 @@ is_made_of client server client_makes server_makes agrees cc sc before a b d e x
         exchange_is = same_exchange d (record { client_id = id_text cc.id; server_id = id_text sc.id; client_kex_init = kexinit (offers_of Client cc) mc.cookie; server_kex_init = kexinit (offers_of Server sc) ms.cookie; client_ephemeral = d.client_ephemeral; server_ephemeral = d.server_ephemeral; gex = gex_by (is_gex x.names.kex) cc.gex (group_or d.gex) })
             mc.client_id mc.server_id mc.kexinit_is server_kexinit refl refl (gex_is d.gex cc.gex (is_gex x.names.kex) kind mc.group);
       };
+      within = within_sizes d.gex cc.gex mc.group;
       secret = mc.secret;
       local = mc.local;
       by_client = subst (λ (n : Names). client_makes n.kex (group_of d.gex) mc.local d.client_ephemeral) (sym x_names) (tells.for_client _ _ _ _ mc.makes);

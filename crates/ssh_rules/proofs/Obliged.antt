@@ -48,10 +48,10 @@ pub record Duties (says : Side → Says) (config : Side → Config) (side : Side
   pub start : (name : kexes.Name) (group : Option DhGroup) → (says side).offers name → denies.start name group → ⊥
   pub value : (name : kexes.Name) (group : Option DhGroup) (local public : List ℕ) → (says side).offers name → (says Client).client_makes name group local public → denies.value name group public → ⊥
   pub reply : (name : kexes.Name) (group : Option DhGroup) (local public value : List ℕ) → (says side).offers name → (says Client).client_makes name group local public → (says Server).server_makes name group value → denies.reply name group local value → ⊥
-  pub lookup : side ≡ Server → (sizes : GexParams) → denies.lookup sizes → ⊥
+  pub lookup : side ≡ Server → is_gex kex ≡ true → (sizes : GexParams) → denies.lookup sizes → ⊥
   pub sign : denies.sign → ⊥
   pub verify : (host : ServerHost) (hash signature : List ℕ) → (says Server).signs host hash signature → denies.verify host hash signature → ⊥
-  pub fits : (group : DhGroup) → (says Server).finds (config Client).gex group → IsInside (config Client).gex group
+  pub fits : is_gex kex ≡ true → (group : DhGroup) → (says Server).finds (config Client).gex group → IsInside (config Client).gex group
 
 -- what lawful parts make is small
 pub record AreSmall (says : Says) (side : Side) (gex : GexParams) : Type 0 where
@@ -217,16 +217,25 @@ not_missigned says config s p (AwaitsNewkeys exchange made host) m kex denies d 
 
 -- ---- what the agreement and the lookup are asked
 
-not_denied : (says : Side → Says) (config : Side → Config) (s p : Setting) (stage : Stage) (seqn : ℕ) (m : List ℕ) (kex : kexes.Name) (denies : Denies) → Duties says config s.side kex denies → AreBoth says config s p → Faces says s p stage m → IsReadable (other_side s.side) (config (other_side s.side)) stage m → PartDenies (says s.side) denies s stage seqn m → ⊥
-not_denied says config s p (Created own) seqn m kex denies d b f r h = d.start h.names.kex None h.offered h.denied
-not_denied says config s p (AwaitsGroup o) seqn m kex denies d b f r h = d.start o.names.kex (Some h.group) f.here.opened.offered h.denied
-not_denied says config s p (AwaitsReply o gex local public) seqn m kex denies d b f r h =
+-- a KEXINIT is read to the chosen name of the key exchange, and a group is asked for where that is a group exchange
+abbrev pub ReadsKex : Setting → Stage → List ℕ → kexes.Name → Type 0
+ReadsKex s (Created own) m kex = (n : Names) → kexinit_read s m ≡ Ok n → n.kex ≡ kex
+ReadsKex s (AwaitsGroup o) m kex = is_gex kex ≡ true
+ReadsKex s (AwaitsReply o gex local public) m kex = Unit {0}
+ReadsKex s (AwaitsRequest o) m kex = is_gex kex ≡ true
+ReadsKex s (AwaitsValue o gex) m kex = Unit {0}
+ReadsKex s (AwaitsNewkeys exchange made host) m kex = Unit {0}
+
+not_denied : (says : Side → Says) (config : Side → Config) (s p : Setting) (stage : Stage) (seqn : ℕ) (m : List ℕ) (kex : kexes.Name) (denies : Denies) → Duties says config s.side kex denies → AreBoth says config s p → Faces says s p stage m → IsReadable (other_side s.side) (config (other_side s.side)) stage m → ReadsKex s stage m kex → PartDenies (says s.side) denies s stage seqn m → ⊥
+not_denied says config s p (Created own) seqn m kex denies d b f r k h = d.start h.names.kex None h.offered h.denied
+not_denied says config s p (AwaitsGroup o) seqn m kex denies d b f r k h = d.start o.names.kex (Some h.group) f.here.opened.offered h.denied
+not_denied says config s p (AwaitsReply o gex local public) seqn m kex denies d b f r k h =
     let q = reply_read says config s p o gex local public m b f in
     let value : h.front.value ≡ q.made.exchange.server_ephemeral = ap (λ (x : ReplyFront). x.value) (ok_is (reply_front (fields m)) h.front _ h.read q.front) in
     d.reply o.names.kex (group_of gex) local public q.made.exchange.server_ephemeral f.here.opened.offered (subst (λ w. (says w).client_makes o.names.kex (group_of gex) local public) f.here.client f.here.makes) q.makes
     (subst (λ v. denies.reply o.names.kex (group_of gex) local v) value h.denied)
-not_denied says config s p (AwaitsRequest o) seqn m kex denies d b f r h = d.lookup f.here.server h.sizes h.denied
-not_denied says config s p (AwaitsValue o gex) seqn m kex denies d b f r h = d.value o.names.kex (group_of gex) v.local v.value f.here.opened.offered makes (subst (denies.value o.names.kex (group_of gex)) value h.denied) where
+not_denied says config s p (AwaitsRequest o) seqn m kex denies d b f r k h = d.lookup f.here.server k h.sizes h.denied
+not_denied says config s p (AwaitsValue o gex) seqn m kex denies d b f r k h = d.value o.names.kex (group_of gex) v.local v.value f.here.opened.offered makes (subst (denies.value o.names.kex (group_of gex)) value h.denied) where
   client : p.side ≡ Client
   client = client_is s p f.here.server f.sides
 
@@ -251,7 +260,7 @@ not_denied says config s p (AwaitsValue o gex) seqn m kex denies d b f r h = d.v
 
   makes : (says Client).client_makes o.names.kex (group_of gex) v.local v.value
   makes = subst (λ w. (says w).client_makes o.names.kex (group_of gex) v.local v.value) client (subst (λ (n : Names). (says p.side).client_makes n.kex (group_of gex) v.local v.value) names v.makes)
-not_denied says config s p (AwaitsNewkeys exchange made host) seqn m kex denies d b f r h = h
+not_denied says config s p (AwaitsNewkeys exchange made host) seqn m kex denies d b f r k h = h
 
 not_unsigned : (denies : Denies) (stage : Stage) (m : List ℕ) → (denies.sign → ⊥) → SigningDenied denies stage m → ⊥
 not_unsigned denies (Created own) m d h = h
@@ -260,15 +269,6 @@ not_unsigned denies (AwaitsReply o gex local public) m d h = h
 not_unsigned denies (AwaitsRequest o) m d h = h
 not_unsigned denies (AwaitsValue o gex) m d h = d h.1
 not_unsigned denies (AwaitsNewkeys exchange made host) m d h = h
-
--- a KEXINIT is read to the chosen name of the key exchange
-abbrev pub ReadsKex : Setting → Stage → List ℕ → kexes.Name → Type 0
-ReadsKex s (Created own) m kex = (n : Names) → kexinit_read s m ≡ Ok n → n.kex ≡ kex
-ReadsKex s (AwaitsGroup o) m kex = Unit {0}
-ReadsKex s (AwaitsReply o gex local public) m kex = Unit {0}
-ReadsKex s (AwaitsRequest o) m kex = Unit {0}
-ReadsKex s (AwaitsValue o gex) m kex = Unit {0}
-ReadsKex s (AwaitsNewkeys exchange made host) m kex = Unit {0}
 
 pub not_unoffered : (says : Says) (s : Setting) (stage : Stage) (seqn : ℕ) (m : List ℕ) (kex : kexes.Name) → says.offers kex → ReadsKex s stage m kex → IsUnoffered says s stage seqn m → ⊥
 not_unoffered says s (Created own) seqn m kex d r h = h.2 (subst says.offers (sym (r h.0 h.1.read)) d)
@@ -380,13 +380,21 @@ never_outside says config s (AwaitsRequest o) m fits f h = h
 never_outside says config s (AwaitsValue o gex) m fits f h = h
 never_outside says config s (AwaitsNewkeys exchange made host) m fits f h = h
 
-never_denied : (says : Side → Says) (config : Side → Config) (s : Setting) (stage : Stage) (seqn : ℕ) (m : List ℕ) (kex : kexes.Name) (denies : Denies) → Duties says config s.side kex denies → IsMet says config s stage m → IsReadable (other_side s.side) (config (other_side s.side)) stage m → PartDenies (says s.side) denies s stage seqn m → ⊥
-never_denied says config s (Created own) seqn m kex denies d f r h = d.start h.names.kex None h.offered h.denied
-never_denied says config s (AwaitsGroup o) seqn m kex denies d f r h = not_denied says config s f.0 (AwaitsGroup o) seqn m kex denies d f.1 f.2 r h
-never_denied says config s (AwaitsReply o gex local public) seqn m kex denies d f r h = not_denied says config s f.0 (AwaitsReply o gex local public) seqn m kex denies d f.1 f.2 r h
-never_denied says config s (AwaitsRequest o) seqn m kex denies d f r h = not_denied says config s f.0 (AwaitsRequest o) seqn m kex denies d f.1 f.2 r h
-never_denied says config s (AwaitsValue o gex) seqn m kex denies d f r h = not_denied says config s f.0 (AwaitsValue o gex) seqn m kex denies d f.1 f.2 r h
-never_denied says config s (AwaitsNewkeys exchange made host) seqn m kex denies d f r h = h
+never_unfit : (says : Side → Says) (config : Side → Config) (s : Setting) (stage : Stage) (m : List ℕ) (kex : kexes.Name) → (is_gex kex ≡ true → (group : DhGroup) → (says Server).finds (config Client).gex group → IsInside (config Client).gex group) → ReadsKex s stage m kex → IsMet says config s stage m → IsOutOfRange s stage m → ⊥
+never_unfit says config s (Created own) m kex fits k f h = h
+never_unfit says config s (AwaitsGroup o) m kex fits k f h = not_outside says config s f.0 (AwaitsGroup o) m (fits k) f.1 f.2 h
+never_unfit says config s (AwaitsReply o gex local public) m kex fits k f h = h
+never_unfit says config s (AwaitsRequest o) m kex fits k f h = h
+never_unfit says config s (AwaitsValue o gex) m kex fits k f h = h
+never_unfit says config s (AwaitsNewkeys exchange made host) m kex fits k f h = h
+
+never_denied : (says : Side → Says) (config : Side → Config) (s : Setting) (stage : Stage) (seqn : ℕ) (m : List ℕ) (kex : kexes.Name) (denies : Denies) → Duties says config s.side kex denies → IsMet says config s stage m → IsReadable (other_side s.side) (config (other_side s.side)) stage m → ReadsKex s stage m kex → PartDenies (says s.side) denies s stage seqn m → ⊥
+never_denied says config s (Created own) seqn m kex denies d f r k h = d.start h.names.kex None h.offered h.denied
+never_denied says config s (AwaitsGroup o) seqn m kex denies d f r k h = not_denied says config s f.0 (AwaitsGroup o) seqn m kex denies d f.1 f.2 r k h
+never_denied says config s (AwaitsReply o gex local public) seqn m kex denies d f r k h = not_denied says config s f.0 (AwaitsReply o gex local public) seqn m kex denies d f.1 f.2 r k h
+never_denied says config s (AwaitsRequest o) seqn m kex denies d f r k h = not_denied says config s f.0 (AwaitsRequest o) seqn m kex denies d f.1 f.2 r k h
+never_denied says config s (AwaitsValue o gex) seqn m kex denies d f r k h = not_denied says config s f.0 (AwaitsValue o gex) seqn m kex denies d f.1 f.2 r k h
+never_denied says config s (AwaitsNewkeys exchange made host) seqn m kex denies d f r k h = h
 
 never_missigned : (says : Side → Says) (config : Side → Config) (s : Setting) (stage : Stage) (m : List ℕ) (kex : kexes.Name) (denies : Denies) → Duties says config s.side kex denies → IsMet says config s stage m → SignatureDenied (says s.side) denies s stage m → ⊥
 never_missigned says config s (Created own) m kex denies d f h = h
@@ -398,11 +406,11 @@ never_missigned says config s (AwaitsNewkeys exchange made host) m kex denies d 
 
 -- Where the other side's parts made the message, and the own parts do what they owe, want of memory is left.
 pub none_refused : (says : Side → Says) (denies : Denies) (config : Side → Config) (s : Setting) (stage : Stage) (seqn : ℕ) (m : List ℕ) (kex : kexes.Name) (e : Error) → Duties says config s.side kex denies → AreSmall (says s.side) s.side (config (other_side s.side)).gex → Serves s stage → some_blob_long s.config ≡ false → HasSizes (config (other_side s.side)) → IsMet says config s stage m → ReadsKex s stage m kex → IsReadable (other_side s.side) (config (other_side s.side)) stage m → PartsRefuse (says s.side) denies s stage seqn m e → e ≡ errors.Memory
-none_refused says denies config s stage seqn m kex errors.KexInit d a sv c z f k r h = absurd (never_outside says config s stage m d.fits f h)
+none_refused says denies config s stage seqn m kex errors.KexInit d a sv c z f k r h = absurd (never_unfit says config s stage m kex d.fits k f h)
 none_refused says denies config s stage seqn m kex errors.UnknownAlgo d a sv c z f k r h = absurd (not_unoffered (says s.side) s stage seqn m kex d.offered k h)
 none_refused says denies config s stage seqn m kex (errors.NoCommonAlgo kind ours theirs) d a sv c z f k r h = absurd h
 none_refused says denies config s stage seqn m kex errors.Version d a sv c z f k r h = absurd h
-none_refused says denies config s stage seqn m kex errors.Kex d a sv c z f k r h = absurd (never_denied says config s stage seqn m kex denies d f r h)
+none_refused says denies config s stage seqn m kex errors.Kex d a sv c z f k r h = absurd (never_denied says config s stage seqn m kex denies d f r k h)
 none_refused says denies config s stage seqn m kex errors.PacketAuth d a sv c z f k r h = absurd h
 none_refused says denies config s stage seqn m kex errors.Inconsistent d a sv c z f k r h = absurd h
 none_refused says denies config s stage seqn m kex errors.IndexOutOfBounds d a sv c z f k r h = absurd h

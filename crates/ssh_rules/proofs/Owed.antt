@@ -4,7 +4,7 @@ use Rattle.ssh_wire.specs.Sides.{other_side}
 use Rattle.ssh_wire.specs.declared.side.Side.{Side}
 use Rattle.ssh_wire.specs.declared.side.Side.TheVariants.{Client, Server}
 use Rattle.ssh_negotiate.specs.declared.kex.Name.{Name as KexName}
-use Rattle.ssh_kex.specs.Messages.{bit_size}
+use Rattle.ssh_kex.specs.Messages.{bit_size, is_gex}
 use Rattle.ssh_kex.specs.Parts.{IsSmall, KeepsAgreement, KeepsGroups, KeepsHosts, Setup}
 use Rattle.ssh_kex.specs.Stepping.{denies_of, says_of}
 use Rattle.ssh_kex.specs.declared.config.Config.{Config}
@@ -30,10 +30,10 @@ pub duties_of : {A H G : Type 0} (lawful obliging : A → Setup → Type 0) (off
     (lawful_groups obliging_groups : G → Setup → Type 0) (group : G → GexParams → DhGroup) (refused_lookup looked : G → ℕ)
     → PartLaws lawful obliging obliging_hosts accepts makes lawful_groups obliging_groups group
     → (t : Setup) (a b : A) (h i : H) (g j : G) (kex : KexName) (side : Side) (v v' : A) (x x' : H) (y y' : G)
-    → obliging a t → obliging b t → obliging_hosts h t → obliging_hosts i t → obliging_groups j t → offered (one_of side a b) kex ≡ true
+    → obliging a t → obliging b t → obliging_hosts h t → obliging_hosts i t → lawful_groups j t → (is_gex kex ≡ true → obliging_groups j t) → offered (one_of side a b) kex ≡ true
     → KeepsAgreement lawful obliging offered refusals calls (one_of side a b) v → KeepsHosts lawful_hosts obliging_hosts accepts trusts refused_sign refused_verify refused_check asked (one_of side h i) x → KeepsGroups lawful_groups obliging_groups group refused_lookup looked (one_of side g j) y
     → Duties (says_by (says_of lawful offered client_makes server_makes agrees lawful_hosts obliging_hosts accepts trusts makes lawful_groups group) t a b h i g j) (config_of t) side kex (denies_of obliging offered client_makes server_makes refusals obliging_hosts accepts refused_sign refused_verify obliging_groups refused_lookup v v' x x' y y')
-duties_of lawful obliging offered cm sm ag refusals calls lh oh accepts trusts makes rs rv rc asked lg og group rl looked laws t a b h i g j kex Client v v' x x' y y' oa ob ohh oi oj o ka kh kg = record {
+duties_of lawful obliging offered cm sm ag refusals calls lh oh accepts trusts makes rs rv rc asked lg og group rl looked laws t a b h i g j kex Client v v' x x' y y' oa ob ohh oi lj oj o ka kh kg = record {
   offered = o;
   start = λ name q f d. d.1 t (ka.obliging_kept t oa) (ap (λ (z : KexName → Bool). z name) ka.offered_kept ∙ f);
   value = λ name q l p f m d. d.1 t l (ka.obliging_kept t oa) (ap (λ (z : KexName → Bool). z name) ka.offered_kept ∙ f) (m t (laws.agreement a t oa));
@@ -41,17 +41,17 @@ duties_of lawful obliging offered cm sm ag refusals calls lh oh accepts trusts m
   lookup = λ e. absurd (wrong_side e);
   sign = λ d. d.1 t (kh.obliging_kept t ohh);
   verify = λ host hash signature m d. d.1 t (kh.obliging_kept t ohh) (ap (λ (z : ServerHost → List ℕ → List ℕ → Bool). z host hash signature) kh.accepts_kept ∙ laws.accepted h t host hash signature ohh (m t refl oi));
-  fits = λ q f. (let e = (f t (laws.lookup j t oj)).0 in let l = laws.fits j t oj in record { least = Rattle.std.proofs.Common.subst (λ (z : DhGroup). t.client.gex.min_group_size ≤ bit_size z.prime) (sym e) l.0; most = Rattle.std.proofs.Common.subst (λ (z : DhGroup). bit_size z.prime ≤ t.client.gex.max_group_size) (sym e) l.1 });
+  fits = λ k q f. (let e = (f t lj).0 in let l = laws.fits j t (oj k) in record { least = Rattle.std.proofs.Common.subst (λ (z : DhGroup). t.client.gex.min_group_size ≤ bit_size z.prime) (sym e) l.0; most = Rattle.std.proofs.Common.subst (λ (z : DhGroup). bit_size z.prime ≤ t.client.gex.max_group_size) (sym e) l.1 });
 }
-duties_of lawful obliging offered cm sm ag refusals calls lh oh accepts trusts makes rs rv rc asked lg og group rl looked laws t a b h i g j kex Server v v' x x' y y' oa ob ohh oi oj o ka kh kg = record {
+duties_of lawful obliging offered cm sm ag refusals calls lh oh accepts trusts makes rs rv rc asked lg og group rl looked laws t a b h i g j kex Server v v' x x' y y' oa ob ohh oi lj oj o ka kh kg = record {
   offered = o;
   start = λ name q f d. d.1 t (ka.obliging_kept t ob) (ap (λ (z : KexName → Bool). z name) ka.offered_kept ∙ f);
   value = λ name q l p f m d. d.1 t l (ka.obliging_kept t ob) (ap (λ (z : KexName → Bool). z name) ka.offered_kept ∙ f) (m t (laws.agreement a t oa));
   reply = λ name q l p w f m n d. d.1 t p (ka.obliging_kept t ob) (ap (λ (z : KexName → Bool). z name) ka.offered_kept ∙ f) (m t (laws.agreement a t oa)) (n t (laws.agreement b t ob));
-  lookup = λ e sizes d. d.1 t (kg.obliging_kept t oj);
+  lookup = λ e k sizes d. d.1 t (kg.obliging_kept t (oj k));
   sign = λ d. d.1 t (kh.obliging_kept t oi);
   verify = λ host hash signature m d. d.1 t (kh.obliging_kept t oi) (ap (λ (z : ServerHost → List ℕ → List ℕ → Bool). z host hash signature) kh.accepts_kept ∙ laws.accepted i t host hash signature oi (m t refl oi));
-  fits = λ q f. (let e = (f t (laws.lookup j t oj)).0 in let l = laws.fits j t oj in record { least = Rattle.std.proofs.Common.subst (λ (z : DhGroup). t.client.gex.min_group_size ≤ bit_size z.prime) (sym e) l.0; most = Rattle.std.proofs.Common.subst (λ (z : DhGroup). bit_size z.prime ≤ t.client.gex.max_group_size) (sym e) l.1 });
+  fits = λ k q f. (let e = (f t lj).0 in let l = laws.fits j t (oj k) in record { least = Rattle.std.proofs.Common.subst (λ (z : DhGroup). t.client.gex.min_group_size ≤ bit_size z.prime) (sym e) l.0; most = Rattle.std.proofs.Common.subst (λ (z : DhGroup). bit_size z.prime ≤ t.client.gex.max_group_size) (sym e) l.1 });
 }
 
 -- what lawful parts make is small

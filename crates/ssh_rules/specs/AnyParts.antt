@@ -1,5 +1,5 @@
 -- What a report of a link says whatever the handed-in parts are.
-use Rattle.std.specs.Prelude.{◌≡◌, ℕ, List, length, take, drop, slice_get, true, Some, if◌then◌else◌}
+use Rattle.std.specs.Prelude.{◌≡◌, ◌≤◌, ℕ, List, length, take, drop, slice_get, true, Some, if◌then◌else◌}
 use Rattle.ssh_packet.specs.Sealing.{Item}
 use Rattle.ssh_wire.specs.Lines.{id_line}
 use Rattle.ssh_wire.specs.declared.side.Side.{Side}
@@ -11,7 +11,7 @@ use Rattle.ssh_kex.specs.declared.exchange.FinishedExchange.{FinishedExchange}
 use Rattle.ssh_rules.specs.declared.link.LinkReport.{LinkReport}
 use Rattle.ssh_rules.specs.declared.link.SideReport.{SideReport}
 use Rattle.ssh_kex.specs.Messages.{host_with, is_gex, reply_message}
-use Rattle.ssh_rules.specs.Wire.{carried_payloads, exchange_block, epochs_ended}
+use Rattle.ssh_rules.specs.Wire.{HasFront, carried_payloads, exchange_block, epochs_ended}
 use Rattle.ssh_rules.specs.Handled.{Handled, AllRead}
 use Rattle.ssh_rules.specs.Guess.{BeforeKexinit, without_guesses}
 
@@ -26,10 +26,13 @@ pub record IsSigned (accepts : Accepting) (trusts : Trusting)
   pub accepted : accepts (host_with x.names host) x.hash (judged signature) ≡ true
   pub trusted : trusts (host_with x.names host) ≡ true
 
--- What a side delivered is what it opened of the bytes that it took, under the keys that it recorded; and what a client
--- recorded was signed by a host that it trusts. This holds whatever the handed-in parts are.
+-- The other's wire begins with its id line, and the side took no more than stands there. What it delivered is what it
+-- opened of the bytes that it took, under the keys that it recorded; and what a client recorded was signed by a host that
+-- it trusts. This holds whatever the handed-in parts are.
 pub record IsReadSide (accepts : Accepting) (trusts : Trusting) (side : Side)
     (config other : Config) (r other_report : SideReport) : Type 0 where
+  pub line : HasFront other_report.wire (id_line other.id)
+  pub within : r.taken ≤ length other_report.wire
   pub items : List Item
   pub reads : Handled side config r.exchanges
       (drop (length (id_line other.id)) (take r.taken other_report.wire)) items AllRead

@@ -1,11 +1,11 @@
 -- What a report of a link says, where it was answered.
-use Rattle.std.specs.Prelude.{◌≡◌, ℕ, ◌+◌, ◌<◌, ◌≤◌, List, [], ◌∷◌, length, take, map, slice_get, Bool, true, false, Option, Some, None, if◌then◌else◌, Result, Ok, Err}
+use Rattle.std.specs.Prelude.{◌≡◌, ℕ, ◌+◌, ◌<◌, ◌≤◌, List, [], ◌∷◌, ◌++◌, length, take, map, slice_get, Bool, true, false, Option, Some, None, IfSome, if◌then◌else◌, Result, Ok, Err}
 use Rattle.ssh_packet.specs.Sealing.{Item}
-use Rattle.ssh_wire.specs.Lines.{id_text}
+use Rattle.ssh_wire.specs.Lines.{id_line, id_text}
 use Rattle.ssh_wire.specs.Sides.{same_side}
 use Rattle.ssh_wire.specs.declared.side.Side.{Side}
 use Rattle.ssh_wire.specs.declared.side.Side.TheVariants.{Client, Server}
-use Rattle.ssh_packet.specs.Stream.{first_place}
+use Rattle.ssh_packet.specs.Stream.{Reads, first_place}
 use Rattle.ssh_negotiate.specs.declared.negotiation.Names.{Names}
 use Rattle.ssh_rules.specs.Parts.{ClientPairs, Secrets, ServerValues}
 use Rattle.ssh_kex.specs.declared.config.Config.{Config}
@@ -17,7 +17,7 @@ use Rattle.ssh_rules.specs.declared.link.Step.{Step}
 use Rattle.ssh_rules.specs.declared.link.Step.TheVariants.{Submit, Deliver, Rekey, Settle}
 use Rattle.ssh_rules.specs.declared.link.LinkReport.{LinkReport}
 use Rattle.ssh_rules.specs.declared.link.SideReport.{SideReport}
-use Rattle.ssh_kex.specs.Messages.{is_gex, presented, Presented, IsCanonical}
+use Rattle.ssh_kex.specs.Messages.{is_gex, presented, Presented, IsCanonical, bit_size, group_message}
 use Rattle.ssh_negotiate.specs.Advertised.{kexinit}
 use Rattle.ssh_kex.specs.Exchange.{exchange_hash, keys_of, secret_text, outgoing, secret_of}
 use Rattle.ssh_rules.specs.Fills.{Fills, messages}
@@ -93,6 +93,11 @@ abbrev pub keys_for : Names → List ℕ → List ℕ → List ℕ → Keys
 keys_for n secret hash session =
     keys_of (shape_of n.kex).digest (secret_text (secret_of n.kex (Some secret))) hash session n
 
+-- a group's prime has as many bits as the sizes allow (RFC 4419 section 3)
+pub record IsWithinSizes (sizes : GexParams) (g : GexChosen) : Type 0 where
+  pub least : sizes.min_group_size ≤ bit_size g.group.prime
+  pub most : bit_size g.group.prime ≤ sizes.max_group_size
+
 -- An exchange that was recorded is the one that the two blocks make.
 pub record IsMadeOf (client_makes : ClientPairs) (server_makes : ServerValues) (agrees : Secrets)
     (client server : Config) (before : List FinishedExchange) (client_block server_block : List (List ℕ))
@@ -101,6 +106,8 @@ pub record IsMadeOf (client_makes : ClientPairs) (server_makes : ServerValues) (
   pub exchange : Exchange
   pub host : List ℕ
   pub stand : StandsIn client server (is_gex x.names.kex) client_block server_block exchange host
+  -- the client took its group, so it is within the client's sizes
+  pub within : IfSome exchange.gex (IsWithinSizes client.gex)
   pub secret : List ℕ
   pub local : List ℕ
   pub by_client : client_makes x.names.kex (group_of exchange.gex) local exchange.client_ephemeral
@@ -188,3 +195,16 @@ pub record IsLink (client_makes : ClientPairs) (server_makes : ServerValues) (ag
   pub client_fresh : NeverRepeats Client report.client.exchanges client_items
   pub server_fresh : NeverRepeats Server report.server.exchanges server_items
   pub few : (length report.client.exchanges ≤ bound_of steps) × (length report.server.exchanges ≤ bound_of steps)
+
+-- each group exchange among these has this group in the server's block, behind its KEXINIT (RFC 4419 section 3)
+abbrev pub HaveGroup : DhGroup → List FinishedExchange → List Item → Type 0
+HaveGroup group exchanges server_items = (k : ℕ) (x : FinishedExchange) → slice_get exchanges k ≡ Some x
+    → is_gex x.names.kex ≡ true → slice_get (exchange_block k server_items) 1 ≡ Some (group_message group)
+
+-- So of a report: the packets of the server's wire have it in each group exchange that a side recorded.
+pub record IsInGroup (server : Config) (group : DhGroup) (report : LinkReport) : Type 0 where
+  pub server_items : List Item
+  pub reads : (packets : List ℕ) × (report.server.wire ≡ id_line server.id ++ packets)
+      × Reads (Some (first_place (map (outgoing Server) report.server.exchanges))) server_items packets []
+  pub of_client : HaveGroup group report.client.exchanges server_items
+  pub of_server : HaveGroup group report.server.exchanges server_items

@@ -288,8 +288,8 @@ turns_end c s times old mid n n1 m m1 h a b = record {
 -- ---- steps
 
 -- a part behind some
-pub link_behind : (c c' s s' : Says) (steps done more : List Step) (old mid : CarriedLink) (marks : List Mark) (n n1 n' m m1 m' : PartCalls) → steps ≡ done ++ more → Weaker c' c → Weaker s' s → RunsSoFar c s done old mid marks → SideAsks old.client.transport mid.client.transport n n1 → SideAsks old.server.transport mid.server.transport m m1 → (mid.client.transport.failed ≡ false → mid.server.transport.failed ≡ false → TurnsAsk c' s' mid n1 n' m1 m') → old.client.transport.failed ≡ false → old.server.transport.failed ≡ false → LinkAsks c s steps old n n' m m'
-link_behind c c' s s' steps done more old mid marks n n1 n' m m1 m' e v w h a b p lc ls =
+pub link_behind : (c c' s s' : Says) (first : ℕ) (steps done more : List Step) (old mid : CarriedLink) (marks : List Mark) (n n1 n' m m1 m' : PartCalls) → steps ≡ done ++ more → Weaker c' c → Weaker s' s → RunsSoFar c s first done old mid marks → SideAsks old.client.transport mid.client.transport n n1 → SideAsks old.server.transport mid.server.transport m m1 → (mid.client.transport.failed ≡ false → mid.server.transport.failed ≡ false → TurnsAsk c' s' mid n1 n' m1 m') → old.client.transport.failed ≡ false → old.server.transport.failed ≡ false → LinkAsks c s steps old n n' m m'
+link_behind c c' s s' first steps done more old mid marks n n1 n' m m1 m' e v w h a b p lc ls =
     let l = subst BothLive h.on.last (steps_live c s done old h.on.links h.on.each (record { of_client = lc; of_server = ls })) in
     record {
       done = done;
@@ -305,8 +305,8 @@ link_behind c c' s s' steps done more old mid marks n n1 n' m m1 m' e v w h a b 
     }
 
 -- none behind some
-pub link_end : (c s : Says) (steps done more : List Step) (old mid : CarriedLink) (marks : List Mark) (n n1 m m1 : PartCalls) → steps ≡ done ++ more → RunsSoFar c s done old mid marks → SideAsks old.client.transport mid.client.transport n n1 → SideAsks old.server.transport mid.server.transport m m1 → LinkAsks c s steps old n n1 m m1
-link_end c s steps done more old mid marks n n1 m m1 e h a b = record {
+pub link_end : (c s : Says) (first : ℕ) (steps done more : List Step) (old mid : CarriedLink) (marks : List Mark) (n n1 m m1 : PartCalls) → steps ≡ done ++ more → RunsSoFar c s first done old mid marks → SideAsks old.client.transport mid.client.transport n n1 → SideAsks old.server.transport mid.server.transport m m1 → LinkAsks c s steps old n n1 m m1
+link_end c s first steps done more old mid marks n n1 m m1 e h a b = record {
   done = done;
   more = more;
   steps_are = e;

@@ -2,6 +2,7 @@
 use Rattle.std.proofs.Common.{◌≡◌, ℕ, ◌+◌, ◌-◌, ◌<◌, ◌≤◌, true, false, List, [], ◌∷◌, ◌++◌, length, refl, ap, arith}
 use Rattle.std.proofs.Math.Nat.{min-le_left}
 use Rattle.ssh_wire.specs.Lines.{id_line}
+use Rattle.ssh_wire.specs.Sides.{other_side}
 use Rattle.ssh_wire.specs.declared.side.Side.{Side}
 use Rattle.ssh_wire.specs.declared.side.Side.TheVariants.{Client, Server}
 use Rattle.ssh_kex.specs.Setting.{Says}
@@ -96,9 +97,32 @@ last_brought Server (Deliver Server k) taken bytes c n few = (let a = few k refl
 last_brought side (Rekey s) taken bytes c n few = cc
 last_brought side Settle taken bytes c n few = cc
 
-pub bring_messages : (side : Side) (other : Config) (before : List Step) (step : Step) (taken bytes : ℕ) → carries_to side step ≡ true → ((n : ℕ) → step ≡ Deliver side n → bytes ≤ taken + n) → (has_settle before ≡ false → taken ≤ most_brought side before) → length (id_line other.id) < bytes → BringMessages side other (before ++ step ∷ [])
-bring_messages side other before step taken bytes c few so_far more = λ n.
+-- what the other side takes is not changed by it
+other_brought : (side : Side) (step : Step) → carries_to side step ≡ true → has_settle (step ∷ []) ≡ false → most_brought (other_side side) (step ∷ []) ≡ 0
+other_brought side (Submit s p) c n = cc
+other_brought Client (Deliver Client k) c n = refl
+other_brought Client (Deliver Server k) c n = cc
+other_brought Server (Deliver Client k) c n = cc
+other_brought Server (Deliver Server k) c n = refl
+other_brought side (Rekey s) c n = cc
+other_brought side Settle c n = cc
+
+at_delivery : (side : Side) (step : Step) (P : Type 0) → carries_to side step ≡ true → has_settle (step ∷ []) ≡ false → ((n : ℕ) → step ≡ Deliver side n → P) → P
+at_delivery side (Submit s p) P c n f = cc
+at_delivery Client (Deliver Client k) P c n f = f k refl
+at_delivery Client (Deliver Server k) P c n f = cc
+at_delivery Server (Deliver Client k) P c n f = cc
+at_delivery Server (Deliver Server k) P c n f = f k refl
+at_delivery side (Rekey s) P c n f = cc
+at_delivery side Settle P c n f = cc
+
+pub bring_messages : (side : Side) (config : Side → Config) (before : List Step) (step : Step) (taken other_taken bytes : ℕ) → carries_to side step ≡ true → ((n : ℕ) → step ≡ Deliver side n → bytes ≤ taken + n) → ((n : ℕ) → step ≡ Deliver side n → length (id_line (config side).id) ≤ other_taken) → (has_settle before ≡ false → (taken ≤ most_brought side before) × (other_taken ≤ most_brought (other_side side) before)) → length (id_line (config (other_side side)).id) < bytes → BringMessages side config (before ++ step ∷ [])
+bring_messages side config before step taken other_taken bytes c few heard so_far more = λ n.
     let a = last_brought side step taken bytes c (none_behind before (step ∷ []) n) few in
     let b = so_far (none_before before (step ∷ []) n) in
+    let b0 = b.0 in
+    let b1 = b.1 in
     let d = brought_more side before (step ∷ []) in
-    omega (arith, a, b, d, more)
+    let f = brought_more (other_side side) before (step ∷ []) in
+    let h = at_delivery side step (length (id_line (config side).id) ≤ other_taken) c (none_behind before (step ∷ []) n) heard in
+    (omega (arith, a, b0, d, more), omega (arith, b1, f, h))

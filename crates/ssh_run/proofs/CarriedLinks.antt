@@ -1,5 +1,5 @@
 -- The report of a carried link is what a link's report says: of any parts what each side read, and of lawful ones all.
-use Rattle.std.proofs.Common.{◌≡◌, ℕ, ◌+◌, ◌<◌, ◌^◌, List, [], ◌∷◌, ◌++◌, length, take, drop, slice_get, refl, sym, ◌∙◌, ap, subst, arith, Bool, true, Some, None, inl, inr}
+use Rattle.std.proofs.Common.{◌≡◌, ℕ, ◌+◌, ◌<◌, ◌≤◌, ◌^◌, List, [], ◌∷◌, ◌++◌, length, take, drop, slice_get, refl, sym, ◌∙◌, ap, subst, arith, Bool, true, Some, None, inl, inr}
 use Rattle.std.proofs.lemmas.List.{drop_all, drop_at}
 use Rattle.ssh_wire.specs.Lines.{Id, id_line, id_of, id_text}
 use Rattle.ssh_wire.specs.Sides.{other_side}
@@ -9,10 +9,11 @@ use Rattle.ssh_kex.specs.Setting.{Says}
 use Rattle.ssh_kex.specs.declared.config.Config.{Config}
 use Rattle.ssh_kex.specs.declared.exchange.FinishedExchange.{FinishedExchange}
 use Rattle.ssh_kex.specs.declared.exchange.ServerHost.{ServerHost}
+use Rattle.ssh_kex.specs.declared.group.DhGroup.{DhGroup}
 use Rattle.ssh_rules.specs.AnyParts.{IsReadLink, IsReadSide, IsSigned}
 use Rattle.ssh_rules.specs.Guess.{BeforeKexinit, without_guesses}
 use Rattle.ssh_rules.specs.Handled.{AllRead, Handled}
-use Rattle.ssh_rules.specs.Headline.{IsLink}
+use Rattle.ssh_rules.specs.Headline.{IsInGroup, IsLink}
 use Rattle.ssh_rules.specs.Laws.{FindsCanonical, OneSecret}
 use Rattle.ssh_rules.specs.Log.{handled, recorded}
 use Rattle.ssh_rules.specs.Machine.{Event, SideState, first_state}
@@ -29,7 +30,7 @@ use Rattle.ssh_rules.specs.declared.link.Mark.{Mark}
 use Rattle.ssh_rules.specs.declared.link.SideMark.{SideMark}
 use Rattle.ssh_rules.specs.declared.link.SideReport.{SideReport}
 use Rattle.ssh_rules.specs.declared.link.Step.{Step}
-use Rattle.ssh_rules.proofs.Lemmas.{is_known, link_is, new_stands, recorded_is, run_handled, run_says, run_signed, start_is_snapshot}
+use Rattle.ssh_rules.proofs.Lemmas.{FindsOnly, is_known, link_in_group, link_is, new_stands, recorded_is, run_handled, run_says, run_signed, start_is_snapshot}
 use Rattle.ssh_run.specs.Carrying.{CarriedEnd, CarriedLink, IsCarried, IsNewLink, first_end, last_link, reported_end, reported_link, side_mark}
 use Rattle.ssh_run.proofs.LinkTurns.{Follows, IsTied, follows}
 use Rattle.ssh_run.proofs.SideTurns.{IsSide, wire_by}
@@ -126,6 +127,17 @@ carried_is_link says config cm sm ag steps report valid sizes whole few tells se
     subst (λ r. IsLink cm sm ag (config Client) (config Server) steps r) (reported says config (kind_chosen config) steps (first_snapshot (talkers says config)) c.first c.links f ∙ sym c.report_is)
     (link_is says config cm sm ag steps f.snapshots valid sizes tells secret canonical (f.does (is_known says config valid sizes secret canonical)) f.leads)
 
+-- ---- the group of its group exchanges
+
+pub carried_in_group : (says : Side → Says) (config : Side → Config) (group : DhGroup) (steps : List Step) (report : LinkReport)
+    → ((side : Side) → config_fault side (config side) ≡ None) → ((side : Side) → HasSizes (config side)) → ((side : Side) → IsWholeId (config side)) → length steps < 2 ^ 64
+    → OneSecret (says Client) (says Server) → FindsCanonical (says Server) → FindsOnly (says Server) (config Client).gex group
+    → IsCarried (says Client) (says Server) (config Client) (config Server) steps report → IsInGroup (config Server) group report
+carried_in_group says config group steps report valid sizes whole few secret canonical only c =
+    let f = all_follow says config (kind_chosen config) steps report whole few c in
+    subst (IsInGroup (config Server) group) (reported says config (kind_chosen config) steps (first_snapshot (talkers says config)) c.first c.links f ∙ sym c.report_is)
+    (link_in_group says config group steps f.snapshots valid sizes secret canonical only (f.does (is_known says config valid sizes secret canonical)))
+
 -- ---- what each side read, whatever the parts are
 
 -- the bytes behind the other's line are those that the side was fed
@@ -144,6 +156,8 @@ read_side : (says : Side → Says) (config : Side → Config) (accepts : Accepti
     → config_fault side (config side) ≡ None → HasSizes (config side) → SignedBy accepts trusts side (config side) log → other.transport.output ≡ wire_by (config (other_side side)) peer.sent
     → IsSide says config side log h peer e → IsReadSide accepts trusts side (config side) (config (other_side side)) (reported_end e) (reported_end other)
 read_side says config accepts trusts side log h peer e other valid sizes signed sent s = record {
+  line = (peer.sent, sym sent);
+  within = (let a = ap length sent in let b = s.within in omega (arith, a, b));
   items = handled log;
   reads = subst (λ x. Handled side (config side) x (drop (length line) (take e.taken other.transport.output)) (handled log) AllRead) (sym records)
       (subst (λ b. Handled side (config side) (recorded log) b (handled log) AllRead) (sym bytes) (run_handled (says side) side (config side) (id_text (config side).id) log h.state h.fed h.unfinished s.ran.steps s.ran.fed_is s.rests.part));

@@ -13,6 +13,8 @@ pub mod GoodSubmits
 pub mod RefusedLinks
 pub mod WholeIds
 pub mod LinkSoFar
+pub mod WholeReports
 pub mod Asking
 pub mod Brought
+pub mod Hears
 pub mod AskedRuns

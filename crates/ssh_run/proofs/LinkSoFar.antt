@@ -20,9 +20,8 @@ use Rattle.ssh_rules.specs.declared.link.Mark.{Mark}
 use Rattle.ssh_rules.specs.declared.link.Step.{Step}
 use Rattle.ssh_rules.specs.declared.link.Step.TheVariants.{Submit, Deliver, Rekey, Settle}
 use Rattle.ssh_transport.proofs.Lemmas.{Denying, Weaker, kept_denying, kept_untrusting, kept_weaker, piece_still, steps_weaker}
-use Rattle.ssh_run.specs.Carrying.{AsksKeys, CarriedEnd, CarriedLink, CarriesTo, HasWaiting, IsCarried, IsNewLink, Repeats, Rests, RunsOn, SettlesAll, StepsLink, StepsLinks, SubmitsOne, TakesTurns, both_marks, last_link, reported_link}
-use Rattle.ssh_run.specs.Reports.{IsWholeReport}
-use Rattle.ssh_run.specs.RefusedCarrying.{BeginTooMany, IsConfigFault, IsRestless, HasNoEnd, RefusesCarrying, RefusesLink, RefusesRun, RefusesSettle, RefusesStep, RefusesTurn, Telling, bound_behind, most_turns, telling_of}
+use Rattle.ssh_run.specs.Carrying.{AsksKeys, CarriedEnd, CarriedLink, CarriesTo, FewBegun, FewBehind, HasWaiting, IsCarried, IsNewLink, Repeats, Rests, RunsOn, SettlesAll, StepsLink, StepsLinks, SubmitsOne, TakesTurns, begun_by, both_marks, bound_after, bound_behind, last_link, reported_link}
+use Rattle.ssh_run.specs.RefusedCarrying.{BeginTooMany, IsConfigFault, IsRestless, HasNoEnd, RefusesCarrying, RefusesLink, RefusesRun, RefusesSettle, RefusesStep, RefusesTurn, Telling, most_turns, telling_of}
 use Rattle.ssh_wire.specs.declared.error.ConfigFault.{ConfigFault}
 use Rattle.ssh_wire.specs.declared.error.Error.{Error}
 use Rattle.ssh_rules.specs.Valid.{config_fault, first_config_fault}
@@ -146,14 +145,32 @@ turned_more c c' s s' times times' old mid new e v w h waits t = subst (λ n. Tu
 pub all_settled : (c s : Says) (times : ℕ) (old new : CarriedLink) → TurnsSoFar c s times old new → length new.server.transport.output ≤ new.client.taken → length new.client.transport.output ≤ new.server.taken → Rests new.client → Rests new.server → SettlesAll c s old new
 all_settled c s times old new h p q x y = record { times = times; turns = h.turns; to_client = p; to_server = q; client_rests = x; server_rests = y }
 
+-- ---- how many exchanges are begun behind a step
+
+pub few_settled : {A E : Type 0} (r : Result A E) (bound : ℕ) (step : Step) (l : CarriedLink) → step ≡ Settle → OnOk r (begun_by l.client ≤ bound) → OnOk r (begun_by l.server ≤ bound) → OnOk r (FewBehind bound step l)
+few_settled (Ok x) bound step l e p q = subst (λ s. FewBehind bound s l) (sym e) (p, q)
+few_settled (Err x) bound step l e p q = tt
+
+pub few_submitted : {A E : Type 0} (r : Result A E) (bound : ℕ) (step : Step) (l : CarriedLink) (side : Side) (p : List ℕ) → step ≡ Submit side p → OnOk r (FewBehind bound step l)
+few_submitted (Ok x) bound step l side p e = subst (λ s. FewBehind bound s l) (sym e) tt
+few_submitted (Err x) bound step l side p e = tt
+
+pub few_delivered : {A E : Type 0} (r : Result A E) (bound : ℕ) (step : Step) (l : CarriedLink) (side : Side) (n : ℕ) → step ≡ Deliver side n → OnOk r (FewBehind bound step l)
+few_delivered (Ok x) bound step l side n e = subst (λ s. FewBehind bound s l) (sym e) tt
+few_delivered (Err x) bound step l side n e = tt
+
+pub few_rekeyed : {A E : Type 0} (r : Result A E) (bound : ℕ) (step : Step) (l : CarriedLink) (side : Side) → step ≡ Rekey side → OnOk r (FewBehind bound step l)
+few_rekeyed (Ok x) bound step l side e = subst (λ s. FewBehind bound s l) (sym e) tt
+few_rekeyed (Err x) bound step l side e = tt
+
 -- ---- a run so far
 
-pub record RunsSoFar (c s : Says) (done : List Step) (old new : CarriedLink) (marks : List Mark) : Type 0 where
-  pub on : RunsOn c s done old new marks
+pub record RunsSoFar (c s : Says) (first : ℕ) (done : List Step) (old new : CarriedLink) (marks : List Mark) : Type 0 where
+  pub on : RunsOn c s first done old new marks
   pub configs : KeepConfigs old new
 
-pub none_run : (c s : Says) (l : CarriedLink) (marks : List Mark) → marks ≡ both_marks l ∷ [] → RunsSoFar c s [] l l marks
-none_run c s l marks e = record { on = record { links = []; each = tt; last = refl; marks_are = e }; configs = record { of_client = refl; of_server = refl } }
+pub none_run : (c s : Says) (first : ℕ) (l : CarriedLink) (marks : List Mark) → marks ≡ both_marks l ∷ [] → RunsSoFar c s first [] l l marks
+none_run c s first l marks e = record { on = record { links = []; each = tt; few = tt; last = refl; marks_are = e }; configs = record { of_client = refl; of_server = refl } }
 
 each_more : (c s : Says) (done : List Step) (step : Step) (first : CarriedLink) (links : List CarriedLink) (l' : CarriedLink) → StepsLinks c s done first links → StepsLink c s step (last_link first links) l' → StepsLinks c s (done ++ step ∷ []) first (links ++ l' ∷ [])
 each_more c s [] step first [] l' h d = (d, tt)
@@ -169,19 +186,40 @@ marks_more : (first : CarriedLink) (links : List CarriedLink) (l' : CarriedLink)
 marks_more first [] l' = refl
 marks_more first (l ∷ links) l' = ap (λ q. both_marks first ∷ q) (marks_more l links l')
 
-pub runs_more : (c c' s s' : Says) (done done' : List Step) (step : Step) (old mid new : CarriedLink) (marks marks' : List Mark) → done' ≡ done ++ step ∷ [] → Weaker c' c → Weaker s' s → RunsSoFar c s done old mid marks → StepsLink c' s' step mid new → marks' ≡ marks ++ both_marks new ∷ [] → RunsSoFar c s done' old new marks'
-runs_more c c' s s' done done' step old mid new marks marks' f v w h d e = record {
+few_more : (bound : ℕ) (done : List Step) (step : Step) (links : List CarriedLink) (l' : CarriedLink) → length links ≡ length done → FewBegun bound done links → FewBehind (bound_after bound done) step l' → FewBegun bound (done ++ step ∷ []) (links ++ l' ∷ [])
+few_more bound [] step [] l' n h d = (d, tt)
+few_more bound [] step (l ∷ links) l' n h d = cc
+few_more bound (x ∷ done) step [] l' n h d = cc
+few_more bound (x ∷ done) step (l ∷ links) l' n h d = (h.0, few_more (bound_behind x bound) done step links l' (let e = n in omega (arith, e)) h.1 d)
+
+pub as_many : (c s : Says) (steps : List Step) (l : CarriedLink) (links : List CarriedLink) → StepsLinks c s steps l links → length links ≡ length steps
+as_many c s [] l [] h = refl
+as_many c s [] l (x ∷ links) h = absurd h
+as_many c s (step ∷ steps) l [] h = absurd h
+as_many c s (step ∷ steps) l (x ∷ links) h = ap suc (as_many c s steps x links h.1)
+
+after_more : (bound : ℕ) (done : List Step) (step : Step) → bound_after bound (done ++ step ∷ []) ≡ bound_behind step (bound_after bound done)
+after_more bound [] step = refl
+after_more bound (x ∷ done) step = after_more (bound_behind x bound) done step
+
+-- how many exchanges may be begun behind one step more
+pub bound_next : (first bound bound' : ℕ) (done done' : List Step) (step : Step) → done' ≡ done ++ step ∷ [] → bound ≡ bound_after first done → bound' ≡ bound_behind step bound → bound' ≡ bound_after first done'
+bound_next first bound bound' done done' step f e g = g ∙ (ap (bound_behind step) e ∙ (sym (after_more first done step) ∙ ap (bound_after first) (sym f)))
+
+pub runs_more : (c c' s s' : Says) (first bound : ℕ) (done done' : List Step) (step : Step) (old mid new : CarriedLink) (marks marks' : List Mark) → done' ≡ done ++ step ∷ [] → bound ≡ bound_after first done → Weaker c' c → Weaker s' s → RunsSoFar c s first done old mid marks → StepsLink c' s' step mid new → FewBehind bound step new → marks' ≡ marks ++ both_marks new ∷ [] → RunsSoFar c s first done' old new marks'
+runs_more c c' s s' first bound done done' step old mid new marks marks' f b v w h d k e = record {
   on = record {
     links = h.on.links ++ new ∷ [];
     each = subst (λ q. StepsLinks c s q old (h.on.links ++ new ∷ [])) (sym f) (each_more c s done step old h.on.links new h.on.each (subst (λ q. StepsLink c s step q new) (sym h.on.last) (step_weaker c' c s' s v w step mid new d)));
+    few = subst (λ q. FewBegun first q (h.on.links ++ new ∷ [])) (sym f) (few_more first done step h.on.links new (as_many c s done old h.on.links h.on.each) h.on.few (subst (λ n. FewBehind n step new) b k));
     last = last_more old h.on.links new;
     marks_are = e ∙ (ap (λ q. q ++ both_marks new ∷ []) h.on.marks_are ∙ marks_more old h.on.links new);
   };
   configs = configs_join old mid new h.configs (step_config c' s' step mid new d);
 }
 
-pub all_run : (c s : Config → Says) (client server : Config) (steps : List Step) (old new : CarriedLink) (marks : List Mark) (report : LinkReport) → IsNewLink client server old → RunsOn (c old.client.transport.config) (s old.server.transport.config) steps old new marks → report ≡ record (reported_link new []) { marks = marks } → IsCarried (c client) (s server) client server steps report
-all_run c s client server steps old new marks report n h e =
+pub all_run : (c s : Config → Says) (client server : Config) (bound : ℕ) (steps : List Step) (old new : CarriedLink) (marks : List Mark) (report : LinkReport) → IsNewLink client server old → bound ≡ 1 → RunsOn (c old.client.transport.config) (s old.server.transport.config) bound steps old new marks → report ≡ record (reported_link new []) { marks = marks } → IsCarried (c client) (s server) client server steps report
+all_run c s client server bound steps old new marks report n b h e =
     let p : old.client.transport.config ≡ client = ap (λ (x : CarriedEnd). x.transport.config) n.of_client.2 ∙ ap (λ (t : Standing). t.config) n.of_client.1 in
     let q : old.server.transport.config ≡ server = ap (λ (x : CarriedEnd). x.transport.config) n.of_server.2 ∙ ap (λ (t : Standing). t.config) n.of_server.1 in
     record {
@@ -189,6 +227,7 @@ all_run c s client server steps old new marks report n h e =
       links = h.links;
       new = n;
       each = subst (λ x. StepsLinks (c x) (s server) steps old h.links) p (subst (λ x. StepsLinks (c old.client.transport.config) (s x) steps old h.links) q h.each);
+      few = subst (λ n. FewBegun n steps h.links) b h.few;
       report_is = e ∙ (ap (λ x. record (reported_link x []) { marks = marks }) (sym h.last) ∙ ap (λ x. record (reported_link (last_link old h.links) []) { marks = x }) h.marks_are);
     }
 
@@ -343,34 +382,10 @@ pub steps_split : (steps done : List Step) (step : Step) (n : ℕ) → take n st
 steps_split steps done step n e = sym (take-append-drop n steps) ∙ (ap (λ q. q ++ drop n steps) e ∙ append_assoc done (step ∷ []) (drop n steps))
 
 -- by a step
-pub run_refused : (c c' s s' : Telling) (steps done : List Step) (step : Step) (more : List Step) (bound : ℕ) (old mid : CarriedLink) (marks : List Mark) (e : Error) → steps ≡ done ++ step ∷ more → bound ≡ bound_of done → TellsLater c' c → TellsLater s' s → RunsSoFar c.says s.says done old mid marks → (mid.client.transport.failed ≡ false → mid.server.transport.failed ≡ false → RefusesStep c' s' bound step mid e) → old.client.transport.failed ≡ false → old.server.transport.failed ≡ false → RefusesRun c s steps old e
-run_refused c c' s s' steps done step more bound old mid marks e at b v w h t lc ls =
+pub run_refused : (c c' s s' : Telling) (first : ℕ) (steps done : List Step) (step : Step) (more : List Step) (bound : ℕ) (old mid : CarriedLink) (marks : List Mark) (e : Error) → steps ≡ done ++ step ∷ more → bound ≡ bound_of done → TellsLater c' c → TellsLater s' s → RunsSoFar c.says s.says first done old mid marks → (mid.client.transport.failed ≡ false → mid.server.transport.failed ≡ false → RefusesStep c' s' bound step mid e) → old.client.transport.failed ≡ false → old.server.transport.failed ≡ false → RefusesRun c s steps old e
+run_refused c c' s s' first steps done step more bound old mid marks e at b v w h t lc ls =
     let l = subst BothLive h.on.last (steps_live c.says s.says done old h.on.links h.on.each (record { of_client = lc; of_server = ls })) in
     inr (record { done = done; step = step; more = more; steps_are = at; links = h.on.links; each = h.on.each; refused = subst (λ x. RefusesStep c s (bound_of done) step x e) (sym h.on.last) (subst (λ n. RefusesStep c s n step mid e) b (step_later c c' s s' v w bound step mid e (t l.of_client l.of_server))) })
-
--- ---- its marks
-
-many : (c s : Says) (steps : List Step) (l : CarriedLink) (links : List CarriedLink) → StepsLinks c s steps l links → length links ≡ length steps
-many c s [] l [] h = refl
-many c s [] l (x ∷ links) h = absurd h
-many c s (step ∷ steps) l [] h = absurd h
-many c s (step ∷ steps) l (x ∷ links) h = ap suc (many c s steps x links h.1)
-
-marked : (l : CarriedLink) (links : List CarriedLink) → length (map both_marks (l ∷ links)) ≡ length links + 1
-marked l [] = refl
-marked l (x ∷ links) = let e = marked x links in omega (arith, e)
-
-last_marked : (l : CarriedLink) (links : List CarriedLink) → slice_get (map both_marks (l ∷ links)) (length links) ≡ Some (both_marks (last_link l links))
-last_marked l [] = refl
-last_marked l (x ∷ links) = last_marked x links
-
-pub whole_run : (c s : Says) (client server : Config) (steps : List Step) (report : LinkReport) → IsCarried c s client server steps report → IsWholeReport steps report
-whole_run c s client server steps report h =
-    let n = many c s steps h.first h.links h.each in
-    subst (λ r. IsWholeReport steps r) (sym h.report_is) (record {
-      marks = marked h.first h.links ∙ ap (λ m. m + 1) n;
-      last = (both_marks (last_link h.first h.links), subst (λ m. slice_get (map both_marks (h.first ∷ h.links)) m ≡ Some (both_marks (last_link h.first h.links))) n (last_marked h.first h.links), record { sent = refl; taken_is = refl; delivered_is = refl; finished = refl }, record { sent = refl; taken_is = refl; delivered_is = refl; finished = refl });
-    })
 
 -- ---- what is told of an answer
 

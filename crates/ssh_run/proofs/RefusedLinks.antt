@@ -11,6 +11,7 @@ use Rattle.ssh_wire.specs.Lines.{id_line}
 use Rattle.ssh_wire.specs.Sides.{other_side}
 use Rattle.ssh_negotiate.specs.declared.negotiation.Names.{Names}
 use Rattle.ssh_negotiate.specs.declared.preferred.HostKey.{HostKey}
+use Rattle.ssh_kex.specs.Messages.{is_gex}
 use Rattle.ssh_kex.specs.Parts.{IsSmall, Presents, Setup}
 use Rattle.ssh_kex.specs.Setting.{Says}
 use Rattle.ssh_kex.specs.declared.exchange.ServerHost.{ServerHost}
@@ -18,7 +19,7 @@ use Rattle.ssh_kex.specs.declared.group.GexParams.{GexParams}
 use Rattle.ssh_rules.specs.RunLaws.{config_of}
 use Rattle.ssh_kex.specs.declared.config.Config.{Config}
 use Rattle.ssh_kex.specs.declared.group.DhGroup.{DhGroup}
-use Rattle.ssh_rules.specs.Headline.{bound_of}
+use Rattle.ssh_rules.specs.Headline.{bound_of, chosen_by, kind_by}
 use Rattle.ssh_rules.specs.LinkCauses.{RefusesPlayed, Rises, rises_of}
 use Rattle.ssh_rules.specs.Machine.{Event}
 use Rattle.ssh_rules.specs.RefusedTurn.{RefusesInLink}
@@ -27,6 +28,7 @@ use Rattle.ssh_rules.specs.Snapshots.{IsWholeId, Snapshot, first_snapshot, kind_
 use Rattle.ssh_rules.specs.Standing.{Standing}
 use Rattle.ssh_rules.specs.Turns.{World, talkers}
 use Rattle.ssh_rules.specs.Valid.{HasSizes, config_fault, first_config_fault}
+use Rattle.ssh_rules.specs.Wire.{HasFront}
 use Rattle.ssh_rules.specs.declared.link.Step.{Step}
 use Rattle.ssh_rules.specs.declared.link.Step.TheVariants.{Deliver, Rekey, Settle, Submit}
 use Rattle.ssh_rules.proofs.Lemmas.{HaveLimits, AreLawful, AreMet, AreSmall, Causes, Duties, IsKnown, PartLaws, Tells, any_refused, came, have_limits, duties_of, is_known, link_cause, none_in_link, refused_turn, small_of}
@@ -36,6 +38,7 @@ use Rattle.ssh_run.specs.RefusedCarrying.{HasNoEnd, IsConfigFault, RefusesAt, Re
 use Rattle.ssh_run.specs.RunCauses.{IsAnyPartsCause, IsAnyRunCause, IsBadSubmit, IsPartsCause, IsRunCause, IsUnsettled, IsValidRun, ReachesStep, all_submits_good, carries_to, has_settle, most_brought, offered_by, rises_by}
 use Rattle.ssh_run.proofs.Brought.{bring_messages, few_taken, taken_by}
 use Rattle.ssh_run.proofs.CarriedLinks.{first_tied, nothing_submitted}
+use Rattle.ssh_run.proofs.Hears.{some_sent}
 use Rattle.ssh_run.proofs.GoodSubmits.{none_bad, steps_good}
 use Rattle.ssh_run.proofs.LinkTurns.{IsTied, follows, repeated, server_carry}
 use Rattle.ssh_run.proofs.SettleEnds.{always_settles}
@@ -54,6 +57,7 @@ pub record RefusedThere (tell : Side → Telling) (config : Side → Config) (ki
   pub took : List ℕ
   pub piece : List ℕ
   pub few : (n : ℕ) → step ≡ Deliver side n → length (took ++ piece) ≤ taken_by side before + n
+  pub heard : (n : ℕ) → step ≡ Deliver side n → length (id_line (config (other_side side)).id) < length (took ++ piece) → length (id_line (config side).id) ≤ taken_by (other_side side) before
   pub old : Standing
   pub new : Standing
   pub in_link : IsKnown (talkers (says_in tell) config) kind → RefusesInLink (talkers (says_in tell) config) (tell side).denies (tell side).untrusted world cl sl side took piece old error new
@@ -70,6 +74,10 @@ taken_few wire taken n e =
     let d = min-le_left n (length wire - e.taken) in
     omega (arith, a, b, b1, c, c1, d)
 
+-- more than its line was sent by a side of which more was taken
+sent_more : (line sent front : List ℕ) → HasFront (line ++ sent) front → length line < length front → 0 < length sent
+sent_more line sent front h more = (let a = ap length h.1 in let b = length-append front h.0 in let c = length-append line sent in omega (arith, a, b, c, more))
+
 client_there : (tell : Side → Telling) (config : Side → Config) (kind : Bool) (before : CarriedLink) (step : Step) (s : Snapshot) (l : CarriedLink) (n : ℕ) (e : Error) → ((m : ℕ) → step ≡ Deliver Client m → (l ≡ before) × (n ≡ m)) → IsWholeId (config Server) → IsTied (says_in tell) config kind s l → RefusesBytes (tell Client) l.client l.server.transport.output n e → carries_to Client step ≡ true → RefusedThere tell config kind before step e
 client_there tell config kind before step s l n e at whole i r c = record {
   side = Client;
@@ -80,6 +88,7 @@ client_there tell config kind before step s l n e at whole i r c = record {
   took = take l.client.taken wire;
   piece = take k (drop l.client.taken wire);
   few = λ m q. (let d = at m q in let a = taken_few wire l.client.taken n l.client in let b = ap (taken_by Client) d.0 in let f = d.1 in omega (arith, a, b, f));
+  heard = λ m q more. (let d = at m q in let b = ap (taken_by Server) d.0 in let a = some_sent (says_in tell) config Server s.sl s.world.server s.world.client l.server i.of_server (sent_more (id_line (config Server).id) s.world.server.sent (take l.client.taken wire ++ take k (drop l.client.taken wire)) (next_front wire l.client.taken k) more) in omega (arith, a, b));
   old = l.client.transport;
   new = r.left;
   in_link = λ q. record { reached = (i.known q).held; whole_id = whole; stands = i.of_client.stands; honest = next_front wire l.client.taken k; refuses = call };
@@ -104,6 +113,7 @@ server_there tell config kind before step s l n e at whole i r c = record {
   took = take l.server.taken wire;
   piece = take k (drop l.server.taken wire);
   few = λ m q. (let d = at m q in let a = taken_few wire l.server.taken n l.server in let b = ap (taken_by Server) d.0 in let f = d.1 in omega (arith, a, b, f));
+  heard = λ m q more. (let d = at m q in let b = ap (taken_by Client) d.0 in let a = some_sent (says_in tell) config Client s.cl s.world.client s.world.server l.client i.of_client (sent_more (id_line (config Client).id) s.world.client.sent (take l.server.taken wire ++ take k (drop l.server.taken wire)) (next_front wire l.server.taken k) more) in omega (arith, a, b));
   old = l.server.transport;
   new = r.left;
   in_link = λ q. record { reached = (i.known q).held; whole_id = whole; stands = i.of_server.stands; honest = next_front wire l.server.taken k; refuses = call };
@@ -253,7 +263,7 @@ run_cause tell config rises offered group steps e m c whole r = all_settle (by_r
     step = step;
     carries = x.carries;
     reached = at;
-    came = bring_messages x.side (config (other_side x.side)) at.before step (taken_by x.side l) (length (x.took ++ x.piece)) x.carries x.few (before x.side) more;
+    came = bring_messages x.side config at.before step (taken_by x.side l) (taken_by (other_side x.side) l) (length (x.took ++ x.piece)) x.carries x.few (λ n q. x.heard n q more) (λ n. (before x.side n, before (other_side x.side) n)) more;
     cause = link_cause (says_in tell) config x.side (tell x.side).denies (tell x.side).untrusted (rises x.side) (offered x.side) group x.world e (c valid x.side)
         (refused_turn (says_in tell) (tell x.side).denies (tell x.side).untrusted config x.world x.cl x.sl x.side x.took x.piece x.old x.new e (m valid) (x.in_link (is_known (says_in tell) config valid (m valid).sizes (m valid).secret (m valid).canonical)));
   })
@@ -269,7 +279,7 @@ run_cause tell config rises offered group steps e m c whole r = all_settle (by_r
 pub any_run_cause : (tell : Side → Telling) (config : Side → Config) (rises : Side → Rises) (steps : List Step) (e : Error) → ((side : Side) → HasSizes (config side)) → ((side : Side) → Tells (tell side).denies (tell side).untrusted (rises side)) → (AreGoodConfigs config → (side : Side) → IsWholeId (config side)) → RefusesLink (tell Client) (tell Server) (config Client) (config Server) steps e → IsAnyRunCause rises config steps e
 any_run_cause tell config rises steps e sizes tells whole r = by_run (IsAnyPartsCause rises config steps e) (IsUnsettled steps e) tell config (kind_chosen config) steps e there (λ v. unsettled tell config (kind_chosen config) steps e) whole r where
   there : AreGoodConfigs config → (step : Step) (l : CarriedLink) → (at : ReachesStep steps step) → TookBefore at.before l → RefusedThere tell config (kind_chosen config) l step e → (e ≡ errors.Memory) ⊎ IsAnyPartsCause rises config steps e
-  there valid step l at before x = by_came tell config (kind_chosen config) l step e x (IsAnyPartsCause rises config steps e) (λ more. record { side = x.side; step = step; carries = x.carries; reached = at; came = bring_messages x.side (config (other_side x.side)) at.before step (taken_by x.side l) (length (x.took ++ x.piece)) x.carries x.few (before x.side) more; cause = any_refused (says_in tell) (tell x.side).denies (tell x.side).untrusted (rises x.side) config x.world x.cl x.sl x.side x.took x.piece x.old x.new e valid sizes (tells x.side) x.played })
+  there valid step l at before x = by_came tell config (kind_chosen config) l step e x (IsAnyPartsCause rises config steps e) (λ more. record { side = x.side; step = step; carries = x.carries; reached = at; came = bring_messages x.side config at.before step (taken_by x.side l) (taken_by (other_side x.side) l) (length (x.took ++ x.piece)) x.carries x.few (λ n q. x.heard n q more) (λ n. (before x.side n, before (other_side x.side) n)) more; cause = any_refused (says_in tell) (tell x.side).denies (tell x.side).untrusted (rises x.side) config x.world x.cl x.sl x.side x.took x.piece x.old x.new e valid sizes (tells x.side) x.played })
 
 -- Where they oblige, the configurations pass and each payload is good, memory was wanting.
 pub run_complete : (tell : Side → Telling) (config : Side → Config) (names : Names) (steps : List Step) (e : Error) → AreMet (says_in tell) config names → ((side : Side) → Duties (says_in tell) config side names.kex (tell side).denies) → ((side : Side) → AreSmall (says_in tell side) side (config (other_side side)).gex)
@@ -323,7 +333,8 @@ lawful_causes lawful obliging offered cm sm ag refusals lh oh accepts trusts mak
   finds = λ q f. (f t lj).0;
 }
 
--- Where both sides' parts oblige, their configurations pass, their agreements offer what is chosen, and each payload is good.
+-- Where both sides' parts oblige, the lookup at least where it is asked, their configurations pass, their agreements offer
+-- what is chosen, and each payload is good.
 pub obliging_complete : {A H G : Type 0} (lawful obliging : A → Setup → Type 0) (offered : A → KexName → Bool) (client_makes : KexName → Option DhGroup → List ℕ → List ℕ → Type 0) (server_makes : KexName → Option DhGroup → List ℕ → Type 0) (agrees : KexName → Option DhGroup → List ℕ → List ℕ → List ℕ → Type 0) (refusals : A → ℕ)
     (lawful_hosts obliging_hosts : H → Setup → Type 0) (accepts : H → ServerHost → List ℕ → List ℕ → Bool) (trusts : H → ServerHost → Bool) (makes : Config → ServerHost → List ℕ → List ℕ → Type 0) (refused_sign refused_verify refused_check : H → ℕ)
     (lawful_groups obliging_groups : G → Setup → Type 0) (group : G → GexParams → DhGroup) (refused_lookup : G → ℕ)
@@ -332,9 +343,9 @@ pub obliging_complete : {A H G : Type 0} (lawful obliging : A → Setup → Type
     → ((v : H) (s : Setup) → obliging_hosts v s → lawful_hosts v s)
     → ((v : G) (s : Setup) → lawful_groups v s → IsSmall (group v s.client.gex).prime × IsSmall (group v s.client.gex).generator)
     → ((v : H) (s : Setup) (host : ServerHost) (key : HostKey) → obliging_hosts v s → Presents s.server host key host.algorithm → trusts v host ≡ true)
-    → (t : Setup) (a a' b b' : A) (h h' i i' : H) (g g' j j' : G) (steps : List Step) (e : Error) → IsValidRun (config_of t) (offered_by (offered a) (offered b)) steps → ((side : Side) → HasSizes (config_of t side)) → obliging a t → obliging b t → obliging_hosts h t → obliging_hosts i t → obliging_groups j t → ((side : Side) → IsWholeId (config_of t side))
+    → (t : Setup) (a a' b b' : A) (h h' i i' : H) (g g' j j' : G) (steps : List Step) (e : Error) → IsValidRun (config_of t) (offered_by (offered a) (offered b)) steps → ((side : Side) → HasSizes (config_of t side)) → obliging a t → obliging b t → obliging_hosts h t → obliging_hosts i t → lawful_groups j t → (kind_by (chosen_by t.client t.server) ≡ true → obliging_groups j t) → ((side : Side) → IsWholeId (config_of t side))
     → RefusesLink (telling_of lawful obliging offered client_makes server_makes agrees refusals lawful_hosts obliging_hosts accepts trusts makes refused_sign refused_verify refused_check lawful_groups obliging_groups group refused_lookup t.client a a' h h' g g') (telling_of lawful obliging offered client_makes server_makes agrees refusals lawful_hosts obliging_hosts accepts trusts makes refused_sign refused_verify refused_check lawful_groups obliging_groups group refused_lookup t.server b b' i i' j j') t.client t.server steps e → e ≡ errors.Memory
-obliging_complete lawful obliging offered cm sm ag refusals lh oh accepts trusts makes rs rv rc lg og group rl one laws hosts_lawful small_group trusted t a a' b b' h h' i i' g g' j j' steps e v sizes oa ob ohh oi oj whole r = run_complete tell (config_of t) v.names steps e met duties small known whole v.good r where
+obliging_complete lawful obliging offered cm sm ag refusals lh oh accepts trusts makes rs rv rc lg og group rl one laws hosts_lawful small_group trusted t a a' b b' h h' i i' g g' j j' steps e v sizes oa ob ohh oi lj oj whole r = run_complete tell (config_of t) v.names steps e met duties small known whole v.good r where
   tell : Side → Telling
   tell = tells_by (telling_of lawful obliging offered cm sm ag refusals lh oh accepts trusts makes rs rv rc lg og group rl t.client a a' h h' g g') (telling_of lawful obliging offered cm sm ag refusals lh oh accepts trusts makes rs rv rc lg og group rl t.server b b' i i' j j')
 
@@ -344,8 +355,8 @@ obliging_complete lawful obliging offered cm sm ag refusals lh oh accepts trusts
   lb : lawful b t
   lb = laws.agreement b t ob
 
-  lj : lg j t
-  lj = laws.lookup j t oj
+  looks : is_gex v.names.kex ≡ true → og j t
+  looks k = oj (ap kind_by v.chosen ∙ k)
 
   met : AreMet (says_in tell) (config_of t) v.names
   met = record {
@@ -358,10 +369,10 @@ obliging_complete lawful obliging offered cm sm ag refusals lh oh accepts trusts
 
   duties : (side : Side) → Duties (says_in tell) (config_of t) side v.names.kex (tell side).denies
   duties Client = (
-      let d = duties_of lawful obliging offered cm sm ag refusals refusals lh oh accepts trusts makes rs rv rc rs lg og group rl rl laws t a b h i g j v.names.kex Client a a' h h' g g' oa ob ohh oi oj (v.offers Client) (agreement_same lawful obliging offered refusals refusals a) (hosts_same lh oh accepts trusts rs rv rc rs h) (groups_same lg og group rl rl g) in
+      let d = duties_of lawful obliging offered cm sm ag refusals refusals lh oh accepts trusts makes rs rv rc rs lg og group rl rl laws t a b h i g j v.names.kex Client a a' h h' g g' oa ob ohh oi lj looks (v.offers Client) (agreement_same lawful obliging offered refusals refusals a) (hosts_same lh oh accepts trusts rs rv rc rs h) (groups_same lg og group rl rl g) in
       record { offered = d.offered; start = d.start; value = d.value; reply = d.reply; lookup = d.lookup; sign = d.sign; verify = d.verify; fits = d.fits })
   duties Server = (
-      let d = duties_of lawful obliging offered cm sm ag refusals refusals lh oh accepts trusts makes rs rv rc rs lg og group rl rl laws t a b h i g j v.names.kex Server b b' i i' j j' oa ob ohh oi oj (v.offers Server) (agreement_same lawful obliging offered refusals refusals b) (hosts_same lh oh accepts trusts rs rv rc rs i) (groups_same lg og group rl rl j) in
+      let d = duties_of lawful obliging offered cm sm ag refusals refusals lh oh accepts trusts makes rs rv rc rs lg og group rl rl laws t a b h i g j v.names.kex Server b b' i i' j j' oa ob ohh oi lj looks (v.offers Server) (agreement_same lawful obliging offered refusals refusals b) (hosts_same lh oh accepts trusts rs rv rc rs i) (groups_same lg og group rl rl j) in
       record { offered = d.offered; start = d.start; value = d.value; reply = d.reply; lookup = d.lookup; sign = d.sign; verify = d.verify; fits = d.fits })
 
   small : (side : Side) → AreSmall (says_in tell side) side (config_of t (other_side side)).gex

@@ -20,8 +20,8 @@ use Rattle.ssh_rules.specs.declared.link.SideMark.{SideMark}
 use Rattle.ssh_rules.specs.declared.link.Step as link
 use Rattle.ssh_rules.specs.declared.link.Step.TheVariants.{Deliver, Rekey, Settle, Submit}
 use Rattle.ssh_rules.proofs.Lemmas.{HaveLimits, IsKnown, all_rest, begun_steps, both_lower, few_with_first, leads_stay, settle_few, settle_measure, settle_starts, side_lowers, waits_for}
-use Rattle.ssh_run.specs.Carrying.{CarriedEnd, CarriedLink, CarriesTo, HasWaiting, Repeats, TakesTurns, last_link, side_mark}
-use Rattle.ssh_run.specs.RefusedCarrying.{IsRestless, HasNoEnd, StaysRestless, begun_by, most_turns}
+use Rattle.ssh_run.specs.Carrying.{CarriedEnd, CarriedLink, CarriesTo, HasWaiting, Repeats, TakesTurns, begun_by, last_link, side_mark}
+use Rattle.ssh_run.specs.RefusedCarrying.{IsRestless, HasNoEnd, StaysRestless, most_turns}
 use Rattle.ssh_run.proofs.LinkSoFar.{few_bound}
 use Rattle.ssh_run.proofs.LinkTurns.{Follows, IsTied, Settles, repeated}
 use Rattle.ssh_run.proofs.SideTurns.{IsSide, wire_by}

@@ -1,6 +1,6 @@
 -- What the calls on a link do: a step submits a payload, asks for an exchange, or carries bytes of one side's output to
 -- the other.
-use Rattle.std.specs.Prelude.{◌≡◌, ◌⊎◌, ℕ, zero, suc, ◌+◌, ◌-◌, ◌^◌, ◌<◌, ◌≤◌, List, [], ◌∷◌, ◌++◌, length, map, take, drop, min, not, true}
+use Rattle.std.specs.Prelude.{◌≡◌, ◌⊎◌, ℕ, zero, suc, ◌+◌, ◌-◌, ◌^◌, ◌<◌, ◌≤◌, List, [], ◌∷◌, ◌++◌, length, map, take, drop, min, not, true, if◌then◌else◌}
 use Rattle.ssh_wire.specs.declared.side.Side.TheVariants.{Client, Server}
 use Rattle.ssh_wire.specs.declared.ssh_id.SshId.{SshId}
 use Rattle.ssh_wire.specs.declared.ssh_id.SshId.TheVariants.{Standard, Raw}
@@ -138,10 +138,42 @@ abbrev pub last_link : CarriedLink → List CarriedLink → CarriedLink
 last_link l [] = l
 last_link l (l' ∷ links) = last_link l' links
 
--- the steps lead from a link to another, with a mark before the first and one behind each
-pub record RunsOn (client server : Says) (steps : List Step) (old new : CarriedLink) (marks : List Mark) : Type 0 where
+-- how many exchanges may be begun behind a step, where so many may before it
+abbrev pub bound_behind : Step → ℕ → ℕ
+bound_behind (Submit side p) bound = min (bound + 2) (2 ^ 128 - 1)
+bound_behind (Rekey side) bound = min (bound + 1) (2 ^ 128 - 1)
+bound_behind (Deliver side n) bound = bound
+bound_behind Settle bound = bound
+
+-- and behind some steps
+abbrev pub bound_after : ℕ → List Step → ℕ
+bound_after bound [] = bound
+bound_after bound (step ∷ steps) = bound_after (bound_behind step bound) steps
+
+-- how many exchanges a side has begun, with the first, inside which it is from its start on
+abbrev pub begun_by : CarriedEnd → ℕ
+begun_by e = length e.transport.state.records + (if is_outside e.transport.state.stands then 0 else 1)
+
+-- behind a settle neither side has begun more exchanges than may be begun
+abbrev pub FewBehind : ℕ → Step → CarriedLink → Type 0
+FewBehind bound (Submit side p) l = Unit {0}
+FewBehind bound (Deliver side n) l = Unit {0}
+FewBehind bound (Rekey side) l = Unit {0}
+FewBehind bound Settle l = (begun_by l.client ≤ bound) × (begun_by l.server ≤ bound)
+
+-- so behind each of some steps, where so many may be begun before the first
+abbrev pub FewBegun : ℕ → List Step → List CarriedLink → Type 0
+FewBegun bound [] links = Unit {0}
+FewBegun bound (step ∷ steps) [] = Unit {0}
+FewBegun bound (step ∷ steps) (l ∷ links) = FewBehind bound step l × FewBegun (bound_behind step bound) steps links
+
+-- The steps lead from a link to another, with a mark before the first and one behind each. So many exchanges may be begun
+-- before the first.
+pub record RunsOn (client server : Says) (bound : ℕ) (steps : List Step) (old new : CarriedLink)
+    (marks : List Mark) : Type 0 where
   pub links : List CarriedLink
   pub each : StepsLinks client server steps old links
+  pub few : FewBegun bound steps links
   pub last : last_link old links ≡ new
   pub marks_are : marks ≡ map both_marks (old ∷ links)
 
@@ -174,4 +206,5 @@ pub record IsCarried (client_says server_says : Says) (client server : Config) (
   pub links : List CarriedLink
   pub new : IsNewLink client server first
   pub each : StepsLinks client_says server_says steps first links
+  pub few : FewBegun 1 steps links
   pub report_is : report ≡ reported_link first links

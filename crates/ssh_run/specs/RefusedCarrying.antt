@@ -1,5 +1,5 @@
 -- What the calls on a link do that are refused: which call of which transport was refused, and what came before it.
-use Rattle.std.specs.Prelude.{◌≡◌, ◌⊎◌, ◌<◌, ◌≤◌, ◌+◌, ◌-◌, ◌*◌, ◌^◌, ℕ, ◌++◌, Bool, List, ◌∷◌, length, min, take, drop, Option, Some, None, true, false, if◌then◌else◌}
+use Rattle.std.specs.Prelude.{◌≡◌, ◌⊎◌, ◌<◌, ◌≤◌, ◌+◌, ◌-◌, ◌*◌, ◌^◌, ℕ, ◌++◌, Bool, List, ◌∷◌, length, min, take, drop, Option, Some, None, true, false}
 use Rattle.ssh_packet.specs.Stream.{message_type}
 use Rattle.ssh_wire.specs.declared.error.Error.{Error}
 use Rattle.ssh_wire.specs.declared.error.Error.TheVariants as errors
@@ -21,7 +21,7 @@ use Rattle.ssh_rules.specs.Standing.{Standing, is_outside, unfinished}
 use Rattle.ssh_rules.specs.Valid.{config_fault, first_config_fault, is_bad_size}
 use Rattle.ssh_rules.specs.declared.link.Step.{Step}
 use Rattle.ssh_rules.specs.declared.link.Step.TheVariants.{Deliver, Rekey, Settle, Submit}
-use Rattle.ssh_run.specs.Carrying.{CarriedEnd, CarriedLink, CarriesTo, HasWaiting, IsNewLink, Repeats, StepsLinks, all_bytes, carried_count, last_link}
+use Rattle.ssh_run.specs.Carrying.{CarriedEnd, CarriedLink, CarriesTo, HasWaiting, IsNewLink, Repeats, StepsLinks, all_bytes, begun_by, carried_count, last_link}
 
 -- what a side's parts said before a call, and what a refusal in it means
 pub record Telling : Type 1 where
@@ -92,20 +92,9 @@ abbrev pub RefusesTurn : (client server : Telling) → CarriedLink → Error →
 RefusesTurn client server old error =
     RefusesCarrying server old.server old.client.transport.output all_bytes error ⊎ ClientRefuses client server old error
 
--- how many exchanges may be begun behind a step, where so many may before it
-abbrev pub bound_behind : Step → ℕ → ℕ
-bound_behind (Submit side p) bound = min (bound + 2) (2 ^ 128 - 1)
-bound_behind (Rekey side) bound = min (bound + 1) (2 ^ 128 - 1)
-bound_behind (Deliver side n) bound = bound
-bound_behind Settle bound = bound
-
 -- how many turns a settle has, where so many exchanges may be begun
 abbrev pub most_turns : ℕ → ℕ
 most_turns bound = min (32 * bound) (2 ^ 128 - 1)
-
--- how many exchanges a side has begun, with the first, inside which it is from its start on
-abbrev pub begun_by : CarriedEnd → ℕ
-begun_by e = length e.transport.state.records + (if is_outside e.transport.state.stands then 0 else 1)
 
 -- a side has begun more exchanges than may be begun
 abbrev pub BeginTooMany : ℕ → CarriedLink → Type 0

@@ -1,5 +1,5 @@
 -- The causes of what a run of a link is refused.
-use Rattle.std.specs.Prelude.{◌≡◌, ◌⊎◌, ◌+◌, ◌<◌, ℕ, Bool, true, false, if◌then◌else◌, List, [], ◌++◌, ◌∷◌, length, None, Ok, refl}
+use Rattle.std.specs.Prelude.{◌≡◌, ◌⊎◌, ◌+◌, ◌<◌, ◌≤◌, ℕ, Bool, true, false, if◌then◌else◌, List, [], ◌++◌, ◌∷◌, length, None, Ok, refl}
 use Rattle.std.specs.List.{list_all}
 use Rattle.ssh_wire.specs.Lines.{id_line}
 use Rattle.ssh_wire.specs.Sides.{other_side, same_side}
@@ -68,9 +68,12 @@ most_brought side (Settle ∷ steps) = most_brought side steps
 brought-example : most_brought Client (Deliver Client 40 ∷ Deliver Server 9 ∷ Deliver Client 2 ∷ []) ≡ 42
 brought-example = refl
 
--- they let a side take more than the other's version line: a settle does, and deliveries of more bytes
-abbrev pub BringMessages : Side → Config → List Step → Type 0
-BringMessages side other steps = has_settle steps ≡ false → length (id_line other.id) < most_brought side steps
+-- They let a side take more than the other's version line, and the other all of the side's, behind which alone it writes
+-- more: a settle does, and deliveries of so many bytes.
+abbrev pub BringMessages : Side → (Side → Config) → List Step → Type 0
+BringMessages side config steps = has_settle steps ≡ false
+    → (length (id_line (config (other_side side)).id) < most_brought side steps)
+    × (length (id_line (config side).id) ≤ most_brought (other_side side) steps)
 
 -- the first payload that isn't good is refused
 pub record IsBadSubmit (steps : List Step) (error : Error) : Type 0 where
@@ -91,7 +94,7 @@ pub record IsPartsCause (rises : Side → Rises) (config : Side → Config) (off
   pub step : Step
   pub carries : carries_to side step ≡ true
   pub reached : ReachesStep steps step
-  pub came : BringMessages side (config (other_side side)) (reached.before ++ step ∷ [])
+  pub came : BringMessages side config (reached.before ++ step ∷ [])
   pub cause : IsCauseOf (rises side) side config (offered side) group error
 
 -- whatever they are
@@ -101,7 +104,7 @@ pub record IsAnyPartsCause (rises : Side → Rises) (config : Side → Config) (
   pub step : Step
   pub carries : carries_to side step ≡ true
   pub reached : ReachesStep steps step
-  pub came : BringMessages side (config (other_side side)) (reached.before ++ step ∷ [])
+  pub came : BringMessages side config (reached.before ++ step ∷ [])
   pub cause : IsCauseOfAny (rises side) side error
 
 -- Why a run is refused where the parts of both sides are lawful: a configuration, the first payload that isn't good, what

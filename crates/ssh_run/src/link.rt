@@ -3,7 +3,7 @@
 ghost use Rattle.std.specs.Prelude.{◌≡◌, ◌⊎◌, ◌≤◌, ◌<◌, ◌^◌, [], Err, IfErr, IfOk, IfSome, None, OnErr, OnOk, false, length, true};
 ghost use Rattle.std.specs.Str.{is_utf8};
 ghost use Rattle.ssh_rules.specs.AnyParts.{IsReadLink};
-ghost use Rattle.ssh_rules.specs.Headline.{IsLink};
+ghost use Rattle.ssh_rules.specs.Headline.{IsInGroup, IsLink, chosen_by, kind_by};
 ghost use Rattle.ssh_rules.specs.Valid as valid;
 ghost use Rattle.ssh_rules.specs.Valid.{HasSizes, first_config_fault};
 ghost use Rattle.ssh_run.specs.Asking.{CarriedAsks, RunAsks};
@@ -58,6 +58,10 @@ pub fn run_link<A: Agreement, H: HostKeys, G: GroupLookup, R: Rng>(
         → A.lawful server_parts.old.agreement (record { client = client.now; server = server.now })
         → G.lawful server_parts.old.groups (record { client = client.now; server = server.now })
         → IfOk result (IsLink A.client_makes A.server_makes A.agrees client.now server.now steps.now) }
+    ensures group { A.lawful client_parts.old.agreement (record { client = client.now; server = server.now })
+        → A.lawful server_parts.old.agreement (record { client = client.now; server = server.now })
+        → G.lawful server_parts.old.groups (record { client = client.now; server = server.now })
+        → IfOk result (IsInGroup server.now (G.group server_parts.old.groups client.now.gex)) }
     ensures configs { IfSome (first_config_fault (valid.config_fault client_side client.now)
         (valid.config_fault server_side server.now)) (λ f. result ≡ Err (InvalidConfig f)) }
     ensures refused { IfErr result (IsAnyRunCause (rises_by (⟦<Parts<A, H, G, R> as Asked>⟧.rises client_parts.old
@@ -79,7 +83,9 @@ pub fn run_link<A: Agreement, H: HostKeys, G: GroupLookup, R: Rng>(
         → A.obliging server_parts.old.agreement (record { client = client.now; server = server.now })
         → H.obliging client_parts.old.hosts (record { client = client.now; server = server.now })
         → H.obliging server_parts.old.hosts (record { client = client.now; server = server.now })
-        → G.obliging server_parts.old.groups (record { client = client.now; server = server.now })
+        → G.lawful server_parts.old.groups (record { client = client.now; server = server.now })
+        → (kind_by (chosen_by client.now server.now) ≡ true
+        → G.obliging server_parts.old.groups (record { client = client.now; server = server.now }))
         → IfErr result (λ e. e ≡ Memory) }
     ensures read { IfOk result (IsReadLink (H.accepts client_parts.old.hosts) (H.trusts client_parts.old.hosts)
         client.now server.now) }
@@ -89,6 +95,8 @@ pub fn run_link<A: Agreement, H: HostKeys, G: GroupLookup, R: Rng>(
         → RunAsks client.now server.now steps.now (⟦<Parts<A, H, G, R> as Asked>⟧.calls client_parts.old)
         (⟦<Parts<A, H, G, R> as Asked>⟧.calls client_parts.new) (⟦<Parts<A, H, G, R> as Asked>⟧.calls server_parts.old)
         (⟦<Parts<A, H, G, R> as Asked>⟧.calls server_parts.new) }
+    ensures client_keeps { ⟦<Parts<A, H, G, R> as Handed>⟧.keeps client_parts.old client_parts.new }
+    ensures server_keeps { ⟦<Parts<A, H, G, R> as Handed>⟧.keeps server_parts.old server_parts.new }
 {
     see_types(client);
     see_types(server);
@@ -128,6 +136,7 @@ fn first_fault(client: &Config, server: &Config) -> Option<ConfigFault>
 }
 
 /// Runs both sides by the steps. Both configurations are tested before anything takes memory.
+#[tactic(auto, using(ssh_transport::proofs::Lemmas::parts_same))]
 fn carry_steps<A: Agreement, H: HostKeys, G: GroupLookup, R: Rng>(
     alloc: Global,
     client: &Config,
@@ -151,6 +160,8 @@ fn carry_steps<A: Agreement, H: HostKeys, G: GroupLookup, R: Rng>(
         (⟦<Parts<A, H, G, R> as Asked>⟧.calls client_parts.old) (⟦<Parts<A, H, G, R> as Asked>⟧.calls client_parts.new)
         (⟦<Parts<A, H, G, R> as Asked>⟧.calls server_parts.old) (⟦<Parts<A, H, G, R> as Asked>⟧.calls
         server_parts.new) }
+    ensures client_keeps { ⟦<Parts<A, H, G, R> as Handed>⟧.keeps client_parts.old client_parts.new }
+    ensures server_keeps { ⟦<Parts<A, H, G, R> as Handed>⟧.keeps server_parts.old server_parts.new }
 {
     if let Some(fault) = first_fault(client, server) {
         return Err(Error::InvalidConfig(fault));
@@ -162,9 +173,9 @@ fn carry_steps<A: Agreement, H: HostKeys, G: GroupLookup, R: Rng>(
 
 impl<'c> Link<'c> {
     ghost use Rattle.ssh_run.specs.Asking.{LinkAsks, PartAsks, SideAsks, TurnsAsk};
-    ghost use Rattle.ssh_run.specs.Carrying.{HasWaiting, IsNewLink, RunsOn, SettlesAll, StepsLink, TakesTurns, reported_link};
+    ghost use Rattle.ssh_run.specs.Carrying.{FewBehind, HasWaiting, IsNewLink, RunsOn, SettlesAll, StepsLink, TakesTurns, begun_by, bound_behind, reported_link};
     ghost use Rattle.ssh_run.specs.LinkEnds.{link_mark, link_of};
-    ghost use Rattle.ssh_run.specs.RefusedCarrying.{BeginTooMany, IsConfigFault, RefusesRun, RefusesSettle, RefusesStep, RefusesSubmit, RefusesTurn, begun_by, bound_behind};
+    ghost use Rattle.ssh_run.specs.RefusedCarrying.{BeginTooMany, IsConfigFault, RefusesRun, RefusesSettle, RefusesStep, RefusesSubmit, RefusesTurn};
     ghost use Rattle.ssh_wire.specs.declared.error.Error.TheVariants.{Memory};
     ghost use Rattle.ssh_rules.specs.declared.link.Step.TheVariants.{Deliver, Rekey, Submit};
 
@@ -193,7 +204,7 @@ impl<'c> Link<'c> {
     }
 
     /// Carries out all steps: the marks before the first and behind each.
-    #[tactic(auto, using(crate::proofs::Asking::side_still, crate::proofs::Asking::link_none))]
+    #[tactic(auto, using(ssh_transport::proofs::Lemmas::parts_same, crate::proofs::Asking::side_still, crate::proofs::Asking::link_none))]
     fn run<A: Agreement, H: HostKeys, G: GroupLookup, R: Rng>(
         &mut self,
         alloc: Global,
@@ -209,8 +220,8 @@ impl<'c> Link<'c> {
             server_parts.new) steps.now (link_of self.old) e) }
         ensures runs { IfOk result (λ marks. RunsOn (⟦<Parts<A, H, G, R> as Handed>⟧.says
             self.old.client.transport.config client_parts.old) (⟦<Parts<A, H, G, R> as Handed>⟧.says
-            self.old.server.transport.config server_parts.old) steps.now (link_of self.old) (link_of self.new)
-            marks.items) }
+            self.old.server.transport.config server_parts.old) self.old.bound steps.now (link_of self.old)
+            (link_of self.new) marks.items) }
         ensures asks { self.old.client.transport.failed ≡ false → self.old.server.transport.failed ≡ false → LinkAsks
             (⟦<Parts<A, H, G, R> as Handed>⟧.says self.old.client.transport.config client_parts.old)
             (⟦<Parts<A, H, G, R> as Handed>⟧.says self.old.server.transport.config server_parts.old) steps.now
@@ -218,6 +229,8 @@ impl<'c> Link<'c> {
             (⟦<Parts<A, H, G, R> as Asked>⟧.calls client_parts.new)
             (⟦<Parts<A, H, G, R> as Asked>⟧.calls server_parts.old)
             (⟦<Parts<A, H, G, R> as Asked>⟧.calls server_parts.new) }
+        ensures client_keeps { ⟦<Parts<A, H, G, R> as Handed>⟧.keeps client_parts.old client_parts.new }
+        ensures server_keeps { ⟦<Parts<A, H, G, R> as Handed>⟧.keeps server_parts.old server_parts.new }
     {
         let mut marks = Vec::with_capacity(alloc, steps.len().saturating_add(1))?;
         marks.push(self.mark())?;
@@ -244,6 +257,7 @@ impl<'c> Link<'c> {
             client_parts.old client_parts.new) (⟦<Parts<A, H, G, R> as Told>⟧.telling self.old.server.transport.config
             server_parts.old server_parts.new) self.old.bound step.now (link_of self.old) e) }
         ensures bound { self.new.bound ≡ bound_behind step.now self.old.bound }
+        ensures few { OnOk result (FewBehind self.old.bound step.now (link_of self.new)) }
         ensures client_keeps { ⟦<Parts<A, H, G, R> as Handed>⟧.keeps client_parts.old client_parts.new }
         ensures server_keeps { ⟦<Parts<A, H, G, R> as Handed>⟧.keeps server_parts.old server_parts.new }
         ensures asks_client { OnOk result (SideAsks self.old.client.transport self.new.client.transport

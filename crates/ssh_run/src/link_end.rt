@@ -23,9 +23,9 @@ pub(crate) struct LinkEnd<'c> {
 
 impl<'c> LinkEnd<'c> {
     ghost use Rattle.ssh_run.specs.Asking.{PieceAsks, SideAsks};
-    ghost use Rattle.ssh_run.specs.Carrying.{AsksKeys, CarriesTo, Rests, SubmitsOne, all_bytes, first_end};
+    ghost use Rattle.ssh_run.specs.Carrying.{AsksKeys, CarriesTo, Rests, SubmitsOne, all_bytes, begun_by, first_end};
     ghost use Rattle.ssh_run.specs.LinkEnds.{end_mark, end_of};
-    ghost use Rattle.ssh_run.specs.RefusedCarrying.{IsRestless, RefusesCarrying, RefusesSubmit, begun_by};
+    ghost use Rattle.ssh_run.specs.RefusedCarrying.{IsRestless, RefusesCarrying, RefusesSubmit};
     ghost use Rattle.ssh_wire.specs.declared.error.Error.TheVariants.{Memory};
 
     /// A side that has sent its id line.

@@ -24,7 +24,7 @@ returns g c = λ t a b h i gr j names w cl sl side took piece old new v v' x x' 
     })
     (duties_of _ _ _ _ _ _ _ _ _ _ _ _ _ _ _ _ _ _ _ _ _ _
     (record { agreement = g.met.A.Agreement.obliging_lawful; lookup = g.met.G.GroupLookup.obliging_lawful; fits = g.met.G.GroupLookup.fitting; accepted = g.met.H.HostKeys.obliging_accepts })
-    t a b h i gr j names.kex side v v' x x' y y' oa ob oh oi oj offers ka kh kg)
+    t a b h i gr j names.kex side v v' x x' y y' oa ob oh oi lj (λ k. oj) offers ka kh kg)
     (small_of g.A.Agreement.lawful g.A.Agreement.offered g.A.Agreement.client_makes g.A.Agreement.server_makes g.A.Agreement.agrees g.H.HostKeys.lawful g.H.HostKeys.obliging g.H.HostKeys.accepts g.H.HostKeys.trusts g.H.HostKeys.makes g.G.GroupLookup.lawful g.G.GroupLookup.group g.met.G.GroupLookup.small t a b h i gr j side la lb lh li lj)
     (λ host key client p d.
     let k = subst (λ z. KeepsHosts g.H.HostKeys.lawful g.H.HostKeys.obliging g.H.HostKeys.accepts g.H.HostKeys.trusts g.H.HostKeys.refused_sign g.H.HostKeys.refused_verify g.H.HostKeys.refused_check g.H.HostKeys.calls (one_of z h i) x) client kh in

@@ -4,7 +4,7 @@ use Rattle.ssh_wire.specs.declared.side.Side.TheVariants.{Client, Server}
 use Rattle.ssh_kex.specs.Parts.{Setup}
 use Rattle.ssh_kex.specs.Stepping.{says_of}
 use Rattle.ssh_rules.specs.AnyParts.{IsReadLink}
-use Rattle.ssh_rules.specs.Headline.{IsLink}
+use Rattle.ssh_rules.specs.Headline.{IsInGroup, IsLink}
 use Rattle.ssh_rules.specs.RunLaws.{config_of, says_by}
 use Rattle.ssh_rules.specs.Snapshots.{IsWholeId}
 use Rattle.ssh_rules.specs.Valid.{HasSizes, config_fault}
@@ -16,13 +16,14 @@ use Rattle.ssh_run.specs.RunCauses.{offered_by, rises_by}
 use Rattle.ssh_run.proofs.GoodSubmits.{steps_good}
 use Rattle.ssh_run.proofs.RefusedLinks.{any_run_cause, if_refused, lawful_causes, obliging_complete, ok_good, run_cause, says_in, tells_by}
 use Rattle.ssh_run.proofs.AskedRuns.{all_asked}
-use Rattle.ssh_run.proofs.CarriedLinks.{carried_is_link, carried_is_read}
-use Rattle.ssh_run.proofs.LinkSoFar.{if_told, of_sides, whole_run}
+use Rattle.ssh_run.proofs.CarriedLinks.{carried_in_group, carried_is_link, carried_is_read}
+use Rattle.ssh_run.proofs.LinkSoFar.{if_told, of_sides}
 use Rattle.ssh_run.proofs.WholeIds.{whole_id}
+use Rattle.ssh_run.proofs.WholeReports.{whole_run}
 use Rattle.ssh_run.proofs.link.run_link.Goals as goal
 
 pub returns-clause-report : goal.returns-clause-report
-returns-clause-report g c = if_told (IsWholeReport c.args.steps.now) c.carry_steps.result c.carry_steps.ensures.client c.carry_steps.ensures.server c.carry_steps.ensures.few c.carry_steps.ensures.carried (λ r v w few k. whole_run _ _ c.args.client.now c.args.server.now c.args.steps.now r k)
+returns-clause-report g c = if_told (IsWholeReport c.args.steps.now) c.carry_steps.result c.carry_steps.ensures.client c.carry_steps.ensures.server c.carry_steps.ensures.few c.carry_steps.ensures.carried (λ r v w few k. whole_run _ _ c.args.client.now c.args.server.now c.args.steps.now r few k)
 
 pub returns-clause-link : goal.returns-clause-link
 returns-clause-link g c = λ la lb lg.
@@ -36,6 +37,20 @@ returns-clause-link g c = λ la lb lg.
     (record { for_client = λ name group local public e. e t la; for_server = λ name group public e. e t lb; for_secret = λ name group x y secret e. e t la })
     (λ name group local client server p q cm sm cp sq. g.met.A.Agreement.one_secret a t name group local client server p q la (cm t la) (sm t lb) (cp t la) (sq t lb))
     (λ sizes group f. (f t lg).1)
+    k)
+
+pub returns-clause-group : goal.returns-clause-group
+returns-clause-group g c = λ la lb lg.
+    let t : Setup = record { client = c.args.client.now; server = c.args.server.now } in
+    let a = c.args.client_parts.now.agreement in
+    let b = c.args.server_parts.now.agreement in
+    let says = says_by (says_of g.A.Agreement.lawful g.A.Agreement.offered g.A.Agreement.client_makes g.A.Agreement.server_makes g.A.Agreement.agrees g.H.HostKeys.lawful g.H.HostKeys.obliging g.H.HostKeys.accepts g.H.HostKeys.trusts g.H.HostKeys.makes g.G.GroupLookup.lawful g.G.GroupLookup.group) t a b c.args.client_parts.now.hosts c.args.server_parts.now.hosts c.args.client_parts.now.groups c.args.server_parts.now.groups in
+    let sizes = of_sides (λ s. HasSizes (config_of t s)) c.see_types.ensures.sizes c.see_types-2.ensures.sizes in
+    if_told (IsInGroup c.args.server.now (g.G.GroupLookup.group c.args.server_parts.now.groups c.args.client.now.gex)) c.carry_steps.result c.carry_steps.ensures.client c.carry_steps.ensures.server c.carry_steps.ensures.few c.carry_steps.ensures.carried
+    (λ r v w few k. carried_in_group says (config_of t) (g.G.GroupLookup.group c.args.server_parts.now.groups c.args.client.now.gex) c.args.steps.now r (of_sides (λ s. config_fault s (config_of t s) ≡ None) v w) sizes (of_sides (λ s. IsWholeId (config_of t s)) (whole_id Client c.args.client.now v c.see_types.ensures.text) (whole_id Server c.args.server.now w c.see_types-2.ensures.text)) few
+    (λ name group local client server p q cm sm cp sq. g.met.A.Agreement.one_secret a t name group local client server p q la (cm t la) (sm t lb) (cp t la) (sq t lb))
+    (λ sizes group f. (f t lg).1)
+    (λ group f. (f t lg).0)
     k)
 
 pub returns-clause-read : goal.returns-clause-read
@@ -81,13 +96,13 @@ pub returns-clause-good : goal.returns-clause-good
 returns-clause-good g c = ok_good c.carry_steps.result c.args.steps.now c.carry_steps.ensures.carried (λ r k. steps_good _ _ c.args.steps.now k.first k.links k.each)
 
 pub returns-clause-complete : goal.returns-clause-complete
-returns-clause-complete g c = λ v oa ob oh oi oj.
+returns-clause-complete g c = λ v oa ob oh oi lg oj.
     let t : Setup = record { client = c.args.client.now; server = c.args.server.now } in
     if_refused c.carry_steps.result c.carry_steps.ensures.refused
     (λ e r. obliging_complete g.A.Agreement.lawful g.A.Agreement.obliging g.A.Agreement.offered g.A.Agreement.client_makes g.A.Agreement.server_makes g.A.Agreement.agrees g.A.Agreement.refusals g.H.HostKeys.lawful g.H.HostKeys.obliging g.H.HostKeys.accepts g.H.HostKeys.trusts g.H.HostKeys.makes g.H.HostKeys.refused_sign g.H.HostKeys.refused_verify g.H.HostKeys.refused_check g.G.GroupLookup.lawful g.G.GroupLookup.obliging g.G.GroupLookup.group g.G.GroupLookup.refusals g.met.A.Agreement.one_secret
     (record { agreement = g.met.A.Agreement.obliging_lawful; lookup = g.met.G.GroupLookup.obliging_lawful; fits = g.met.G.GroupLookup.fitting; accepted = g.met.H.HostKeys.obliging_accepts })
     g.met.H.HostKeys.obliging_lawful g.met.G.GroupLookup.small g.met.H.HostKeys.obliging_trusts
-    t c.args.client_parts.now.agreement c.carry_steps.new.client_parts.agreement c.args.server_parts.now.agreement c.carry_steps.new.server_parts.agreement c.args.client_parts.now.hosts c.carry_steps.new.client_parts.hosts c.args.server_parts.now.hosts c.carry_steps.new.server_parts.hosts c.args.client_parts.now.groups c.carry_steps.new.client_parts.groups c.args.server_parts.now.groups c.carry_steps.new.server_parts.groups c.args.steps.now e v (of_sides (λ s. HasSizes (config_of t s)) c.see_types.ensures.sizes c.see_types-2.ensures.sizes) oa ob oh oi oj
+    t c.args.client_parts.now.agreement c.carry_steps.new.client_parts.agreement c.args.server_parts.now.agreement c.carry_steps.new.server_parts.agreement c.args.client_parts.now.hosts c.carry_steps.new.client_parts.hosts c.args.server_parts.now.hosts c.carry_steps.new.server_parts.hosts c.args.client_parts.now.groups c.carry_steps.new.client_parts.groups c.args.server_parts.now.groups c.carry_steps.new.server_parts.groups c.args.steps.now e v (of_sides (λ s. HasSizes (config_of t s)) c.see_types.ensures.sizes c.see_types-2.ensures.sizes) oa ob oh oi lg oj
     (of_sides (λ s. IsWholeId (config_of t s)) (whole_id Client c.args.client.now (v.valid Client) c.see_types.ensures.text) (whole_id Server c.args.server.now (v.valid Server) c.see_types-2.ensures.text)) r)
 
 pub returns-clause-calls : goal.returns-clause-calls
