@@ -128,7 +128,8 @@ generated_faultless seed count =
         client = record { agreement = refl; hosts = refl };
         server = record { agreement = refl; hosts = refl };
         trusted = key_trusted;
-        lookup = record { groups = refl; group = record { lawful = record { most = omega arith }; least = omega arith; within = omega arith } };
+        lawful = record { most = omega arith };
+        lookup = λ _. record { groups = refl; group = record { lawful = record { most = omega arith }; least = omega arith; within = omega arith } };
       };
     }
 
