@@ -27,8 +27,8 @@ pub record IsSigned (accepts : Accepting) (trusts : Trusting)
   pub trusted : trusts (host_with x.names host) ≡ true
 
 -- The other's wire begins with its id line, and the side took no more than stands there. What it delivered is what it
--- opened of the bytes that it took, under the keys that it recorded; and what a client recorded was signed by a host that
--- it trusts. This holds whatever the handed-in parts are.
+-- opened of the bytes that it took, under the keys that it recorded; and what a client recorded was signed by a host
+-- that it trusts. This holds whatever the handed-in parts are.
 pub record IsReadSide (accepts : Accepting) (trusts : Trusting) (side : Side)
     (config other : Config) (r other_report : SideReport) : Type 0 where
   pub line : HasFront other_report.wire (id_line other.id)

@@ -1,5 +1,5 @@
 -- The report of a carried link is what a link's report says: of any parts what each side read, and of lawful ones all.
-use Rattle.std.proofs.Common.{◌≡◌, ℕ, ◌+◌, ◌<◌, ◌≤◌, ◌^◌, List, [], ◌∷◌, ◌++◌, length, take, drop, slice_get, refl, sym, ◌∙◌, ap, subst, arith, Bool, true, Some, None, inl, inr}
+use Rattle.std.proofs.Common.{◌≡◌, ℕ, ◌+◌, ◌<◌, ◌^◌, List, [], ◌∷◌, ◌++◌, length, take, drop, slice_get, refl, sym, ◌∙◌, ap, subst, arith, Bool, true, Some, None, inl, inr}
 use Rattle.std.proofs.lemmas.List.{drop_all, drop_at}
 use Rattle.ssh_wire.specs.Lines.{Id, id_line, id_of, id_text}
 use Rattle.ssh_wire.specs.Sides.{other_side}

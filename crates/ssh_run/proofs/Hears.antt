@@ -1,5 +1,5 @@
 -- A side writes nothing behind its id line until it has read all of the other's.
-use Rattle.std.proofs.Common.{◌≡◌, ℕ, ◌+◌, ◌<◌, ◌≤◌, List, [], ◌∷◌, ◌++◌, length, take, Bool, IsSome, None, Option, Some, refl, sym, ◌∙◌, ap, arith, inl, inr, length-append}
+use Rattle.std.proofs.Common.{◌≡◌, ℕ, ◌<◌, ◌≤◌, List, [], ◌∷◌, length, IsSome, None, Option, Some, refl, sym, ◌∙◌, ap, arith, inl, inr, length-append}
 use Rattle.std.proofs.lemmas.List.{length-take-le}
 use Rattle.ssh_wire.specs.Lines.{id_line, id_text}
 use Rattle.ssh_wire.specs.Sides.{other_side}
@@ -8,7 +8,7 @@ use Rattle.ssh_kex.specs.Setting.{Says}
 use Rattle.ssh_kex.specs.Stages.{Stage}
 use Rattle.ssh_kex.specs.declared.config.Config.{Config}
 use Rattle.ssh_rules.specs.Log.{sent_bytes}
-use Rattle.ssh_rules.specs.Machine.{Answering, AnswerSent, Asked, Cause, Event, ExchangeBegun, ExchangeFinished, GuessDropped, IdHeard, Inside, MayBegin, MessageTaken, Outside, PacketDropped, PayloadDelivered, PayloadSent, PayloadSubmitted, ReadLimit, SideState, Silent, Spot, Start, Steps, Where, WriteLimit, first_state}
+use Rattle.ssh_rules.specs.Machine.{Answering, AnswerSent, Asked, Cause, Event, ExchangeBegun, ExchangeFinished, GuessDropped, IdHeard, Inside, MayBegin, MessageTaken, Outside, PacketDropped, PayloadDelivered, PayloadSent, PayloadSubmitted, ReadLimit, SideState, Silent, Spot, Start, Steps, WriteLimit, first_state}
 use Rattle.ssh_rules.specs.Turns.{LinkEnd}
 use Rattle.ssh_run.specs.Carrying.{CarriedEnd}
 use Rattle.ssh_run.proofs.SideTurns.{IsSide, wire_by}

@@ -1,5 +1,5 @@
 -- A run's report is whole: its marks, and that both sides rest behind each settle, whatever the parts are.
-use Rattle.std.proofs.Common.{◌≡◌, ℕ, zero, suc, ◌+◌, ◌-◌, ◌<◌, ◌≤◌, ◌^◌, Bool, true, false, not, List, [], ◌∷◌, ◌++◌, length, map, min, take, append_assoc, append-nil, length-append, slice_get, Some, refl, sym, ap, ◌∙◌, subst, arith}
+use Rattle.std.proofs.Common.{◌≡◌, ℕ, zero, suc, ◌+◌, ◌<◌, ◌≤◌, ◌^◌, Bool, true, false, not, List, [], ◌∷◌, ◌++◌, length, map, take, append_assoc, append-nil, length-append, slice_get, Some, refl, sym, ap, ◌∙◌, subst, arith}
 use Rattle.ssh_wire.specs.declared.side.Side.TheVariants.{Client, Server}
 use Rattle.ssh_kex.specs.Setting.{Says}
 use Rattle.ssh_kex.specs.declared.config.Config.{Config}
@@ -11,8 +11,8 @@ use Rattle.ssh_rules.specs.declared.link.LinkReport.{LinkReport}
 use Rattle.ssh_rules.specs.declared.link.Mark.{Mark}
 use Rattle.ssh_rules.specs.declared.link.Step.{Step}
 use Rattle.ssh_rules.specs.declared.link.Step.TheVariants.{Submit, Deliver, Rekey, Settle}
-use Rattle.ssh_run.specs.Carrying.{CarriedEnd, CarriedLink, CarriesTo, FewBegun, FewBehind, IsCarried, IsNewLink, Repeats, SettlesAll, StepsLink, StepsLinks, TakesTurns, begun_by, both_marks, bound_behind, carried_count, last_link}
-use Rattle.ssh_run.specs.Reports.{BothRest, IsWholeReport, RestBehindSettles}
+use Rattle.ssh_run.specs.Carrying.{CarriedEnd, CarriedLink, CarriesTo, FewBegun, FewBehind, IsCarried, IsNewLink, Repeats, SettlesAll, StepsLink, StepsLinks, TakesTurns, both_marks, bound_behind, last_link}
+use Rattle.ssh_run.specs.Reports.{BothRest, IsWholeReport}
 use Rattle.ssh_run.proofs.LinkSoFar.{as_many, bound_on}
 
 -- ---- no side took more than the other sent

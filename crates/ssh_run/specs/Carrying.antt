@@ -167,8 +167,8 @@ FewBegun bound [] links = Unit {0}
 FewBegun bound (step ∷ steps) [] = Unit {0}
 FewBegun bound (step ∷ steps) (l ∷ links) = FewBehind bound step l × FewBegun (bound_behind step bound) steps links
 
--- The steps lead from a link to another, with a mark before the first and one behind each. So many exchanges may be begun
--- before the first.
+-- The steps lead from a link to another, with a mark before the first and one behind each. So many exchanges may be
+-- begun before the first.
 pub record RunsOn (client server : Says) (bound : ℕ) (steps : List Step) (old new : CarriedLink)
     (marks : List Mark) : Type 0 where
   pub links : List CarriedLink

@@ -1,5 +1,5 @@
 -- What the calls on a link do that are refused: which call of which transport was refused, and what came before it.
-use Rattle.std.specs.Prelude.{◌≡◌, ◌⊎◌, ◌<◌, ◌≤◌, ◌+◌, ◌-◌, ◌*◌, ◌^◌, ℕ, ◌++◌, Bool, List, ◌∷◌, length, min, take, drop, Option, Some, None, true, false}
+use Rattle.std.specs.Prelude.{◌≡◌, ◌⊎◌, ◌<◌, ◌≤◌, ◌-◌, ◌*◌, ◌^◌, ℕ, ◌++◌, Bool, List, ◌∷◌, length, min, take, drop, Option, Some, None, true, false}
 use Rattle.ssh_packet.specs.Stream.{message_type}
 use Rattle.ssh_wire.specs.declared.error.Error.{Error}
 use Rattle.ssh_wire.specs.declared.error.Error.TheVariants as errors
