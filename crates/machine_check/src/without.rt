@@ -27,6 +27,10 @@ impl<A: Agreement> Agreement for Without<A> {
 
     ghost agrees = { A.agrees };
 
+    ghost client_draws = { A.client_draws };
+
+    ghost server_draws = { A.server_draws };
+
     ghost lawful = { λ v. A.lawful v.inner };
 
     ghost obliging = { λ v. A.obliging v.inner };

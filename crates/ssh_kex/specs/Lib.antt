@@ -13,5 +13,6 @@ pub mod Opening
 pub mod Views
 pub mod Sessions
 pub mod Laws
+pub mod Drawing
 pub mod Shown
 pub mod Unasked

@@ -8,6 +8,7 @@ ghost use Rattle.ssh_wire.specs.Sides.{other_side};
 ghost use Rattle.ssh_wire.specs.declared.error.Error.TheVariants.{Kex, KexInit, Memory};
 ghost use Rattle.ssh_negotiate.specs.Tables.{kex_text, shape_of};
 ghost use Rattle.ssh_kex.specs.Agreeing.{Agreeing, ClientAgrees, ClientStarts, IsGexOrMemory, HoldsOne, IsWhole, ServerAgrees, bytes_of, error_of};
+ghost use Rattle.ssh_kex.specs.Drawing.{DrawsLocal, DrawsSecret};
 ghost use Rattle.ssh_kex.specs.Exchange.{exchange_hash, keys_of, sealing_after, secret_of, secret_text, side_if};
 ghost use Rattle.ssh_kex.specs.Messages.{is_gex, request_message, value_message};
 ghost use Rattle.ssh_kex.specs.Parts.{IsSmall, KeepsAgreement, Setup};
@@ -149,6 +150,9 @@ impl KexAlgorithm {
         ensures agrees { OnOk result (ServerAgrees (shape_of self.old.name).skip (λ v x. (s : Setup)
             → A.lawful agreement.old s → A.server_makes self.old.name self.old.group v
             × A.agrees self.old.name self.old.group exchange.old.client_ephemeral v x × IsSmall v) self.old self.new exchange.old exchange.new) }
+        ensures drawn { OnOk result (DrawsSecret (shape_of self.old.name).skip (A.server_draws self.old.name
+            self.old.group exchange.old.client_ephemeral) (R.stream rng.old) self.new.secret
+            exchange.new.server_ephemeral (R.stream rng.new)) }
         ensures unchanged { OnErr result ((self.new ≡ self.old) × (exchange.new ≡ exchange.old)) }
         ensures causes { IfErr result (λ e. (e ≡ Kex) ⊎ (e ≡ Memory)) }
         ensures rose { result ≡ Err Kex → Rose (A.refusals agreement.old) (A.refusals agreement.new) }
@@ -191,6 +195,8 @@ impl KexAlgorithm {
         ensures starts { OnOk result (ClientStarts (shape_of self.old.name).skip (λ l v. (s : Setup)
             → A.lawful agreement.old s → A.client_makes self.old.name self.old.group l v) (λ v. out.old.items
             ++ value_message (is_gex self.old.name) v) self.old self.new client_ephemeral.old client_ephemeral.new out.old.items out.new.items) }
+        ensures drawn { OnOk result (DrawsLocal (shape_of self.old.name).skip (A.client_draws self.old.name
+            self.old.group) (R.stream rng.old) self.new.local client_ephemeral.new (R.stream rng.new)) }
         ensures unchanged { OnErr result ((self.new ≡ self.old) × (client_ephemeral.new ≡ client_ephemeral.old)
             × (out.new.items ≡ out.old.items)) }
         ensures small { OnOk result ((shape_of self.old.name).skip ≡ false → (s : Setup) → A.lawful agreement.old s

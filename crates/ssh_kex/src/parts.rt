@@ -1,6 +1,7 @@
 //! What is handed in: key agreements, host keys, and the lookup of groups.
 
 ghost use Rattle.std.specs.Prelude.{◌≡◌, ℕ, ◌≤◌, List, Bool, true, Option, Some, None, IfOk, OnOk};
+ghost use Rattle.rand_core.specs.Stream.{Stream};
 ghost use Rattle.std.specs.Option.{option_copied};
 ghost use Rattle.ssh_kex.specs.Messages.{IsCanonical, bit_size};
 ghost use Rattle.ssh_kex.specs.Parts.{Counted, IsRefused, IsSmall, IsValue, KeepsAgreement, KeepsGroups, KeepsHosts, Presents, Setup};
@@ -59,6 +60,12 @@ pub trait Agreement {
     // Name, group, the client's and the server's public value, and a secret.
     ghost agrees: { kexes.Name → Option DhGroup → List ℕ → List ℕ → List ℕ → Type 0 };
 
+    // What is drawn from a generator's stream: a local and a public value, and what is left of the stream; and for a
+    // client's public value, a server's and the secret.
+    ghost client_draws: { kexes.Name → Option DhGroup → Stream → List ℕ → List ℕ → Stream → Type 0 };
+
+    ghost server_draws: { kexes.Name → Option DhGroup → List ℕ → Stream → List ℕ → List ℕ → Stream → Type 0 };
+
     // What it keeps under two sides' configurations, and what it owes besides to be refused never.
     ghost lawful: { Self → Setup → Type 0 };
 
@@ -83,6 +90,8 @@ pub trait Agreement {
         ensures counts { Counted (refusals self.old) (refusals self.new) (calls self.old) (calls self.new) result }
         ensures keeps { KeepsAgreement lawful obliging offered refusals calls self.old self.new }
         ensures values { IfOk result (λ v. IsValue v.public × IsValue v.local) }
+        ensures drawn { IfOk result (λ v. client_draws name (option_copied group.entry) (R.stream rng.old) v.local
+            v.public (R.stream rng.new)) }
         ensures made { (s : Setup) → lawful self.old s
             → IfOk result (λ v. client_makes name (option_copied group.entry) v.local v.public × IsSmall v.public
             × IsSmall v.local) }
@@ -100,6 +109,8 @@ pub trait Agreement {
         ensures counts { Counted (refusals self.old) (refusals self.new) (calls self.old) (calls self.new) result }
         ensures keeps { KeepsAgreement lawful obliging offered refusals calls self.old self.new }
         ensures values { IfOk result (λ v. IsValue v.public × IsValue v.secret) }
+        ensures drawn { IfOk result (λ v. server_draws name (option_copied group.entry) client_public.now
+            (R.stream rng.old) v.public v.secret (R.stream rng.new)) }
         ensures made { (s : Setup) → lawful self.old s
             → IfOk result (λ v. server_makes name (option_copied group.entry) v.public
             × agrees name (option_copied group.entry) client_public.now v.public v.secret × IsSmall v.public

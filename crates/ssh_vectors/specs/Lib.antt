@@ -6,3 +6,4 @@ pub mod Primes
 pub mod Hosts
 pub mod PrimeSizes
 pub mod Trusting
+pub mod Drawing

@@ -66,6 +66,7 @@ impl Agreement for TestAgreement {
     ghost use Rattle.std.proofs.Common.{◌∙◌, sym};
     ghost use Rattle.ssh_negotiate.specs.Tables.{shape_of};
     ghost use Rattle.ssh_vectors.specs.Agreement.{Agrees, ClientMakes, ServerMakes};
+    ghost use Rattle.ssh_vectors.specs.Drawing.{ClientDraws, ServerDraws};
 
     ghost offered = { λ v name. not (shape_of name).skip };
 
@@ -74,6 +75,10 @@ impl Agreement for TestAgreement {
     ghost server_makes = { ServerMakes };
 
     ghost agrees = { Agrees };
+
+    ghost client_draws = { ClientDraws };
+
+    ghost server_draws = { ServerDraws };
 
     ghost lawful = { λ v s. Unit {0} };
 

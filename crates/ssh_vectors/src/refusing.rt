@@ -58,6 +58,10 @@ impl<A: Agreement> Agreement for Refusing<A> {
 
     ghost agrees = { A.agrees };
 
+    ghost client_draws = { A.client_draws };
+
+    ghost server_draws = { A.server_draws };
+
     ghost lawful = { Within A.lawful };
 
     ghost obliging = { Obliges A.obliging };
@@ -92,6 +96,8 @@ impl<A: Agreement> Agreement for Refusing<A> {
             (refusals_with A.refusals) (λ v. v.calls) self.old self.new }
         ensures undrawn { refuses_next self.old ≡ true → R.stream rng.new ≡ R.stream rng.old }
         ensures values { IfOk result (λ v. IsValue v.public × IsValue v.local) }
+        ensures drawn { IfOk result (λ v. A.client_draws name (option_copied group.entry) (R.stream rng.old) v.local
+            v.public (R.stream rng.new)) }
         ensures made { (s : Setup) → A.lawful self.old.inner s → IfOk result (λ v.
             A.client_makes name (option_copied group.entry) v.local v.public × IsSmall v.public × IsSmall v.local) }
         ensures never { (s : Setup) → A.obliging self.old.inner s → A.offered self.old.inner name ≡ true
@@ -122,6 +128,8 @@ impl<A: Agreement> Agreement for Refusing<A> {
             (refusals_with A.refusals) (λ v. v.calls) self.old self.new }
         ensures undrawn { refuses_next self.old ≡ true → R.stream rng.new ≡ R.stream rng.old }
         ensures values { IfOk result (λ v. IsValue v.public × IsValue v.secret) }
+        ensures drawn { IfOk result (λ v. A.server_draws name (option_copied group.entry) client_public.now
+            (R.stream rng.old) v.public v.secret (R.stream rng.new)) }
         ensures made { (s : Setup) → A.lawful self.old.inner s → IfOk result (λ v.
             A.server_makes name (option_copied group.entry) v.public
             × A.agrees name (option_copied group.entry) client_public.now v.public v.secret

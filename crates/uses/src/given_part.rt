@@ -84,6 +84,10 @@ impl Agreement for GivenAgreement {
 
     ghost agrees = { λ name group client server secret. ⊥ };
 
+    ghost client_draws = { λ name group before local public behind. Unit {0} };
+
+    ghost server_draws = { λ name group client before public secret behind. Unit {0} };
+
     ghost lawful = { λ given setup. ⊥ };
 
     ghost obliging = { λ given setup. ⊥ };
