@@ -102,8 +102,8 @@ fn offers(row: &mut Row<'_>, found: &mut String) -> Result<(), Fault> {
     say_shown(found, &TestAgreement::new().offers(kex_of(row)?))
 }
 
-/// `test_agreement NAME GROUP CLIENT SERVER`: the server's value that is drawn from these bytes and its secret, how many
-/// calls and refusals there were, and how many words were left undrawn.
+/// `test_agreement NAME GROUP CLIENT SERVER`: the server's value that is drawn from these bytes and its secret, how
+/// many calls and refusals there were, and how many words were left undrawn.
 fn agreement(row: &mut Row<'_>, found: &mut String) -> Result<(), Fault> {
     let name = kex_of(row)?;
     let group = group_of(row)?;

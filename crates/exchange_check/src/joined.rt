@@ -11,8 +11,8 @@ use vector_rows::{Fault, Row, Words, say_bytes, say_shown};
 
 type With<A> = Parts<A, GivenHosts, TestGroups, Words<'static>>;
 
-/// The link of a script of `run` by its configurations and steps: the payloads that were delivered to the server, or the
-/// refusal.
+/// The link of a script of `run` by its configurations and steps: the payloads that were delivered to the server, or
+/// the refusal.
 ///
 /// `joined CLIENT SERVER SCRIPT`: client and server each hold this secret. `zeroed SCRIPT`: both sides make the tests'
 /// values, and a client's secret is zeros.

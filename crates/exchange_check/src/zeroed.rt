@@ -34,6 +34,10 @@ impl Agreement for ZeroAgreement {
 
     ghost agrees = { λ name group client server secret. ⊥ };
 
+    ghost client_draws = { λ name group before local public behind. Unit {0} };
+
+    ghost server_draws = { λ name group client before public secret behind. Unit {0} };
+
     ghost lawful = { λ zero setup. ⊥ };
 
     ghost obliging = { λ zero setup. ⊥ };

@@ -1,6 +1,6 @@
-//! Carries payloads from a client to a server, for measuring: `link_speed CIPHER MAC LENGTH COUNT PIECE REKEY` with names of
-//! RFC 4253: COUNT payloads of LENGTH bytes, carried in pieces of PIECE bytes, under new keys behind each REKEY bytes of
-//! payload. Writes how many bytes were delivered, and how long both wires are.
+//! Carries payloads from a client to a server, for measuring: `link_speed CIPHER MAC LENGTH COUNT PIECE REKEY` with
+//! names of RFC 4253: COUNT payloads of LENGTH bytes, carried in pieces of PIECE bytes, under new keys behind each
+//! REKEY bytes of payload. Writes how many bytes were delivered, and how long both wires are.
 #![tactic(auto)]
 
 use ssh_link::{Script, ScriptError, parse_script, run_script};
@@ -21,7 +21,8 @@ struct Load {
 /// How many pieces each way an exchange's messages take at least.
 const EXCHANGE_PIECES: u64 = 4;
 
-/// Appends the steps: the first exchange; each payload, and the pieces that carry it; new keys behind each `rekey` bytes.
+/// Appends the steps: the first exchange; each payload, and the pieces that carry it; new keys behind each `rekey`
+/// bytes.
 fn push_steps(alloc: Global, steps: &mut Vec<Step>, load: Load) -> Result<(), Error> {
     steps.push(Step::Settle)?;
     let (mut waits, mut since) = (0u64, 0u64);

@@ -1,7 +1,7 @@
 //! Rows of both machines, each given the other's packets.
 //!
-//! Configurations, machines and parts are each made by a function of its own, which lends them on: a check lists all that a
-//! value holds at each place of the function that owns it.
+//! Configurations, machines and parts are each made by a function of its own, which lends them on: a check lists all
+//! that a value holds at each place of the function that owns it.
 
 use crate::without::Without;
 use machine_rows::{Machine, Progress, config_of, keys_of, trusted_by};
@@ -29,8 +29,9 @@ type Handed = Parts<
     Words<'static>,
 >;
 
-/// `play PREFERENCES PREFERENCES KEYS CERTIFICATES CAUSE SETTINGS MESSAGES..`: what each step of both machines writes and
-/// leads to, the client's first, where each is given the other's packets in turn. The first message goes to the client.
+/// `play PREFERENCES PREFERENCES KEYS CERTIFICATES CAUSE SETTINGS MESSAGES..`: what each step of both machines writes
+/// and leads to, the client's first, where each is given the other's packets in turn. The first message goes to the
+/// client.
 pub(crate) fn answer(kind: &str, row: &mut Row<'_>, found: &mut String) -> Result<bool, Fault> {
     if kind != "play" {
         return Ok(false);
@@ -169,8 +170,8 @@ fn spoken(
     Ok(())
 }
 
-/// The next word as why the exchange begins: `first`, or a later one behind a first that was strict or not, `strict:HASH`
-/// or `plain:HASH`.
+/// The next word as why the exchange begins: `first`, or a later one behind a first that was strict or not,
+/// `strict:HASH` or `plain:HASH`.
 fn cause_of(row: &mut Row<'_>) -> Result<KexCause, Fault> {
     let word = row.word()?;
     if word == "first" {
@@ -215,10 +216,10 @@ struct Settings {
 }
 
 impl Settings {
-    /// The next word: `default`, or in its place settings of the client's sizes `least`, `wanted`, `most`, of the looked-up
-    /// group's `bits`, of `blob`, as one host key whose blob has so many bytes, of `trust`, which is `none` where the client
-    /// trusts no host, of the numbers of calls that are refused, such as `client_hosts`, and of the key exchange that a
-    /// side's agreement lacks, such as `client_without`.
+    /// The next word: `default`, or in its place settings of the client's sizes `least`, `wanted`, `most`, of the
+    /// looked-up group's `bits`, of `blob`, as one host key whose blob has so many bytes, of `trust`, which is `none`
+    /// where the client trusts no host, of the numbers of calls that are refused, such as `client_hosts`, and of the
+    /// key exchange that a side's agreement lacks, such as `client_without`.
     fn of(row: &mut Row<'_>) -> Result<Settings, Fault> {
         let none = Refused {
             agreement: 0,
@@ -337,8 +338,8 @@ impl How {
     }
 }
 
-/// The words that are left, as `AT:none`, `AT:same`, `AT:#NUMBER` or `AT:PAYLOAD`. Of several for one message each is given,
-/// in order.
+/// The words that are left, as `AT:none`, `AT:same`, `AT:#NUMBER` or `AT:PAYLOAD`. Of several for one message each is
+/// given, in order.
 fn given_of(row: &mut Row<'_>) -> Result<Vec<Given>, Fault> {
     let mut given = Vec::new(row.alloc());
     for _ in 0..row.left() {
@@ -489,8 +490,8 @@ fn played(
     Ok(true)
 }
 
-/// Gives a side the other's next packet, or what is given in its place; nothing where there is none, or where the side is
-/// done. False where that is refused.
+/// Gives a side the other's next packet, or what is given in its place; nothing where there is none, or where the side
+/// is done. False where that is refused.
 fn turn(
     reader: &mut PacketReader,
     other: &mut PacketWriter,

@@ -6,8 +6,8 @@ use ssh_negotiate::kex;
 use ssh_wire::Blob;
 use std::alloc::Global;
 
-/// Offers what another agreement offers, but for one name, and answers as that one. It keeps the laws that the other keeps.
-/// Where the name is `none`, which no exchange of values has, nothing else is left out.
+/// Offers what another agreement offers, but for one name, and answers as that one. It keeps the laws that the other
+/// keeps. Where the name is `none`, which no exchange of values has, nothing else is left out.
 #[derive(Drop)]
 pub(crate) struct Without<A> {
     pub(crate) inner: A,

@@ -1,5 +1,5 @@
-//! What the checks of rows on machines and on transports share: how a side is set up, the machine of either side, and the
-//! calls on a transport.
+//! What the checks of rows on machines and on transports share: how a side is set up, the machine of either side, and
+//! the calls on a transport.
 #![tactic(auto)]
 
 mod config;

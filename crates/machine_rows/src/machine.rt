@@ -92,8 +92,8 @@ impl<'c> Machine<'c> {
         self.keys.as_ref()
     }
 
-    /// Gives it a message, or none. PacketSize for one of 2^31 bytes or more, which the machine isn't given; Inconsistent
-    /// where it doesn't run.
+    /// Gives it a message, or none. PacketSize for one of 2^31 bytes or more, which the machine isn't given;
+    /// Inconsistent where it doesn't run.
     pub fn step<A: Agreement, H: HostKeys, G: GroupLookup, R: Rng>(
         &mut self,
         parts: &mut Parts<A, H, G, R>,

@@ -12,11 +12,11 @@ use ssh_wire::{Error, Side};
 use std::alloc::Global;
 use vector_rows::{Fault, Row, say, say_bytes, say_number, say_shown, words_of};
 
-/// `carried SIDE`: the connection whose packets stand before, by a transport of the side whose KEXINIT was written from its
-/// own preferences. It is fed the peer's bytes one by one, and submits the side's payloads in their places: the hash of each
-/// exchange, how many payloads were delivered, and how many bytes were written. In their place stands a refusal, or what was
-/// otherwise than recorded: `exchanges`, `delivered` or `wrote`. The side's own DISCONNECT isn't sent; `disconnected`
-/// stands behind where the peer's came.
+/// `carried SIDE`: the connection whose packets stand before, by a transport of the side whose KEXINIT was written from
+/// its own preferences. It is fed the peer's bytes one by one, and submits the side's payloads in their places: the
+/// hash of each exchange, how many payloads were delivered, and how many bytes were written. In their place stands a
+/// refusal, or what was otherwise than recorded: `exchanges`, `delivered` or `wrote`. The side's own DISCONNECT isn't
+/// sent; `disconnected` stands behind where the peer's came.
 ///
 /// `polled SIDE SIZE`: the same, where the transport keeps the peer's bytes in pieces of this size, and lends each
 /// payload; `queued` stands behind the number of bytes where any is delivered too.
@@ -163,8 +163,8 @@ pub(crate) fn drawn_by(alloc: Global, packets: &[Packet]) -> Result<Vec<u32>, Fa
     Ok(words)
 }
 
-/// Lets a transport send its side's payloads, and begin its exchanges, each where it stands, and feeds it the peer's bytes:
-/// those up to the end of an exchange where one runs, and all that are left at last.
+/// Lets a transport send its side's payloads, and begin its exchanges, each where it stands, and feeds it the peer's
+/// bytes: those up to the end of an exchange where one runs, and all that are left at last.
 pub(crate) fn carried<A: Agreement, H: HostKeys, G: GroupLookup, R: Rng>(
     transport: &mut Transport<'_>,
     parts: &mut Parts<A, H, G, R>,

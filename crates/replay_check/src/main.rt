@@ -1,6 +1,5 @@
-//! Compares recorded connections with what one side makes of what the other side sent: its machine in each exchange, and a
-//! transport in the whole connection.
-//! The status is 0 where none failed and at least one passed.
+//! Compares recorded connections with what one side makes of what the other side sent: its machine in each exchange,
+//! and a transport in the whole connection. The status is 0 where none failed and at least one passed.
 #![tactic(auto)]
 
 mod carried;

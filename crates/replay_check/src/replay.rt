@@ -16,10 +16,10 @@ use std::alloc::Global;
 use vector_rows::preferences::{Named, named_all};
 use vector_rows::{Fault, Row, say, say_bytes, say_shown, words_of};
 
-/// `agreed SIDE SECRET`: the exchange that stands before, by the machine of a side whose KEXINIT was written from its own
-/// preferences: key exchange, cipher, MACs of both directions, exchange hash, session id, and the six keys in the order of
-/// their letters. Before them stands `wrote` where it would have written other messages, and `unjudged` where a client
-/// asked nobody for the signature. A refusal stands in their place.
+/// `agreed SIDE SECRET`: the exchange that stands before, by the machine of a side whose KEXINIT was written from its
+/// own preferences: key exchange, cipher, MACs of both directions, exchange hash, session id, and the six keys in the
+/// order of their letters. Before them stands `wrote` where it would have written other messages, and `unjudged` where
+/// a client asked nobody for the signature. A refusal stands in their place.
 pub(crate) fn answer(
     kind: &str,
     talk: &mut Talk,
@@ -67,8 +67,8 @@ fn say_keys(found: &mut String, left: &NewKeys) -> Result<(), Fault> {
     say_bytes(found, left.keys.mac_s2c.as_bytes())
 }
 
-/// What a side's machine makes that is given the other side's messages. Appends its keys; where a message is refused there
-/// is none, and the refusal is appended.
+/// What a side's machine makes that is given the other side's messages. Appends its keys; where a message is refused
+/// there is none, and the refusal is appended.
 fn replayed(
     talk: &Talk,
     side: Side,
@@ -158,8 +158,8 @@ fn made_by(
     }))
 }
 
-/// Gives a machine the messages of an exchange until it is done. Appends why it isn't: what is refused, or that they are too
-/// few.
+/// Gives a machine the messages of an exchange until it is done. Appends why it isn't: what is refused, or that they
+/// are too few.
 fn drive<A: Agreement, H: HostKeys, G: GroupLookup, R: Rng>(
     machine: &mut Machine<'_>,
     packets: &[Packet],

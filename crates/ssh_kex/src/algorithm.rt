@@ -107,8 +107,8 @@ impl KexAlgorithm {
         self.name.shape().gex
     }
 
-    /// Appends message 34, which asks for a group. KexInit where it isn't a group exchange; Memory. A refusal leaves `out`
-    /// as it was.
+    /// Appends message 34, which asks for a group. KexInit where it isn't a group exchange; Memory. A refusal leaves
+    /// `out` as it was.
     pub fn client_dh_gex_init(&self, gex: &GexParams, out: &mut Vec<u8>) -> Result<(), Error>
         ensures ok { OnOk result (out.new.items ≡ out.old.items ++ request_message gex.now) }
         ensures kind { OnOk result (is_gex self.now.name ≡ true) }
@@ -137,8 +137,9 @@ impl KexAlgorithm {
         Ok(())
     }
 
-    /// Agrees on the client's value, gives the exchange the server's, and keeps the secret. Kex where the agreement refused,
-    /// and counted it; Memory. A refusal leaves both as they were. Where no values are exchanged nobody is asked.
+    /// Agrees on the client's value, gives the exchange the server's, and keeps the secret. Kex where the agreement
+    /// refused, and counted it; Memory. A refusal leaves both as they were. Where no values are exchanged nobody is
+    /// asked.
     pub fn server_dh<A: Agreement, R: Rng>(
         &mut self,
         agreement: &mut A,
@@ -146,10 +147,12 @@ impl KexAlgorithm {
         exchange: &mut Exchange,
     ) -> Result<(), Error>
         ensures keeps { KeepsAgreement A.lawful A.obliging A.offered A.refusals A.calls agreement.old agreement.new }
-        ensures calls { A.calls agreement.new ≤ A.calls agreement.old + (if (shape_of self.old.name).skip then 0 else 1) }
+        ensures calls { A.calls agreement.new ≤ A.calls agreement.old
+            + (if (shape_of self.old.name).skip then 0 else 1) }
         ensures agrees { OnOk result (ServerAgrees (shape_of self.old.name).skip (λ v x. (s : Setup)
             → A.lawful agreement.old s → A.server_makes self.old.name self.old.group v
-            × A.agrees self.old.name self.old.group exchange.old.client_ephemeral v x × IsSmall v) self.old self.new exchange.old exchange.new) }
+            × A.agrees self.old.name self.old.group exchange.old.client_ephemeral v x × IsSmall v) self.old self.new
+            exchange.old exchange.new) }
         ensures drawn { OnOk result (DrawsSecret (shape_of self.old.name).skip (A.server_draws self.old.name
             self.old.group exchange.old.client_ephemeral) (R.stream rng.old) self.new.secret
             exchange.new.server_ephemeral (R.stream rng.new)) }
@@ -180,9 +183,9 @@ impl KexAlgorithm {
         Ok(())
     }
 
-    /// Makes a client's value, keeps what belongs to it, and appends message 30, or 32 in a group exchange. Kex where the
-    /// agreement refused, and counted it; Memory. A refusal leaves all as it was. Where no values are exchanged nobody is
-    /// asked, and nothing is written.
+    /// Makes a client's value, keeps what belongs to it, and appends message 30, or 32 in a group exchange. Kex where
+    /// the agreement refused, and counted it; Memory. A refusal leaves all as it was. Where no values are exchanged
+    /// nobody is asked, and nothing is written.
     pub fn client_dh<A: Agreement, R: Rng>(
         &mut self,
         agreement: &mut A,
@@ -191,10 +194,12 @@ impl KexAlgorithm {
         out: &mut Vec<u8>,
     ) -> Result<(), Error>
         ensures keeps { KeepsAgreement A.lawful A.obliging A.offered A.refusals A.calls agreement.old agreement.new }
-        ensures calls { A.calls agreement.new ≤ A.calls agreement.old + (if (shape_of self.old.name).skip then 0 else 1) }
+        ensures calls { A.calls agreement.new ≤ A.calls agreement.old
+            + (if (shape_of self.old.name).skip then 0 else 1) }
         ensures starts { OnOk result (ClientStarts (shape_of self.old.name).skip (λ l v. (s : Setup)
             → A.lawful agreement.old s → A.client_makes self.old.name self.old.group l v) (λ v. out.old.items
-            ++ value_message (is_gex self.old.name) v) self.old self.new client_ephemeral.old client_ephemeral.new out.old.items out.new.items) }
+            ++ value_message (is_gex self.old.name) v) self.old self.new client_ephemeral.old client_ephemeral.new
+            out.old.items out.new.items) }
         ensures drawn { OnOk result (DrawsLocal (shape_of self.old.name).skip (A.client_draws self.old.name
             self.old.group) (R.stream rng.old) self.new.local client_ephemeral.new (R.stream rng.new)) }
         ensures unchanged { OnErr result ((self.new ≡ self.old) × (client_ephemeral.new ≡ client_ephemeral.old)
@@ -226,16 +231,17 @@ impl KexAlgorithm {
         Ok(())
     }
 
-    /// Agrees on a server's value, and keeps the secret. KexInit where no local value of `client_dh` is left. The local value
-    /// is used up, also by a refusal. Kex where the agreement refused, and counted it; Memory. Where no values are exchanged
-    /// nobody is asked.
+    /// Agrees on a server's value, and keeps the secret. KexInit where no local value of `client_dh` is left. The local
+    /// value is used up, also by a refusal. Kex where the agreement refused, and counted it; Memory. Where no values
+    /// are exchanged nobody is asked.
     pub fn compute_shared_secret<A: Agreement>(
         &mut self,
         agreement: &mut A,
         server_public: &[u8],
     ) -> Result<(), Error>
         ensures keeps { KeepsAgreement A.lawful A.obliging A.offered A.refusals A.calls agreement.old agreement.new }
-        ensures calls { A.calls agreement.new ≤ A.calls agreement.old + (if (shape_of self.old.name).skip then 0 else 1) }
+        ensures calls { A.calls agreement.new ≤ A.calls agreement.old
+            + (if (shape_of self.old.name).skip then 0 else 1) }
         ensures agrees { OnOk result (ClientAgrees (shape_of self.old.name).skip (λ l x. (s : Setup) (public : List ℕ)
             → A.lawful agreement.old s → A.client_makes self.old.name self.old.group l public
             → A.agrees self.old.name self.old.group public server_public.now x) self.old self.new) }
@@ -280,8 +286,8 @@ impl KexAlgorithm {
         }
     }
 
-    /// Whether `compute_exchange_hash` may be called: the host's blob and each byte string of the exchange have under 2^31
-    /// bytes, and the exchange has a group exactly where it is a group exchange.
+    /// Whether `compute_exchange_hash` may be called: the host's blob and each byte string of the exchange have under
+    /// 2^31 bytes, and the exchange has a group exactly where it is a group exchange.
     pub fn can_hash(&self, host_blob: &[u8], exchange: &Exchange) -> bool
         ensures { IsTrue result ↔ IsWhole self.now.name host_blob.now exchange.now }
     {
@@ -315,8 +321,10 @@ impl KexAlgorithm {
     ) -> NewCiphers
         ensures keys { result.keys ≡ keys_of (shape_of self.now.name).digest
             (secret_text (secret_of self.now.name self.now.secret)) exchange_hash.now session_id.now names.now }
-        ensures seals { sealing_of result.cipher.local_to_remote ≡ sealing_after (side_if is_server) names.now result.keys }
-        ensures opens { opening_of result.cipher.remote_to_local ≡ sealing_after (other_side (side_if is_server)) names.now result.keys }
+        ensures seals { sealing_of result.cipher.local_to_remote ≡ sealing_after (side_if is_server) names.now
+            result.keys }
+        ensures opens { opening_of result.cipher.remote_to_local ≡ sealing_after (other_side (side_if is_server))
+            names.now result.keys }
     {
         keys::compute_keys(
             self.name.shape().digest,

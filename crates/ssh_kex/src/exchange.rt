@@ -136,8 +136,8 @@ impl Exchange {
         })
     }
 
-    /// Whether a hash can be made of it and of a host's blob by a key exchange: each of its byte strings and the blob have
-    /// under 2^31 bytes, and there is a group exactly where the name is a group exchange.
+    /// Whether a hash can be made of it and of a host's blob by a key exchange: each of its byte strings and the blob
+    /// have under 2^31 bytes, and there is a group exactly where the name is a group exchange.
     pub(crate) fn can_be_hashed(&self, name: kex::Name, host_blob: &[u8]) -> bool
         ensures { IsTrue result ↔ IsWhole name host_blob.now self.now }
     {

@@ -22,8 +22,9 @@ fn is_late(cause: &KexCause, is_strict: bool, seqn: u32) -> bool
     }
 }
 
-/// The names that a client takes from the peer's KEXINIT. KexInit where it is another message, else as `Client::read_kex`, and
-/// then StrictKeyExchangeViolation where under strict key exchange the first one isn't the first packet; Memory.
+/// The names that a client takes from the peer's KEXINIT. KexInit where it is another message, else as
+/// `Client::read_kex`, and then StrictKeyExchangeViolation where under strict key exchange the first one isn't the
+/// first packet; Memory.
 pub fn client_names(
     alloc: Global,
     config: &Config,

@@ -18,8 +18,8 @@ use std::alloc::Global;
 /// A KEXINIT whose lists may be sent is shorter.
 const LONGEST_KEXINIT: usize = 262156;
 
-/// Sends a KEXINIT, and answers a copy of its payload, for which there is room before it is sent. It is a server's where the
-/// keys are given. Memory leaves the writer as it was.
+/// Sends a KEXINIT, and answers a copy of its payload, for which there is room before it is sent. It is a server's
+/// where the keys are given. Memory leaves the writer as it was.
 pub fn send_kexinit<R: Rng>(
     alloc: Global,
     prefs: &Preferred,

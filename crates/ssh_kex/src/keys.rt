@@ -29,7 +29,8 @@ pub fn compute_keys(
     ensures keys { result.keys ≡ keys_of digest (secret_text (option_copied shared_secret.entry)) exchange_hash.now
         session_id.now names.now }
     ensures seals { sealing_of result.cipher.local_to_remote ≡ sealing_after (side_if is_server) names.now result.keys }
-    ensures opens { opening_of result.cipher.remote_to_local ≡ sealing_after (other_side (side_if is_server)) names.now result.keys }
+    ensures opens { opening_of result.cipher.remote_to_local ≡ sealing_after (other_side (side_if is_server)) names.now
+        result.keys }
 {
     let keys = keys_with(digest, shared_secret, exchange_hash, session_id, names);
     let cipher = ciphers_of(&keys, names, is_server);
@@ -45,7 +46,8 @@ fn keys_with(
     names: &Names,
 ) -> Keys
     requires { IsShortSecret (option_copied secret) }
-    ensures value { result ≡ keys_of digest (secret_text (option_copied secret.entry)) hash.now session_id.now names.now }
+    ensures value { result ≡ keys_of digest (secret_text (option_copied secret.entry)) hash.now session_id.now
+        names.now }
     ensures sizes { HaveLengths names.now result }
 {
     let nonce = names.cipher.nonce_len();
@@ -67,7 +69,8 @@ fn keys_with(
 fn ciphers_of(keys: &Keys, names: &Names, is_server: bool) -> CipherPair
     requires { HaveLengths names.now keys.now }
     ensures seals { sealing_of result.local_to_remote ≡ sealing_after (side_if is_server) names.now keys.now }
-    ensures opens { opening_of result.remote_to_local ≡ sealing_after (other_side (side_if is_server)) names.now keys.now }
+    ensures opens { opening_of result.remote_to_local ≡ sealing_after (other_side (side_if is_server)) names.now
+        keys.now }
 {
     let (key_c2s, iv_c2s) = (keys.key_c2s.as_bytes(), keys.iv_c2s.as_bytes());
     let (key_s2c, iv_s2c) = (keys.key_s2c.as_bytes(), keys.iv_s2c.as_bytes());
@@ -98,7 +101,8 @@ fn key_of(
 ) -> HashValue
     requires secret { IsShortSecret (option_copied secret) }
     requires need { need ≤ 64 }
-    ensures value { result ≡ key_by digest (secret_text (option_copied secret.entry)) hash.now session_id.now letter need }
+    ensures value { result ≡ key_by digest (secret_text (option_copied secret.entry)) hash.now session_id.now letter
+        need }
     ensures size { length result ≡ need }
 {
     let first = first_block(digest, secret, hash, session_id, letter);

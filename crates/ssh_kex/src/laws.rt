@@ -32,8 +32,9 @@ pub fn rows_exclude<A: Agreement, H: HostKeys, G: GroupLookup>()
         H.refused_verify G.obliging G.refusals) }
 {}
 
-/// Where agreement and host keys are lawful, no part counted a refusal, and the group or the host's blob that the answer
-/// carries has at most 65536 bytes a number, want of memory is all that could refuse a message which a row takes.
+/// Where agreement and host keys are lawful, no part counted a refusal, and the group or the host's blob that the
+/// answer carries has at most 65536 bytes a number, want of memory is all that could refuse a message which a row
+/// takes.
 pub fn memory_alone<A: Agreement, H: HostKeys, G: GroupLookup>()
     ensures { MemoryAlone A.lawful H.lawful
         (NoneCounted A.refusals H.refused_sign H.refused_verify G.refusals)

@@ -1,6 +1,6 @@
 //! Key exchange (RFC 4253 sections 7 and 8, RFC 4419, RFC 5656): what is handed in, the exchange hash, the keys, one
-//! exchange's group, values and secret, and the messages that both sides' machines share. The definitions of each step of a
-//! machine stand here; the machines themselves are `ssh_client_kex` and `ssh_server_kex`.
+//! exchange's group, values and secret, and the messages that both sides' machines share. The definitions of each step
+//! of a machine stand here; the machines themselves are `ssh_client_kex` and `ssh_server_kex`.
 #![tactic(auto)]
 
 mod algorithm;

@@ -20,7 +20,8 @@ pub fn has_type(payload: &[u8], message_type: u8) -> bool
     }
 }
 
-/// Appends one packet of a message. PacketSize where it is over 262157 bytes; Memory. A refusal leaves the output as it was.
+/// Appends one packet of a message. PacketSize where it is over 262157 bytes; Memory. A refusal leaves the output as it
+/// was.
 pub fn put_message<R: Rng>(
     output: &mut PacketWriter,
     rng: &mut R,

@@ -140,7 +140,8 @@ pub trait Agreement {
     // What both sides made leaves one secret.
     ghost one_secret: { (v : Self) (s : Setup) (name : kexes.Name) (group : Option DhGroup)
         (local client server x y : List ℕ) → lawful v s → client_makes name group local client
-        → server_makes name group server → agrees name group client server x → agrees name group client server y → x ≡ y };
+        → server_makes name group server → agrees name group client server x → agrees name group client server y
+        → x ≡ y };
 
     // What is obliging is lawful.
     ghost obliging_lawful: { (v : Self) (s : Setup) → obliging v s → lawful v s };
@@ -185,8 +186,8 @@ pub trait GroupLookup {
     ghost obliging_lawful: { (v : Self) (s : Setup) → obliging v s → lawful v s };
 }
 
-/// Signs, and judges signatures and hosts. A signature is the blob of RFC 4253 section 6.6: two strings, the name of its
-/// format and what that format makes.
+/// Signs, and judges signatures and hosts. A signature is the blob of RFC 4253 section 6.6: two strings, the name of
+/// its format and what that format makes.
 pub trait HostKeys {
     // The hosts, hashes and signatures that are accepted, and the hosts that are trusted.
     ghost accepts: { Self → ServerHost → List ℕ → List ℕ → Bool };
@@ -216,8 +217,10 @@ pub trait HostKeys {
         algorithm: Algorithm,
         hash: &HashValue,
     ) -> Result<Blob, Refusal>
-        ensures counts { Counted (refused_sign self.old) (refused_sign self.new) (calls self.old) (calls self.new) result }
-        ensures keeps { KeepsHosts lawful obliging accepts trusts refused_sign refused_verify refused_check calls self.old self.new }
+        ensures counts { Counted (refused_sign self.old) (refused_sign self.new) (calls self.old) (calls self.new)
+            result }
+        ensures keeps { KeepsHosts lawful obliging accepts trusts refused_sign refused_verify refused_check calls
+            self.old self.new }
         ensures verify { refused_verify self.new ≡ refused_verify self.old }
         ensures check { refused_check self.new ≡ refused_check self.old }
         ensures values { IfOk result (λ v. IsValue v) }
@@ -234,8 +237,10 @@ pub trait HostKeys {
         hash: &HashValue,
         signature: &[u8],
     ) -> Result<(), Refusal>
-        ensures counts { Counted (refused_verify self.old) (refused_verify self.new) (calls self.old) (calls self.new) result }
-        ensures keeps { KeepsHosts lawful obliging accepts trusts refused_sign refused_verify refused_check calls self.old self.new }
+        ensures counts { Counted (refused_verify self.old) (refused_verify self.new) (calls self.old) (calls self.new)
+            result }
+        ensures keeps { KeepsHosts lawful obliging accepts trusts refused_sign refused_verify refused_check calls
+            self.old self.new }
         ensures sign { refused_sign self.new ≡ refused_sign self.old }
         ensures check { refused_check self.new ≡ refused_check self.old }
         ensures ok { OnOk result (accepts self.old host.now hash.now signature.now ≡ true) }
@@ -244,8 +249,10 @@ pub trait HostKeys {
 
     /// Whether a host is trusted.
     fn check(&mut self, alloc: Global, host: &ServerHost) -> Result<(), Refusal>
-        ensures counts { Counted (refused_check self.old) (refused_check self.new) (calls self.old) (calls self.new) result }
-        ensures keeps { KeepsHosts lawful obliging accepts trusts refused_sign refused_verify refused_check calls self.old self.new }
+        ensures counts { Counted (refused_check self.old) (refused_check self.new) (calls self.old) (calls self.new)
+            result }
+        ensures keeps { KeepsHosts lawful obliging accepts trusts refused_sign refused_verify refused_check calls
+            self.old self.new }
         ensures sign { refused_sign self.new ≡ refused_sign self.old }
         ensures verify { refused_verify self.new ≡ refused_verify self.old }
         ensures ok { OnOk result (trusts self.old host.now ≡ true) }

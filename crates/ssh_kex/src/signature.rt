@@ -12,9 +12,9 @@ use std::str;
 /// The beginning of each name of an ECDSA algorithm.
 const ECDSA: &str = "ecdsa-sha2-";
 
-/// The canonical form of an ECDSA signature: its name, and a string of both numbers, each written anew as an `mpint`. None
-/// where the blob is no such signature: its name is another or isn't UTF-8, something is cut short or stands behind, or
-/// there are not exactly two numbers. Memory.
+/// The canonical form of an ECDSA signature: its name, and a string of both numbers, each written anew as an `mpint`.
+/// None where the blob is no such signature: its name is another or isn't UTF-8, something is cut short or stands
+/// behind, or there are not exactly two numbers. Memory.
 pub fn canonicalize_ecdsa_signature(alloc: Global, blob: &[u8]) -> Result<Option<Blob>, Error>
     requires { length blob.now < 2 ^ 32 }
     ensures exact { IfOk result (λ form. form ≡ canonical_form blob.now) }

@@ -88,7 +88,8 @@ impl<W: Write> Sink for StdSink<W> {
     /// front of the piece may have been written.
     fn write(&mut self, bytes: &[u8]) -> Result<usize, Failed>
         ensures part { IfOk result (λ n. IsPartOf (length bytes.now) n) }
-        ensures bytes { IfOk result (λ n. Appends (W.contents self.old.inner) (W.contents self.new.inner) (take n bytes.now)) }
+        ensures bytes { IfOk result (λ n. Appends (W.contents self.old.inner) (W.contents self.new.inner)
+            (take n bytes.now)) }
         ensures front { OnErr result (GrowsByFront bytes.now (W.contents self.old.inner) (W.contents self.new.inner)) }
         ensures fault { OnErr result (self.new.faults ≡ next_count self.old.faults) }
         ensures none { OnOk result (self.new.faults ≡ self.old.faults) }

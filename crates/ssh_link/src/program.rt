@@ -69,13 +69,17 @@ pub fn link_main<S: Source, K: Sink>(
     sink: &mut K,
 ) -> MainEnd
     ensures status { result.status ≤ want_of_memory }
-    ensures answered { result.status ≢ source_failed → result.status ≢ want_of_memory → (answer : Answer) × IsAnswer words.now (S.left source.old) answer × Shows answer result × IsWritten answer result.status (K.held sink.old) (K.held sink.new) (K.faults sink.old) (K.faults sink.new) }
+    ensures answered { result.status ≢ source_failed → result.status ≢ want_of_memory → (answer : Answer) × IsAnswer
+        words.now (S.left source.old) answer × Shows answer result × IsWritten answer result.status (K.held sink.old)
+        (K.held sink.new) (K.faults sink.old) (K.faults sink.new) }
     ensures run_end { OnSome result.clear (ReachesEnd (S.left source.old) (S.left source.new)) }
     ensures link_end { IsReading words.now → OnSome result.report (ReachesEnd (S.left source.old) (S.left source.new)) }
     ensures attack_end { OnSome result.attack (ReachesEnd (S.left source.old) (S.left source.new)) }
-    ensures refused_end { IsReading words.now → OnSome result.refused (ReachesEnd (S.left source.old) (S.left source.new)) }
+    ensures refused_end { IsReading words.now → OnSome result.refused
+        (ReachesEnd (S.left source.old) (S.left source.new)) }
     ensures source_failed { result.status ≡ source_failed → Rose (S.faults source.old) (S.faults source.new) }
-    ensures silent { (result.status ≡ source_failed) ⊎ (result.status ≡ want_of_memory) → ShowsNone result × (K.held sink.new ≡ K.held sink.old) }
+    ensures silent { (result.status ≡ source_failed) ⊎ (result.status ≡ want_of_memory) → ShowsNone result
+        × (K.held sink.new ≡ K.held sink.old) }
     ensures usage { ¬ (IsCommand words.now) → (result.status ≡ no_command) ⊎ (result.status ≡ sink_failed) }
     ensures read { result.status ≡ source_failed → IsReading words.now }
     ensures run { result.status ≡ want_of_memory → IsCommand words.now }
@@ -83,7 +87,8 @@ pub fn link_main<S: Source, K: Sink>(
     ensures sink_unfailed { result.status ≢ sink_failed → K.faults sink.new ≡ K.faults sink.old }
     ensures unread { ¬ (IsReading words.now) → S.left source.new ≡ S.left source.old }
     ensures bounded { TakesAtMost (longest_script + 1) (S.left source.old) (S.left source.new) }
-    ensures attacked { IsAttackable words.now (S.left source.old) → result.status ≢ source_failed → result.status ≢ sink_failed → (result.status ≡ report_written) ⊎ (result.status ≡ want_of_memory) }
+    ensures attacked { IsAttackable words.now (S.left source.old) → result.status ≢ source_failed → result.status ≢
+        sink_failed → (result.status ≡ report_written) ⊎ (result.status ≡ want_of_memory) }
 {
     let Some(command) = command_of(words) else {
         return write_answer(sink, Answer::Usage, USAGE);
@@ -103,11 +108,16 @@ fn command_answer<S: Source>(
     source: &mut S,
 ) -> Result<Answer, ReadError>
     ensures answer { IfOk result (λ answer. AnswersCommand command (S.left source.old) answer) }
-    ensures run_end { IfOk result (λ answer. OnSome (shown_clear answer) (ReachesEnd (S.left source.old) (S.left source.new))) }
-    ensures link_end { IfOk result (λ answer. reads command ≡ true → OnSome (shown_report answer) (ReachesEnd (S.left source.old) (S.left source.new))) }
-    ensures attack_end { IfOk result (λ answer. OnSome (shown_attack answer) (ReachesEnd (S.left source.old) (S.left source.new))) }
-    ensures refused_end { IfOk result (λ answer. reads command ≡ true → OnSome (shown_refused answer) (ReachesEnd (S.left source.old) (S.left source.new))) }
-    ensures failed { IfErr result (λ e. e ≡ Failed → Rose (S.faults source.old) (S.faults source.new) × (reads command ≡ true)) }
+    ensures run_end { IfOk result (λ answer. OnSome (shown_clear answer)
+        (ReachesEnd (S.left source.old) (S.left source.new))) }
+    ensures link_end { IfOk result (λ answer. reads command ≡ true → OnSome (shown_report answer)
+        (ReachesEnd (S.left source.old) (S.left source.new))) }
+    ensures attack_end { IfOk result (λ answer. OnSome (shown_attack answer)
+        (ReachesEnd (S.left source.old) (S.left source.new))) }
+    ensures refused_end { IfOk result (λ answer. reads command ≡ true → OnSome (shown_refused answer)
+        (ReachesEnd (S.left source.old) (S.left source.new))) }
+    ensures failed { IfErr result (λ e. e ≡ Failed → Rose (S.faults source.old) (S.faults source.new)
+        × (reads command ≡ true)) }
     ensures unfailed { result ≢ Err Failed → S.faults source.new ≡ S.faults source.old }
     ensures unread { reads command ≡ false → S.left source.new ≡ S.left source.old }
     ensures bounded { TakesAtMost (longest_script + 1) (S.left source.old) (S.left source.new) }
@@ -125,10 +135,14 @@ fn read_answer<S: Source>(
     source: &mut S,
 ) -> Result<Answer, ReadError>
     ensures answer { IfOk result (λ answer. AnswersLeft command (S.left source.old) answer) }
-    ensures run_end { IfOk result (λ answer. OnSome (shown_clear answer) (ReachesEnd (S.left source.old) (S.left source.new))) }
-    ensures link_end { IfOk result (λ answer. OnSome (shown_report answer) (ReachesEnd (S.left source.old) (S.left source.new))) }
-    ensures attack_end { IfOk result (λ answer. OnSome (shown_attack answer) (ReachesEnd (S.left source.old) (S.left source.new))) }
-    ensures refused_end { IfOk result (λ answer. OnSome (shown_refused answer) (ReachesEnd (S.left source.old) (S.left source.new))) }
+    ensures run_end { IfOk result (λ answer. OnSome (shown_clear answer)
+        (ReachesEnd (S.left source.old) (S.left source.new))) }
+    ensures link_end { IfOk result (λ answer. OnSome (shown_report answer)
+        (ReachesEnd (S.left source.old) (S.left source.new))) }
+    ensures attack_end { IfOk result (λ answer. OnSome (shown_attack answer)
+        (ReachesEnd (S.left source.old) (S.left source.new))) }
+    ensures refused_end { IfOk result (λ answer. OnSome (shown_refused answer)
+        (ReachesEnd (S.left source.old) (S.left source.new))) }
     ensures failed { IfErr result (λ e. e ≡ Failed → Rose (S.faults source.old) (S.faults source.new)) }
     ensures unfailed { result ≢ Err Failed → S.faults source.new ≡ S.faults source.old }
     ensures bounded { TakesAtMost (longest_script + 1) (S.left source.old) (S.left source.new) }
@@ -142,7 +156,8 @@ fn print_answer<K: Sink>(alloc: Global, sink: &mut K, answer: Answer) -> MainEnd
     ensures status { result.status ≤ want_of_memory }
     ensures not_four { result.status ≢ source_failed }
     ensures shown { result.status ≢ want_of_memory → Shows answer result }
-    ensures written { result.status ≢ want_of_memory → IsWritten answer result.status (K.held sink.old) (K.held sink.new) (K.faults sink.old) (K.faults sink.new) }
+    ensures written { result.status ≢ want_of_memory → IsWritten answer result.status (K.held sink.old)
+        (K.held sink.new) (K.faults sink.old) (K.faults sink.new) }
     ensures unfailed { result.status ≢ sink_failed → K.faults sink.new ≡ K.faults sink.old }
     ensures silent { result.status ≡ want_of_memory → ShowsNone result × (K.held sink.new ≡ K.held sink.old) }
 {
@@ -158,7 +173,8 @@ fn write_answer<K: Sink>(sink: &mut K, answer: Answer, text: &[u8]) -> MainEnd
     ensures status { result.status ≤ sink_failed }
     ensures not_four { result.status ≢ source_failed }
     ensures shown { Shows answer result }
-    ensures written { IsWritten answer result.status (K.held sink.old) (K.held sink.new) (K.faults sink.old) (K.faults sink.new) }
+    ensures written { IsWritten answer result.status (K.held sink.old) (K.held sink.new) (K.faults sink.old)
+        (K.faults sink.new) }
     ensures unfailed { result.status ≢ sink_failed → K.faults sink.new ≡ K.faults sink.old }
 {
     let status = match write_all(sink, text) {

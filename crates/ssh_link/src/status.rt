@@ -28,5 +28,6 @@ pub const WANT_OF_MEMORY: u8 = 6;
 pub fn exit_statuses()
     ensures run { (REPORT_WRITTEN ≡ report_written) × (RUN_REFUSED ≡ run_refused) }
     ensures words { (NO_COMMAND ≡ no_command) × (SCRIPT_FAULTY ≡ script_faulty) }
-    ensures outside { (SOURCE_FAILED ≡ source_failed) × (SINK_FAILED ≡ sink_failed) × (WANT_OF_MEMORY ≡ want_of_memory) }
+    ensures outside { (SOURCE_FAILED ≡ source_failed) × (SINK_FAILED ≡ sink_failed)
+        × (WANT_OF_MEMORY ≡ want_of_memory) }
 {}

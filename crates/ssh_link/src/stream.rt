@@ -47,7 +47,8 @@ impl From<AllocError> for ReadError {
 /// Reads to the end, or until 67108865 bytes came. After an error the bytes that were taken are gone.
 pub fn read_source<S: Source>(alloc: Global, source: &mut S) -> Result<Vec<u8>, ReadError>
     ensures text { IfOk result (λ text. TakesFront text.items (S.left source.old) (S.left source.new)) }
-    ensures whole { IfOk result (λ text. vec_len text < longest_script + 1 → ReachesEnd (S.left source.old) (S.left source.new)) }
+    ensures whole { IfOk result (λ text. vec_len text < longest_script + 1 → ReachesEnd (S.left source.old)
+        (S.left source.new)) }
     ensures limit { IfOk result (λ text. vec_len text ≤ longest_script + 1) }
     ensures bounded { TakesAtMost (longest_script + 1) (S.left source.old) (S.left source.new) }
     ensures failed { IfErr result (λ e. e ≡ ReadFailed → Rose (S.faults source.old) (S.faults source.new)) }
@@ -77,9 +78,11 @@ fn read_piece<S: Source>(
     buffer: &mut [u8],
     text: &mut Vec<u8>,
 ) -> Result<usize, ReadError>
-    ensures more { IfOk result (λ n. (piece : List ℕ) × (length piece ≡ n) × (text.new.items ≡ text.old.items ++ piece) × TakesFront piece (S.left source.old) (S.left source.new)) }
+    ensures more { IfOk result (λ n. (piece : List ℕ) × (length piece ≡ n) × (text.new.items ≡ text.old.items ++ piece)
+        × TakesFront piece (S.left source.old) (S.left source.new)) }
     ensures within { IfOk result (λ n. n ≤ length buffer.old) }
-    ensures end { IfOk result (λ n. n ≡ 0 → 0 < length buffer.old → ReachesEnd (S.left source.old) (S.left source.new)) }
+    ensures end { IfOk result (λ n. n ≡ 0 → 0 < length buffer.old → ReachesEnd (S.left source.old)
+        (S.left source.new)) }
     ensures bounded { TakesAtMost (length buffer.old) (S.left source.old) (S.left source.new) }
     ensures failed { IfErr result (λ e. e ≡ ReadFailed → Rose (S.faults source.old) (S.faults source.new)) }
     ensures unfailed { result ≢ Err ReadFailed → S.faults source.new ≡ S.faults source.old }

@@ -71,8 +71,10 @@ pub const ALL_MAC_ALGORITHMS: [Name; 7] = [
 pub fn mac_names()
     ensures none { NONE ≡ Name.NoMac }
     ensures plain { (HMAC_SHA1 ≡ Name.HmacSha1) × (HMAC_SHA256 ≡ Name.HmacSha256) × (HMAC_SHA512 ≡ Name.HmacSha512) }
-    ensures etm { (HMAC_SHA1_ETM ≡ Name.HmacSha1Etm) × (HMAC_SHA256_ETM ≡ Name.HmacSha256Etm) × (HMAC_SHA512_ETM ≡ Name.HmacSha512Etm) }
-    ensures all { ALL_MAC_ALGORITHMS ≡ Name.NoMac ∷ Name.HmacSha1 ∷ Name.HmacSha256 ∷ Name.HmacSha512 ∷ Name.HmacSha1Etm ∷ Name.HmacSha256Etm ∷ Name.HmacSha512Etm ∷ [] }
+    ensures etm { (HMAC_SHA1_ETM ≡ Name.HmacSha1Etm) × (HMAC_SHA256_ETM ≡ Name.HmacSha256Etm)
+        × (HMAC_SHA512_ETM ≡ Name.HmacSha512Etm) }
+    ensures all { ALL_MAC_ALGORITHMS ≡ Name.NoMac ∷ Name.HmacSha1 ∷ Name.HmacSha256 ∷ Name.HmacSha512 ∷ Name.HmacSha1Etm
+        ∷ Name.HmacSha256Etm ∷ Name.HmacSha512Etm ∷ [] }
 {}
 
 impl Name {

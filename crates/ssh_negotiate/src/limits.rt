@@ -62,7 +62,8 @@ fn are_client_hosts_listed(certificates: &[Algorithm], keys: &[Algorithm]) -> bo
 /// Whether a server's list of host keys can be advertised.
 #[tactic(auto, unfolding(crate::specs::Advertised::certificate_names))]
 fn are_server_hosts_listed(preferred: &[Algorithm], hosts: &ServerKeys) -> bool
-    ensures { IsTrue result ↔ IsListed (map certificate_name (certificate_names preferred.now hosts.now.certificates hosts.now.keys)
+    ensures { IsTrue result ↔ IsListed (map certificate_name (certificate_names preferred.now hosts.now.certificates
+        hosts.now.keys)
         ++ map algorithm_name (filter (some_fits hosts.now.keys) preferred.now)) }
 {
     let mut told = Told::nothing();

@@ -148,7 +148,8 @@ pub(crate) fn advertised_hosts(
     keys: Option<&[HostKey]>,
     certificates: Option<&[HostCertificate]>,
 ) -> Result<Vec<HostName>, Error>
-    ensures ok { IfOk result (λ v. v.items ≡ host_names side pref.now (slice_list keys.entry) (slice_list certificates.entry)) }
+    ensures ok { IfOk result (λ v. v.items ≡ host_names side pref.now (slice_list keys.entry)
+        (slice_list certificates.entry)) }
     ensures err { IfErr result (λ e. e ≡ Memory) }
 {
     match side {
@@ -168,7 +169,8 @@ fn server_hosts(
     keys: Option<&[HostKey]>,
     certificates: Option<&[HostCertificate]>,
 ) -> Result<Vec<HostName>, Error>
-    ensures ok { IfOk result (λ v. v.items ≡ map Certificate (held_certificates pref.now.key (slice_list keys.entry) (slice_list certificates.entry)) ++ map Plain (key_names pref.now.key (slice_list keys.entry))) }
+    ensures ok { IfOk result (λ v. v.items ≡ map Certificate (held_certificates pref.now.key (slice_list keys.entry)
+        (slice_list certificates.entry)) ++ map Plain (key_names pref.now.key (slice_list keys.entry))) }
     ensures err { IfErr result (λ e. e ≡ Memory) }
 {
     let Some(keys) = keys else {
@@ -205,7 +207,8 @@ fn fitting_list(
     preferred: &[Algorithm],
     keys: &[HostKey],
 ) -> Result<Vec<HostName>, AllocError>
-    ensures { IfOk result (λ v. v.items ≡ map Certificate certificates.now ++ map Plain (filter (some_fits keys.now) preferred.now)) }
+    ensures { IfOk result (λ v. v.items ≡ map Certificate certificates.now ++ map Plain
+        (filter (some_fits keys.now) preferred.now)) }
 {
     certificates
         .iter()

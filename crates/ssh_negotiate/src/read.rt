@@ -36,7 +36,8 @@ pub(crate) fn names_of_kexinit(
     certificates: Option<&[HostCertificate]>,
     still_strict: bool,
 ) -> Result<Names, Error>
-    ensures { AnswersReading (names_read side (offers_with side pref.now (slice_list keys.entry) (slice_list certificates.entry)) still_strict payload.now) result }
+    ensures { AnswersReading (names_read side (offers_with side pref.now (slice_list keys.entry)
+        (slice_list certificates.entry)) still_strict payload.now) result }
 {
     if payload.len() < FRONT_LEN {
         return Err(Error::Inconsistent);
@@ -61,7 +62,8 @@ fn names_of_fields(
     still_strict: bool,
     bytes: &[u8],
 ) -> Result<Names, Error>
-    ensures { AnswersReading (read_fields side (with_lists pref.now (filter (λ n. not (is_foreign side n)) pref.now.kex) hosts.now) still_strict bytes.now) result }
+    ensures { AnswersReading (read_fields side (with_lists pref.now (filter (λ n. not (is_foreign side n)) pref.now.kex)
+        hosts.now) still_strict bytes.now) result }
 {
     let mut reader = Reader::new(bytes);
     let peer = NameList::decode(alloc, &mut reader)?;
@@ -77,7 +79,8 @@ fn kex_of(
     kex: &[kex::Name],
     peer: NameList,
 ) -> Result<(bool, kex::Name), Error>
-    ensures { AnswersReading (select kex_text side Kex (without_extensions (filter (λ n. not (is_foreign side n)) kex.now)) (compared_kex peer.0.items)) result }
+    ensures { AnswersReading (select kex_text side Kex (without_extensions
+        (filter (λ n. not (is_foreign side n)) kex.now)) (compared_kex peer.0.items)) result }
 {
     let own = comparable_kex(alloc, side, kex)?;
     choice_with(
@@ -108,14 +111,16 @@ fn is_extension_text(text: &str) -> bool
 
 /// Whether the exchange is strict: the first one was, or both sides ask for it.
 fn is_strict(side: Side, kex: &[kex::Name], peer: &[Text], still_strict: bool) -> bool
-    ensures { result ≡ (still_strict || (asks (filter (λ n. not (is_foreign side n)) kex.now) (strict_name side) && list_any (bytes_eq (kex_text (strict_name (other_side side)))) peer.now)) }
+    ensures { result ≡ (still_strict || (asks (filter (λ n. not (is_foreign side n)) kex.now) (strict_name side) &&
+        list_any (bytes_eq (kex_text (strict_name (other_side side)))) peer.now)) }
 {
     still_strict || are_both_strict(side, kex, peer)
 }
 
 /// Whether both sides ask for strict key exchange.
 fn are_both_strict(side: Side, kex: &[kex::Name], peer: &[Text]) -> bool
-    ensures { result ≡ (asks (filter (λ n. not (is_foreign side n)) kex.now) (strict_name side) && list_any (bytes_eq (kex_text (strict_name (other_side side)))) peer.now) }
+    ensures { result ≡ (asks (filter (λ n. not (is_foreign side n)) kex.now) (strict_name side) && list_any
+        (bytes_eq (kex_text (strict_name (other_side side)))) peer.now) }
 {
     asks_for(side, kex, strict_name(side)) && holds(peer, strict_name(side.other()).as_str())
 }

@@ -23,8 +23,8 @@ const NAME_LIMIT: usize = 1024;
 /// How many bytes a list may have as text.
 const NAME_LIST_LIMIT: usize = 16384;
 
-/// How many names a list has so far, and how many bytes they have with a comma behind each. Both stop at one more than may
-/// be advertised.
+/// How many names a list has so far, and how many bytes they have with a comma behind each. Both stop at one more than
+/// may be advertised.
 #[derive(Clone, Copy, Drop)]
 pub(crate) struct Told {
     names: usize,
@@ -108,7 +108,9 @@ impl Told {
         certificates: &[HostCertificate],
         keys: &[HostKey],
     )
-        ensures { Tells self.old [] → Tells self.new (map certificate_name (each_once (flat_map (λ (c : HostCertificate). filter (fits c.algorithm) preferred.now) (filter (has_key keys.now) certificates.now)))) }
+        ensures { Tells self.old [] → Tells self.new (map certificate_name
+            (each_once (flat_map (λ (c : HostCertificate). filter (fits c.algorithm) preferred.now)
+            (filter (has_key keys.now) certificates.now)))) }
     {
         let mut seen = Seen::nothing();
         for certificate in certificates {

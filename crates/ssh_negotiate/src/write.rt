@@ -36,15 +36,20 @@ pub fn write_kex<R: Rng>(
     server_config: Option<&ServerKeys>,
 ) -> Result<Bytes, Error>
     requires { AreShort (offered_by prefs.now (option_copied server_config)) }
-    ensures answer { IfOk result (λ b. b ≡ kexinit_drawn prefs.now (option_copied server_config.entry) (R.stream rng.old)) }
-    ensures sent { OnOk result (Sends writer.old (kexinit_drawn prefs.now (option_copied server_config.entry) (R.stream rng.old))
+    ensures answer { IfOk result (λ b. b ≡ kexinit_drawn prefs.now (option_copied server_config.entry)
+        (R.stream rng.old)) }
+    ensures sent { OnOk result (Sends writer.old (kexinit_drawn prefs.now (option_copied server_config.entry)
+        (R.stream rng.old))
         (behind_cookie (R.stream rng.old)) writer.new) }
     ensures stream { OnOk result (R.stream rng.new ≡ stream_after writer.old.sealing
-        (kexinit_drawn prefs.now (option_copied server_config.entry) (R.stream rng.old)) (behind_cookie (R.stream rng.old))) }
+        (kexinit_drawn prefs.now (option_copied server_config.entry) (R.stream rng.old))
+        (behind_cookie (R.stream rng.old))) }
     ensures admissible { OnOk result (IsAdmissible writer.old.sealing (item_of writer.old.sealing
-        (kexinit_drawn prefs.now (option_copied server_config.entry) (R.stream rng.old)) (behind_cookie (R.stream rng.old)))) }
+        (kexinit_drawn prefs.now (option_copied server_config.entry) (R.stream rng.old))
+        (behind_cookie (R.stream rng.old)))) }
     ensures padded { OnOk result (IsPadded writer.old.sealing (item_of writer.old.sealing
-        (kexinit_drawn prefs.now (option_copied server_config.entry) (R.stream rng.old)) (behind_cookie (R.stream rng.old)))) }
+        (kexinit_drawn prefs.now (option_copied server_config.entry) (R.stream rng.old))
+        (behind_cookie (R.stream rng.old)))) }
     ensures cookie { OnOk result (length (cookie_from (R.stream rng.old)) ≡ 16) }
     ensures bytes { OnOk result (AreBytes (cookie_from (R.stream rng.old))) }
     ensures unchanged { OnErr result (SameButRoom writer.old writer.new) }
@@ -69,8 +74,10 @@ fn send_payload<R: Rng>(
     ensures answer { IfOk result (λ b. b ≡ payload.items) }
     ensures sent { OnOk result (Sends writer.old payload.items (R.stream rng.old) writer.new) }
     ensures stream { OnOk result (R.stream rng.new ≡ stream_after writer.old.sealing payload.items (R.stream rng.old)) }
-    ensures admissible { OnOk result (IsAdmissible writer.old.sealing (item_of writer.old.sealing payload.items (R.stream rng.old))) }
-    ensures padded { OnOk result (IsPadded writer.old.sealing (item_of writer.old.sealing payload.items (R.stream rng.old))) }
+    ensures admissible { OnOk result (IsAdmissible writer.old.sealing
+        (item_of writer.old.sealing payload.items (R.stream rng.old))) }
+    ensures padded { OnOk result (IsPadded writer.old.sealing (item_of writer.old.sealing payload.items
+        (R.stream rng.old))) }
     ensures unchanged { OnErr result (SameButRoom writer.old writer.new) }
     ensures err { IfErr result (λ e. e ≡ Memory) }
 {
@@ -107,7 +114,8 @@ fn kexinit_payload(
 /// Appends a list of names once for each direction. After an error the bytes may have grown.
 fn put_twice<A: AsName>(alloc: Global, out: &mut Vec<u8>, names: &[A]) -> Result<(), Error>
     requires { length (joined_names (map A.text names.now)) ≤ name_list_limit }
-    ensures ok { OnOk result (out.new.items ≡ (out.old.items ++ name_list (map A.text names.now)) ++ name_list (map A.text names.now)) }
+    ensures ok { OnOk result (out.new.items ≡ (out.old.items ++ name_list (map A.text names.now)) ++ name_list
+        (map A.text names.now)) }
     ensures err { IfErr result (λ e. e ≡ Memory) }
 {
     put_list(alloc, out, names)?;

@@ -120,7 +120,8 @@ pub(crate) fn open_behind<K: OpeningKey>(
     start: usize,
 ) -> Result<Option<Part>, OpenError>
     requires { start ≤ vec_len bytes.old }
-    ensures opens { Opens (K.opening key.old) number (drop start bytes.old.items) (drop start bytes.new.items) result (K.opening key.new) }
+    ensures opens { Opens (K.opening key.old) number (drop start bytes.old.items) (drop start bytes.new.items) result
+        (K.opening key.new) }
     ensures size { vec_len bytes.new ≡ vec_len bytes.old }
     ensures capacity { vec_capacity bytes.new ≡ vec_capacity bytes.old }
     ensures bytes { AreBytes (drop start bytes.old.items) }

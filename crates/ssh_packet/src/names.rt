@@ -18,7 +18,8 @@ pub fn cipher_names()
     ensures gcm { (AES_128_GCM ≡ Aes128Gcm) × (AES_256_GCM ≡ Aes256Gcm) }
     ensures cbc { (AES_128_CBC ≡ Aes128Cbc) × (AES_192_CBC ≡ Aes192Cbc) × (AES_256_CBC ≡ Aes256Cbc) }
     ensures all { ALL_CIPHERS
-        ≡ Clear ∷ NoCipher ∷ Aes128Ctr ∷ Aes192Ctr ∷ Aes256Ctr ∷ Aes128Gcm ∷ Aes256Gcm ∷ Aes128Cbc ∷ Aes192Cbc ∷ Aes256Cbc ∷ [] }
+        ≡ Clear ∷ NoCipher ∷ Aes128Ctr ∷ Aes192Ctr ∷ Aes256Ctr ∷ Aes128Gcm ∷ Aes256Gcm ∷ Aes128Cbc ∷ Aes192Cbc
+        ∷ Aes256Cbc ∷ [] }
 {}
 
 /// The names of compressions.

@@ -66,17 +66,35 @@ impl PacketReader {
     ghost use Rattle.ssh_packet.specs.Lending.{LendsNext};
     ghost use Rattle.ssh_packet.specs.Reading.{window_length, room_in};
 
-    /// A reader that has read nothing, before packet 0. It has no window: it is pushed what was received, and takes nothing.
+    /// A reader that has read nothing, before packet 0. It has no window: it is pushed what was received, and takes
+    /// nothing.
     pub fn new(alloc: Global) -> PacketReader
-        ensures { result ≡ record { waiting = []; number = 0; count = 0; failed = false; handed = []; window = 0; spent = 0 } }
+        ensures { result ≡ record {
+          waiting = [];
+          number = 0;
+          count = 0;
+          failed = false;
+          handed = [];
+          window = 0;
+          spent
+              = 0;
+        } }
     {
         PacketReader::over(Vec::new(alloc), 0)
     }
 
-    /// A reader that has read nothing, before packet 0, with a window of 262245 bytes: what the longest packet takes with
-    /// its packet length of 4 bytes and the longest tag, of 64. Room for twice as many is made. Memory.
+    /// A reader that has read nothing, before packet 0, with a window of 262245 bytes: what the longest packet takes
+    /// with its packet length of 4 bytes and the longest tag, of 64. Room for twice as many is made. Memory.
     pub fn with_window(alloc: Global) -> Result<PacketReader, Error>
-        ensures made { IfOk result (λ r. r ≡ record { waiting = []; number = 0; count = 0; failed = false; handed = []; window = window_length; spent = 0 }) }
+        ensures made { IfOk result (λ r. r ≡ record {
+          waiting = [];
+          number = 0;
+          count = 0;
+          failed = false;
+          handed = [];
+          window = window_length;
+          spent = 0;
+        }) }
         ensures err { IfErr result (λ e. e ≡ Memory) }
     {
         Ok(PacketReader::over(Vec::with_capacity(alloc, WINDOW + WINDOW)?, WINDOW))
@@ -86,7 +104,15 @@ impl PacketReader {
     fn over(bytes: Vec<u8>, window: usize) -> PacketReader
         requires empty { vec_len bytes ≡ 0 }
         requires room { window + window ≤ vec_capacity bytes }
-        ensures { result ≡ record { waiting = []; number = 0; count = 0; failed = false; handed = []; window = window; spent = 0 } }
+        ensures { result ≡ record {
+          waiting = [];
+          number = 0;
+          count = 0;
+          failed = false;
+          handed = [];
+          window = window;
+          spent = 0;
+        } }
     {
         PacketReader {
             bytes,
@@ -107,9 +133,9 @@ impl PacketReader {
         self.window
     }
 
-    /// Appends a piece of what was received. Memory leaves the reader as it was, but lends no payload any more. Bytes that
-    /// were handed out are given back once they are as many as those that wait, so that at most twice what waited is kept
-    /// beside the piece.
+    /// Appends a piece of what was received. Memory leaves the reader as it was, but lends no payload any more. Bytes
+    /// that were handed out are given back once they are as many as those that wait, so that at most twice what waited
+    /// is kept beside the piece.
     pub fn push(&mut self, piece: &[u8]) -> Result<(), Error>
         ensures ok { OnOk result (self.new
             ≡ record self.old { waiting = self.old.waiting ++ piece.now; handed = []; spent = self.new.spent }) }
@@ -122,11 +148,15 @@ impl PacketReader {
         Ok(())
     }
 
-    /// Appends the first bytes of a piece of what was received, as many as the window has room for: none where as many as
-    /// the window wait already. How many they are. It takes no memory.
+    /// Appends the first bytes of a piece of what was received, as many as the window has room for: none where as many
+    /// as the window wait already. How many they are. It takes no memory.
     pub fn take(&mut self, piece: &[u8]) -> usize
         ensures count { result ≡ room_in self.old (length piece.now) }
-        ensures taken { self.new ≡ record self.old { waiting = self.old.waiting ++ take result piece.now; handed = []; spent = self.new.spent } }
+        ensures taken { self.new ≡ record self.old {
+          waiting = self.old.waiting ++ take result piece.now;
+          handed = [];
+          spent = self.new.spent;
+        } }
         ensures spent { self.new.spent ≤ length self.old.waiting }
     {
         let n = piece.len().min(self.window.saturating_sub(self.waiting()));
@@ -135,8 +165,8 @@ impl PacketReader {
         n
     }
 
-    /// Gives back the bytes that were handed out, once they are as many as those that wait: so no byte is moved but for one
-    /// that was handed out. Room for the window is left behind those that wait.
+    /// Gives back the bytes that were handed out, once they are as many as those that wait: so no byte is moved but for
+    /// one that was handed out. Room for the window is left behind those that wait.
     fn give_back(&mut self)
         ensures same { self.new ≡ record self.old { handed = []; spent = self.new.spent } }
         ensures spent { self.new.spent ≤ length self.old.waiting }
@@ -159,7 +189,12 @@ impl PacketReader {
     /// Drops the first n of the bytes that wait; n is at most `waiting`. It takes no memory.
     pub fn skip(&mut self, n: usize)
         requires { n ≤ length self.old.waiting }
-        ensures { self.new ≡ record self.old { waiting = drop n self.old.waiting; handed = []; spent = self.old.spent + n } }
+        ensures { self.new ≡ record self.old {
+          waiting = drop n self.old.waiting;
+          handed = [];
+          spent = self.old.spent
+              + n;
+        } }
     {
         self.start += n;
         self.handed_len = 0;

@@ -69,20 +69,25 @@ pub(crate) fn seal_behind<K: SealingKey, R: Rng>(
     requires room { start + head_length ≤ vec_len out.old }
     requires short { vec_len out.old ≤ start + head_length + longest_payload }
     ensures ok { OnOk result (out.new.items ≡ take start out.old.items
-        ++ sealed_packet (K.sealing key.old) seqn (item_of (K.sealing key.old) (drop (start + head_length) out.old.items) (R.stream rng.old))) }
+        ++ sealed_packet (K.sealing key.old) seqn (item_of (K.sealing key.old)
+        (drop (start + head_length) out.old.items) (R.stream rng.old))) }
     ensures moved { OnOk result (K.sealing key.new
-        ≡ moved_on (K.sealing key.old) (item_of (K.sealing key.old) (drop (start + head_length) out.old.items) (R.stream rng.old))) }
+        ≡ moved_on (K.sealing key.old) (item_of (K.sealing key.old) (drop (start + head_length) out.old.items)
+        (R.stream rng.old))) }
     ensures stream { OnOk result (R.stream rng.new
         ≡ (padding_of_payload (K.sealing key.old) (vec_len out.old - (start + head_length)) (R.stream rng.old)).1) }
     ensures admissible { OnOk result (start + head_length < vec_len out.old
-        → IsAdmissible (K.sealing key.old) (item_of (K.sealing key.old) (drop (start + head_length) out.old.items) (R.stream rng.old))) }
+        → IsAdmissible (K.sealing key.old) (item_of (K.sealing key.old) (drop (start + head_length) out.old.items)
+        (R.stream rng.old))) }
     ensures padded { OnOk result (start + head_length < vec_len out.old
-        → IsPadded (K.sealing key.old) (item_of (K.sealing key.old) (drop (start + head_length) out.old.items) (R.stream rng.old))) }
+        → IsPadded (K.sealing key.old) (item_of (K.sealing key.old) (drop (start + head_length) out.old.items)
+        (R.stream rng.old))) }
     ensures unchanged { OnErr result (out.new.items ≡ out.old.items) }
     ensures key { OnErr result (key.new ≡ key.old) }
     ensures undrawn { OnErr result (rng.new ≡ rng.old) }
     ensures err { IfErr result (λ e. e ≡ Memory) }
-    ensures ready { vec_len out.old + longest_padding + tag_size (K.sealing key.old) ≤ vec_capacity out.old → IsOk result }
+    ensures ready { vec_len out.old + longest_padding + tag_size (K.sealing key.old) ≤ vec_capacity out.old → IsOk
+        result }
     ensures capacity { vec_capacity out.old ≤ vec_capacity out.new }
 {
     let end = out.len();

@@ -194,7 +194,8 @@ impl PacketWriter {
     fn seal_payload<R: Rng>(&mut self, rng: &mut R, start: usize) -> Result<(), Error>
         requires room { start + head_length < length self.old.output }
         requires short { length self.old.output ≤ start + head_length + longest_payload }
-        ensures seals { Seals (record self.old { output = take start self.old.output }) (drop (start + head_length) self.old.output)
+        ensures seals { Seals (record self.old { output = take start self.old.output })
+            (drop (start + head_length) self.old.output)
             (R.stream rng.old) (R.stream rng.new) result self.new }
         ensures ready { longest_padding + tag_size self.old.sealing ≤ self.old.room → IsOk result }
         ensures spare { self.old.room + length self.old.output ≤ self.new.room + length self.new.output }
@@ -312,7 +313,8 @@ fn append_behind_room(out: &mut Vec<u8>, payload: &[u8], tag_len: usize) -> Resu
     ensures ok { OnOk result (out.new.items ≡ (out.old.items ++ head_room) ++ payload.now) }
     ensures unchanged { OnErr result (out.new.items ≡ out.old.items) }
     ensures err { IfErr result (λ e. e ≡ Memory) }
-    ensures ready { vec_len out.old + head_length + length payload.now + longest_padding + tag_len ≤ vec_capacity out.old → IsOk result }
+    ensures ready { vec_len out.old + head_length + length payload.now + longest_padding + tag_len ≤ vec_capacity
+        out.old → IsOk result }
     ensures room { OnOk result (vec_len out.new + longest_padding + tag_len ≤ vec_capacity out.new) }
     ensures capacity { vec_capacity out.old ≤ vec_capacity out.new }
 {

@@ -108,8 +108,8 @@ pub fn any_refusals<A: Agreement, H: HostKeys, G: GroupLookup>()
         ⟦<(A, H, G) as Spoken>⟧.rises }
 {}
 
-/// What a side of an attacked run delivers is told by the bytes that it was fed and the exchanges that it recorded, however
-/// the bytes are cut, where no packet that it could open was refused.
+/// What a side of an attacked run delivers is told by the bytes that it was fed and the exchanges that it recorded,
+/// however the bytes are cut, where no packet that it could open was refused.
 pub fn same_delivered<A: Agreement, H: HostKeys>()
     ensures { SameDelivered A.lawful A.agrees H.accepts H.trusts }
 {}

@@ -37,8 +37,8 @@ impl Draws {
     }
 }
 
-/// A script of `count` turns and a settle, drawn from the seed. In each turn a side submits a payload of 1 to 1000 bytes,
-/// now and then it rekeys, and a side takes up to 4095 bytes. Memory.
+/// A script of `count` turns and a settle, drawn from the seed. In each turn a side submits a payload of 1 to 1000
+/// bytes, now and then it rekeys, and a side takes up to 4095 bytes. Memory.
 pub fn generated_script(alloc: Global, seed: u64, count: u64) -> Result<Script, Error>
     ensures ok { IfOk result (λ script. script ≡ generated_plan seed count) }
     ensures err { IfErr result (λ e. e ≡ Memory) }

@@ -26,14 +26,16 @@ impl GivenBlobs {
     /// Takes one up. False where it was given before. Memory.
     pub(crate) fn add(&mut self, alloc: Global, blob: &[u8]) -> Result<bool, AllocError>
         ensures added { IfOk result (λ added. added ≡ not (is_given self.old blob.now)) }
-        ensures given { OnOk result ((other : List ℕ) → is_given self.new other ≡ (bytes_eq blob.now other || is_given self.old other)) }
+        ensures given { OnOk result ((other : List ℕ) → is_given self.new other
+            ≡ (bytes_eq blob.now other || is_given self.old other)) }
     {
         self.insert(copied(alloc, blob)?)
     }
 
     fn insert(&mut self, blob: Vec<u8>) -> Result<bool, AllocError>
         ensures added { IfOk result (λ added. added ≡ not (is_given self.old blob.items)) }
-        ensures given { OnOk result ((other : List ℕ) → is_given self.new other ≡ (bytes_eq blob.items other || is_given self.old other)) }
+        ensures given { OnOk result ((other : List ℕ) → is_given self.new other
+            ≡ (bytes_eq blob.items other || is_given self.old other)) }
     {
         Ok(self.blobs.insert(blob)?)
     }

@@ -32,8 +32,8 @@ pub fn print_report(alloc: Global, report: &LinkReport) -> Result<Vec<u8>, Error
     Ok(text)
 }
 
-/// The report's text of a run in which both sides were fed any bytes: what both did, as of `print_report`, and then what each
-/// step was answered, counted from 1. Memory where there is no room for it.
+/// The report's text of a run in which both sides were fed any bytes: what both did, as of `print_report`, and then
+/// what each step was answered, counted from 1. Memory where there is no room for it.
 pub fn print_attack(alloc: Global, report: &AttackReport) -> Result<Vec<u8>, Error>
     ensures text { IfOk result (λ text. text.items ≡ attack_report_text report.now) }
     ensures err { IfErr result (λ e. e ≡ Memory) }

@@ -33,15 +33,16 @@ const SETTLE: &[u8] = b"settle";
 
 const SET: &[u8] = b"set";
 
-/// Reads a script of the command `attack` where `attacked` is true, else of the command `run`, in one pass over the text.
+/// Reads a script of the command `attack` where `attacked` is true, else of the command `run`, in one pass over the
+/// text.
 ///
-/// Its lines are cut as those of `parse_clear`. Both commands have `submit SIDE HEX` and `rekey SIDE`, and before all steps
-/// the `set` lines of the configurations, seeds and refused calls. `run` has `deliver SIDE N` and `settle` too, and
-/// `attack` has `feed SIDE HEX`.
+/// Its lines are cut as those of `parse_clear`. Both commands have `submit SIDE HEX` and `rekey SIDE`, and before all
+/// steps the `set` lines of the configurations, seeds and refused calls. `run` has `deliver SIDE N` and `settle` too,
+/// and `attack` has `feed SIDE HEX`.
 ///
-/// Fault names the first line that is none of the command's, counted from 1: NotBuilt where its first word is none of the
-/// forms', Malformed where the words behind it are wrong, where it sets something behind a step, or where it gives a
-/// blob again. A text over 67108864 bytes is TooLong, with the line 0. Memory where an allocation failed.
+/// Fault names the first line that is none of the command's, counted from 1: NotBuilt where its first word is none of
+/// the forms', Malformed where the words behind it are wrong, where it sets something behind a step, or where it gives
+/// a blob again. A text over 67108864 bytes is TooLong, with the line 0. Memory where an allocation failed.
 pub fn parse_script(alloc: Global, attacked: bool, text: &[u8]) -> Result<Script, ScriptError>
     ensures read { IfOk result (λ script. link_script attacked text.now ≡ Ok script) }
     ensures small { IfOk result HasSmallGroups }

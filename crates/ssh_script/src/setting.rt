@@ -366,8 +366,10 @@ fn add_certificate(
 ) -> Result<(), LineFault>
     requires { AreBlobsOf host.old given.old }
     ensures given { OnOk result (AreBlobsOf host.new given.new) }
-    ensures ok { OnOk result (with_certificate host.old (from_three host_certificate algorithm_of hex_of hex_of words.entry) ≡ Some host.new) }
-    ensures fault { IfErr result (AreWrong (with_certificate host.old (from_three host_certificate algorithm_of hex_of hex_of words.entry))) }
+    ensures ok { OnOk result (with_certificate host.old (from_three host_certificate algorithm_of hex_of hex_of
+        words.entry) ≡ Some host.new) }
+    ensures fault { IfErr result (AreWrong (with_certificate host.old
+        (from_three host_certificate algorithm_of hex_of hex_of words.entry))) }
 {
     let certificate = certificate_in(alloc, words)?;
     if !given.add(alloc, certificate.blob.as_slice())? {
@@ -378,7 +380,8 @@ fn add_certificate(
 }
 
 fn certificate_in(alloc: Global, mut words: Words) -> Result<HostCertificate, LineFault>
-    ensures ok { IfOk result (λ certificate. from_three host_certificate algorithm_of hex_of hex_of words.entry ≡ Some certificate) }
+    ensures ok { IfOk result (λ certificate. from_three host_certificate algorithm_of hex_of hex_of words.entry ≡ Some
+        certificate) }
     ensures fault { IfErr result (AreWrong (from_three host_certificate algorithm_of hex_of hex_of words.entry)) }
 {
     let (Some(algorithm_word), Some(blob_word), Some(key_word), None) = (

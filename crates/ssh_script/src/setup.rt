@@ -43,7 +43,12 @@ impl Model for Script {
 
     ghost Value = { Plan };
 
-    ghost view = { λ s. record { client = s.client; server = s.server; steps = s.steps.items; attack = s.attack.items } };
+    ghost view = { λ s. record {
+      client = s.client;
+      server = s.server;
+      steps = s.steps.items;
+      attack = s.attack.items;
+    } };
 }
 
 /// The blob of the server's host key where a script names none.

@@ -10,9 +10,9 @@ use ssh_rules::link::{LinkReport, SideReport};
 use ssh_wire::{Error, Payload, Side, put_u8};
 use std::alloc::Global;
 
-/// The summary's text: how many steps there were, and for the client and then for the server how many bytes it sent, how
-/// many exchanges it finished, how many payloads were delivered to it, and how many bytes these have. Memory where there
-/// is no room for it.
+/// The summary's text: how many steps there were, and for the client and then for the server how many bytes it sent,
+/// how many exchanges it finished, how many payloads were delivered to it, and how many bytes these have. Memory where
+/// there is no room for it.
 pub fn print_summary(alloc: Global, report: &LinkReport) -> Result<Vec<u8>, Error>
     ensures text { IfOk result (λ text. text.items ≡ summary_text report.now) }
     ensures err { IfErr result (λ e. e ≡ Memory) }

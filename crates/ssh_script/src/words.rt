@@ -9,7 +9,8 @@ use std::marker::Model;
 
 /// The bytes before the first separator, and those behind it where one stands in the text.
 pub(crate) fn cut(text: &[u8], separator: u8) -> (&[u8], Option<&[u8]>)
-    ensures pieces { MatchOption result.1 (pieces separator text.now ≡ result.0.now ∷ []) (λ rest. pieces separator text.now ≡ result.0.now ∷ pieces separator rest.now) }
+    ensures pieces { MatchOption result.1 (pieces separator text.now ≡ result.0.now ∷ [])
+        (λ rest. pieces separator text.now ≡ result.0.now ∷ pieces separator rest.now) }
     ensures shorter { IfSome result.1 (λ rest. length rest.now < length text.now) }
 {
     for (i, b) in text.iter().enumerate() {
@@ -22,7 +23,8 @@ pub(crate) fn cut(text: &[u8], separator: u8) -> (&[u8], Option<&[u8]>)
 
 /// The first word of a text, and what stands behind it. Words stand between spaces.
 fn cut_word(text: &[u8]) -> Option<(&[u8], &[u8])>
-    ensures words { MatchOption result (words_in text.now ≡ []) (λ found. words_in text.now ≡ found.0.now ∷ words_in found.1.now) }
+    ensures words { MatchOption result (words_in text.now ≡ [])
+        (λ found. words_in text.now ≡ found.0.now ∷ words_in found.1.now) }
     ensures filled { IfSome result (λ found. is_filled found.0.now ≡ true) }
 {
     let mut rest = text;

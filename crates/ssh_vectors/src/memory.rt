@@ -116,7 +116,13 @@ impl MemorySink {
     /// A sink with room for so many bytes, whose memory is taken now. The calls with these numbers,
     /// counted from 1, fail. Memory where there is none.
     pub fn new(alloc: Global, fails: Vec<u64>, room: usize) -> Result<MemorySink, Error>
-        ensures made { IfOk result (λ sink. sink ≡ record { held = []; room = room; fails = fails.items; calls = 0; faults = 0 }) }
+        ensures made { IfOk result (λ sink. sink ≡ record {
+          held = [];
+          room = room;
+          fails = fails.items;
+          calls = 0;
+          faults = 0;
+        }) }
         ensures err { IfErr result (λ e. e ≡ Memory) }
     {
         let memory = vec![in alloc; 0; room]?;

@@ -46,7 +46,8 @@ impl ChannelId {
     pub fn decode(r: &mut Reader<'_>) -> Result<ChannelId, Error>
         ensures exact { TakesForm (λ c. c) (u32_at r.old) r.old result r.new }
         ensures spelled { IfOk result (λ c. r.old ≡ u32be c ++ r.new) }
-        ensures again { (n : ℕ) (rest : List ℕ) → n < 2 ^ 32 → r.old ≡ u32be n ++ rest → IsRead (λ x. x) n rest result r.new }
+        ensures again { (n : ℕ) (rest : List ℕ) → n < 2 ^ 32 → r.old ≡ u32be n ++ rest → IsRead (λ x. x) n rest result
+            r.new }
     {
         match r.read_u32() {
             Ok(number) => Ok(ChannelId(number)),

@@ -65,8 +65,8 @@ pub fn encode_mpint(s: &[u8], out: &mut Vec<u8>) -> Result<(), Error>
     Ok(())
 }
 
-/// What stands in an `mpint` behind its length, in two pieces: the zero byte that keeps the first bit clear, where it is
-/// needed, and the number's bytes without leading zeros.
+/// What stands in an `mpint` behind its length, in two pieces: the zero byte that keeps the first bit clear, where it
+/// is needed, and the number's bytes without leading zeros.
 pub fn mpint_parts(bytes: &[u8]) -> (&'static [u8], &[u8])
     ensures body { result.0.now ++ result.1.now ≡ unsigned (magnitude bytes.now) }
     ensures digits { result.1.now ≡ magnitude bytes.now }

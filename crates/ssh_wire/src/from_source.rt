@@ -43,8 +43,10 @@ pub fn read_until_id<R: Source>(
     requires waits { waits id.old ≡ true }
     requires short { IsShort id.old }
     requires buffer { 0 < length buffer.old }
-    ensures found { IfSome (R.left source.old) (λ bytes. IfOk result (λ place. FindsId allow id.old bytes (R.left source.new) id.new (slice_range buffer.new place.0 place.1))) }
-    ensures refused { IfSome (R.left source.old) (λ bytes. IfErr result (λ e. GivesNoId allow id.old bytes (R.left source.new) e id.new)) }
+    ensures found { IfSome (R.left source.old) (λ bytes. IfOk result
+        (λ place. FindsId allow id.old bytes (R.left source.new) id.new (slice_range buffer.new place.0 place.1))) }
+    ensures refused { IfSome (R.left source.old) (λ bytes. IfErr result
+        (λ e. GivesNoId allow id.old bytes (R.left source.new) e id.new)) }
     ensures fault { CountsFault result (R.faults source.old) (R.faults source.new) }
     ensures count { R.faults source.old ≤ R.faults source.new }
     ensures stands { StandsAfter result id.new }

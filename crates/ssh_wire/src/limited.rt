@@ -32,7 +32,8 @@ impl<const N: usize> LimitedString<N> {
     pub fn decode(alloc: Global, r: &mut Reader<'_>) -> Result<Self, Error>
         ensures exact { TakesFormInMemory (λ s. s) (limited_at N r.old) r.old result r.new }
         ensures spelled { IfOk result (λ s. (r.old ≡ string s ++ r.new) × (length s ≤ N) × (is_utf8 s ≡ true)) }
-        ensures again { (s rest : List ℕ) → length s < 2 ^ 32 → length s ≤ N → is_utf8 s ≡ true → r.old ≡ string s ++ rest → IsReadInMemory (λ x. x) s rest result r.new }
+        ensures again { (s rest : List ℕ) → length s < 2 ^ 32 → length s ≤ N → is_utf8 s ≡ true → r.old ≡ string s
+            ++ rest → IsReadInMemory (λ x. x) s rest result r.new }
     {
         let (text, rest) = limited_of(N, r.rest())?;
         let text = String::from_str(alloc, text)?;

@@ -26,7 +26,12 @@ impl Limits {
         requires write_most { write_limit ≤ 2 ^ 30 }
         requires read_some { 1 ≤ read_limit }
         requires read_most { read_limit ≤ 2 ^ 30 }
-        ensures { result ≡ record { rekey_write_limit = write_limit; rekey_read_limit = read_limit; rekey_time_limit = time_limit } }
+        ensures { result ≡ record {
+          rekey_write_limit = write_limit;
+          rekey_read_limit = read_limit;
+          rekey_time_limit =
+              time_limit;
+        } }
     {
         Limits {
             rekey_write_limit: write_limit,
@@ -37,7 +42,8 @@ impl Limits {
 }
 
 impl Default for Limits {
-    ghost is_default = { λ l. (l.rekey_write_limit ≡ 2 ^ 30) × (l.rekey_read_limit ≡ 2 ^ 30) × (l.rekey_time_limit ≡ 3600) };
+    ghost is_default = { λ l. (l.rekey_write_limit ≡ 2 ^ 30) × (l.rekey_read_limit ≡ 2 ^ 30)
+        × (l.rekey_time_limit ≡ 3600) };
 
     fn default() -> Limits {
         Limits::new(MOST_BYTES, MOST_BYTES, MOST_SECONDS)

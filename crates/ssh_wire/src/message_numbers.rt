@@ -22,15 +22,18 @@ pub fn transport_numbers()
     ensures services { (SERVICE_REQUEST ≡ 5) × (SERVICE_ACCEPT ≡ 6) × (EXT_INFO ≡ 7) }
     ensures keys { (KEXINIT ≡ 20) × (NEWKEYS ≡ 21) }
     ensures exchange { (KEX_ECDH_INIT ≡ 30) × (KEX_ECDH_REPLY ≡ 31) × (KEX_HYBRID_INIT ≡ 30) × (KEX_HYBRID_REPLY ≡ 31) }
-    ensures group { (KEX_DH_GEX_REQUEST ≡ 34) × (KEX_DH_GEX_GROUP ≡ 31) × (KEX_DH_GEX_INIT ≡ 32) × (KEX_DH_GEX_REPLY ≡ 33) }
+    ensures group { (KEX_DH_GEX_REQUEST ≡ 34) × (KEX_DH_GEX_GROUP ≡ 31) × (KEX_DH_GEX_INIT ≡ 32)
+        × (KEX_DH_GEX_REPLY ≡ 33) }
 {}
 
 /// The numbers of the authentication's messages.
 pub fn authentication_numbers()
-    ensures generic { (USERAUTH_REQUEST ≡ 50) × (USERAUTH_FAILURE ≡ 51) × (USERAUTH_SUCCESS ≡ 52) × (USERAUTH_BANNER ≡ 53) }
+    ensures generic { (USERAUTH_REQUEST ≡ 50) × (USERAUTH_FAILURE ≡ 51) × (USERAUTH_SUCCESS ≡ 52)
+        × (USERAUTH_BANNER ≡ 53) }
     ensures key { (USERAUTH_PK_OK ≡ 60) × (USERAUTH_INFO_REQUEST_OR_USERAUTH_PK_OK ≡ 60) }
     ensures interactive { (USERAUTH_INFO_REQUEST ≡ 60) × (USERAUTH_INFO_RESPONSE ≡ 61) }
-    ensures tokens { (USERAUTH_GSSAPI_RESPONSE ≡ 60) × (USERAUTH_GSSAPI_TOKEN ≡ 61) × (USERAUTH_GSSAPI_EXCHANGE_COMPLETE ≡ 63) }
+    ensures tokens { (USERAUTH_GSSAPI_RESPONSE ≡ 60) × (USERAUTH_GSSAPI_TOKEN ≡ 61)
+        × (USERAUTH_GSSAPI_EXCHANGE_COMPLETE ≡ 63) }
     ensures errors { (USERAUTH_GSSAPI_ERROR ≡ 64) × (USERAUTH_GSSAPI_ERRTOK ≡ 65) × (USERAUTH_GSSAPI_MIC ≡ 66) }
 {}
 
@@ -41,5 +44,6 @@ pub fn connection_numbers()
     ensures flow { (CHANNEL_WINDOW_ADJUST ≡ 93) × (CHANNEL_DATA ≡ 94) × (CHANNEL_EXTENDED_DATA ≡ 95) }
     ensures closing { (CHANNEL_EOF ≡ 96) × (CHANNEL_CLOSE ≡ 97) }
     ensures answers { (CHANNEL_REQUEST ≡ 98) × (CHANNEL_SUCCESS ≡ 99) × (CHANNEL_FAILURE ≡ 100) }
-    ensures reasons { (SSH_OPEN_ADMINISTRATIVELY_PROHIBITED ≡ 1) × (SSH_OPEN_CONNECT_FAILED ≡ 2) × (SSH_OPEN_UNKNOWN_CHANNEL_TYPE ≡ 3) × (SSH_OPEN_RESOURCE_SHORTAGE ≡ 4) }
+    ensures reasons { (SSH_OPEN_ADMINISTRATIVELY_PROHIBITED ≡ 1) × (SSH_OPEN_CONNECT_FAILED ≡ 2)
+        × (SSH_OPEN_UNKNOWN_CHANNEL_TYPE ≡ 3) × (SSH_OPEN_RESOURCE_SHORTAGE ≡ 4) }
 {}

@@ -33,7 +33,8 @@ impl NameList {
     /// stand before it. Memory.
     pub fn from_encoded_string(alloc: Global, value: &str) -> Result<NameList, Error>
         ensures exact { Gives (λ l. l.0.items) (names_of value.now) result }
-        ensures again { (names : List (List ℕ)) → AreNames names → value.now ≡ joined_names names → IsMadeInMemory (λ l. l.0.items) names result }
+        ensures again { (names : List (List ℕ)) → AreNames names → value.now ≡ joined_names names → IsMadeInMemory
+            (λ l. l.0.items) names result }
     {
         names_of_text(alloc, value)
     }
@@ -75,7 +76,9 @@ impl NameList {
     pub fn decode(alloc: Global, r: &mut Reader<'_>) -> Result<NameList, Error>
         ensures exact { TakesFormInMemory (λ l. l.0.items) (names_at r.old) r.old result r.new }
         ensures spelled { IfOk result (λ l. Spelled l.0.items r.old r.new) }
-        ensures again { (names : List (List ℕ)) (rest : List ℕ) → AreNames names → length (joined_names names) ≤ name_list_limit → r.old ≡ name_list names ++ rest → IsReadInMemory (λ l. l.0.items) names rest result r.new }
+        ensures again { (names : List (List ℕ)) (rest : List ℕ) → AreNames names → length (joined_names names)
+            ≤ name_list_limit → r.old ≡ name_list names ++ rest → IsReadInMemory (λ l. l.0.items) names rest result
+            r.new }
     {
         let (names, rest) = names_front(alloc, r.rest())?;
         *r = Reader::new(rest);

@@ -65,7 +65,8 @@ impl<'a> Reader<'a> {
     pub fn read_u32(&mut self) -> Result<u32, Error>
         ensures exact { TakesForm (λ n. n) (u32_at self.old) self.old result self.new }
         ensures spelled { IfOk result (λ n. self.old ≡ u32be n ++ self.new) }
-        ensures again { (n : ℕ) (rest : List ℕ) → n < 2 ^ 32 → self.old ≡ u32be n ++ rest → IsRead (λ x. x) n rest result self.new }
+        ensures again { (n : ℕ) (rest : List ℕ) → n < 2 ^ 32 → self.old ≡ u32be n ++ rest → IsRead (λ x. x) n rest
+            result self.new }
     {
         let (value, rest) = u32_of(self.rest)?;
         self.rest = rest;
@@ -77,7 +78,8 @@ impl<'a> Reader<'a> {
     pub fn read_string(&mut self) -> Result<&'a [u8], Error>
         ensures exact { TakesForm (λ s. s.now) (string_at self.old) self.old result self.new }
         ensures spelled { IfOk result (λ s. self.old ≡ string s.now ++ self.new) }
-        ensures again { (s rest : List ℕ) → length s < 2 ^ 32 → self.old ≡ string s ++ rest → IsRead (λ x. x.now) s rest result self.new }
+        ensures again { (s rest : List ℕ) → length s < 2 ^ 32 → self.old ≡ string s ++ rest → IsRead (λ x. x.now) s rest
+            result self.new }
     {
         let (value, rest) = string_of(self.rest)?;
         self.rest = rest;
@@ -88,7 +90,8 @@ impl<'a> Reader<'a> {
     pub fn read_text(&mut self) -> Result<&'a [u8], Error>
         ensures exact { TakesForm (λ s. s.now) (text_at self.old) self.old result self.new }
         ensures spelled { IfOk result (λ s. (self.old ≡ string s.now ++ self.new) × (is_utf8 s.now ≡ true)) }
-        ensures again { (s rest : List ℕ) → length s < 2 ^ 32 → is_utf8 s ≡ true → self.old ≡ string s ++ rest → IsRead (λ x. x.now) s rest result self.new }
+        ensures again { (s rest : List ℕ) → length s < 2 ^ 32 → is_utf8 s ≡ true → self.old ≡ string s ++ rest → IsRead
+            (λ x. x.now) s rest result self.new }
     {
         let (value, rest) = text_of(self.rest)?;
         self.rest = rest;
@@ -101,7 +104,8 @@ impl<'a> Reader<'a> {
     pub fn read_mpint(&mut self) -> Result<&'a [u8], Error>
         ensures exact { TakesForm (λ m. m.now) (mpint_at self.old) self.old result self.new }
         ensures spelled { IfOk result (λ m. (self.old ≡ mpint m.now ++ self.new) × (magnitude m.now ≡ m.now)) }
-        ensures again { (s rest : List ℕ) → length s < 2 ^ 32 - 1 → self.old ≡ mpint s ++ rest → IsRead (λ x. x.now) (magnitude s) rest result self.new }
+        ensures again { (s rest : List ℕ) → length s < 2 ^ 32 - 1 → self.old ≡ mpint s ++ rest → IsRead (λ x. x.now)
+            (magnitude s) rest result self.new }
     {
         let (value, rest) = mpint_of(self.rest)?;
         self.rest = rest;

@@ -27,7 +27,8 @@ impl<R: Source> Model for SshRead<R> {
 
     ghost view = { λ s. record { source = s.r; id = s.id; behind = slice_range s.piece s.start s.end } };
 
-    ghost invariant = { λ s. IsShort s.id × (s.start ≤ s.end) × (s.end ≤ longest_line) × UnlessHeard s.id (s.start ≡ s.end) };
+    ghost invariant = { λ s. IsShort s.id × (s.start ≤ s.end) × (s.end ≤ longest_line)
+        × UnlessHeard s.id (s.start ≡ s.end) };
 }
 
 impl<R: Source> SshRead<R> {
@@ -53,9 +54,12 @@ impl<R: Source> SshRead<R> {
     /// Disconnect where the source ended first, IO on a fault. After an id or Version the answer is the
     /// same, and nothing is read.
     pub fn read_ssh_id(&mut self) -> Result<&[u8], IdError>
-        ensures text { IfOk result (λ id. IfSome (R.left self.old.source) (λ bytes. HasId true self.old.id bytes id.now)) }
-        ensures refused { IfErr result (λ e. IfSome (R.left self.old.source) (λ bytes. RefusesId true self.old.id bytes e)) }
-        ensures* after_borrow { sem 𝓛 (Rests (the_row R.row R.Source) self.entry (λ new. HearsText R.left R.faults true self.old result new)) }
+        ensures text { IfOk result (λ id. IfSome (R.left self.old.source)
+            (λ bytes. HasId true self.old.id bytes id.now)) }
+        ensures refused { IfErr result (λ e. IfSome (R.left self.old.source)
+            (λ bytes. RefusesId true self.old.id bytes e)) }
+        ensures* after_borrow { sem 𝓛 (Rests (the_row R.row R.Source) self.entry
+            (λ new. HearsText R.left R.faults true self.old result new)) }
     {
         match self.hear(true) {
             Ok(()) => Ok(self.id.id()),
@@ -65,9 +69,12 @@ impl<R: Source> SshRead<R> {
 
     /// The same of a client's version line, before which no other line may stand.
     pub fn read_client_ssh_id(&mut self) -> Result<&[u8], IdError>
-        ensures text { IfOk result (λ id. IfSome (R.left self.old.source) (λ bytes. HasId false self.old.id bytes id.now)) }
-        ensures refused { IfErr result (λ e. IfSome (R.left self.old.source) (λ bytes. RefusesId false self.old.id bytes e)) }
-        ensures* after_borrow { sem 𝓛 (Rests (the_row R.row R.Source) self.entry (λ new. HearsText R.left R.faults false self.old result new)) }
+        ensures text { IfOk result (λ id. IfSome (R.left self.old.source)
+            (λ bytes. HasId false self.old.id bytes id.now)) }
+        ensures refused { IfErr result (λ e. IfSome (R.left self.old.source)
+            (λ bytes. RefusesId false self.old.id bytes e)) }
+        ensures* after_borrow { sem 𝓛 (Rests (the_row R.row R.Source) self.entry
+            (λ new. HearsText R.left R.faults false self.old result new)) }
     {
         match self.hear(false) {
             Ok(()) => Ok(self.id.id()),
@@ -80,8 +87,11 @@ impl<R: Source> SshRead<R> {
     /// answer is the same, and nothing is read. Of a source that tells its bytes, none behind the piece
     /// that decides is taken, and with what waited at most 21 lines of 255 bytes.
     pub fn hear(&mut self, allow: bool) -> Result<(), IdError>
-        ensures found { WhileWaiting self.old.id (IfSome (R.left self.old.source) (λ bytes. OnOk result (FindsId allow self.old.id bytes (R.left self.new.source) self.new.id self.new.behind))) }
-        ensures refused { WhileWaiting self.old.id (IfSome (R.left self.old.source) (λ bytes. IfErr result (λ e. GivesNoId allow self.old.id bytes (R.left self.new.source) e self.new.id))) }
+        ensures found { WhileWaiting self.old.id (IfSome (R.left self.old.source)
+            (λ bytes. OnOk result (FindsId allow self.old.id bytes (R.left self.new.source) self.new.id
+            self.new.behind))) }
+        ensures refused { WhileWaiting self.old.id (IfSome (R.left self.old.source)
+            (λ bytes. IfErr result (λ e. GivesNoId allow self.old.id bytes (R.left self.new.source) e self.new.id))) }
         ensures repeats { Repeats self.old.id self.old result self.new }
         ensures kept { OnErr result (self.new.behind ≡ self.old.behind) }
         ensures stands { StandsAfter result self.new.id }

@@ -1,5 +1,5 @@
-//! The program: `sshlink clear`, `sshlink run` and `sshlink attack` read a script from standard input, `sshlink gen` makes its
-//! steps of a seed, and each writes what is answered to standard output.
+//! The program: `sshlink clear`, `sshlink run` and `sshlink attack` read a script from standard input, `sshlink gen`
+//! makes its steps of a seed, and each writes what is answered to standard output.
 #![tactic(auto)]
 
 #[cfg(test)]

@@ -14,11 +14,11 @@ use std::alloc::Global;
 use vector_rows::preferences::{preferred, settings};
 use vector_rows::{Fault, Row, Words, say, say_bytes, say_number, say_shown};
 
-/// `calls SIDE PREFERENCES SETTINGS CALL..`: what a transport of the side answers to `feed:BYTES`, `submit:BYTES`, `rekey`,
-/// `take:BYTES`, `poll` and `pieces:SIZE:BYTES`, one after the other; whether it has failed or is inside an exchange; and
-/// how many bytes of input are unfinished, how many exchanges are finished, how many payloads are delivered, and how many
-/// bytes are written. A configuration that is refused stands in their place. A client trusts the host key of its own
-/// configuration.
+/// `calls SIDE PREFERENCES SETTINGS CALL..`: what a transport of the side answers to `feed:BYTES`, `submit:BYTES`,
+/// `rekey`, `take:BYTES`, `poll` and `pieces:SIZE:BYTES`, one after the other; whether it has failed or is inside an
+/// exchange; and how many bytes of input are unfinished, how many exchanges are finished, how many payloads are
+/// delivered, and how many bytes are written. A configuration that is refused stands in their place. A client trusts
+/// the host key of its own configuration.
 pub(crate) fn answer(kind: &str, row: &mut Row<'_>, found: &mut String) -> Result<bool, Fault> {
     if kind != "calls" {
         return Ok(false);
@@ -45,9 +45,9 @@ fn say_calls(
     }
 }
 
-/// The next words as PREFERENCES SETTINGS: `default`, or in its place the version line as `id` or as `rawid`, the limits
-/// `write` and `read`, the sizes `least`, `wanted` and `most`, `macs` as so many MACs `none`, and `blob` as one host key whose
-/// blob has so many bytes.
+/// The next words as PREFERENCES SETTINGS: `default`, or in its place the version line as `id` or as `rawid`, the
+/// limits `write` and `read`, the sizes `least`, `wanted` and `most`, `macs` as so many MACs `none`, and `blob` as one
+/// host key whose blob has so many bytes.
 fn config_by(row: &mut Row<'_>) -> Result<Config, Fault> {
     let alloc = row.alloc();
     let mut config = Config {
@@ -217,8 +217,8 @@ fn say_lent<A: Agreement, H: HostKeys, G: GroupLookup, R: Rng>(
     }
 }
 
-/// Takes the bytes in pieces of a size, and polls behind each until none is lent. Appends each payload, and `none` at last
-/// or the refusal; or how much of a piece there is room for, where that isn't all of it.
+/// Takes the bytes in pieces of a size, and polls behind each until none is lent. Appends each payload, and `none` at
+/// last or the refusal; or how much of a piece there is room for, where that isn't all of it.
 fn say_pieces<A: Agreement, H: HostKeys, G: GroupLookup, R: Rng>(
     transport: &mut Transport<'_>,
     parts: &mut Parts<A, H, G, R>,

@@ -16,8 +16,8 @@ pub fn hand_over<A: Agreement, H: HostKeys, G: GroupLookup, R: Rng>(
     parts: &mut Parts<A, H, G, R>,
 ) -> Result<PayloadList, Error>
     ensures sent { OnOk result (from.new ≡ record from.old { output = [] }) }
-    ensures took { IfOk result (HandsOver (⟦<Parts<A, H, G, R> as Handed>⟧.says to.old.config parts.old) to.old
-        from.old.output to.new) }
+    ensures took { IfOk result (λ taken. HandsOver (⟦<Parts<A, H, G, R> as Handed>⟧.says to.old.config parts.old)
+        to.old from.old.output taken to.new) }
     ensures kept { OnErr result (from.new ≡ from.old) }
     ensures lives { to.old.failed ≡ false → OnOk result (to.new.failed ≡ false) }
 {

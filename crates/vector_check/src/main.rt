@@ -1,5 +1,5 @@
-//! Compares rows of values with what the public calls of the crates below the exchange answer. The status is 0 where none
-//! failed and at least one passed.
+//! Compares rows of values with what the public calls of the crates below the exchange answer. The status is 0 where
+//! none failed and at least one passed.
 #![tactic(auto)]
 
 mod ciphers;

@@ -127,8 +127,8 @@ fn cause(row: &mut Row<'_>, found: &mut String) -> Result<(), Fault> {
     }
 }
 
-/// `preferred HOW PREFERENCES`: key exchanges, host keys, certificates, ciphers, MACs and compressions of preferences as
-/// they are `given`, of a `copy`, or of the `compressed` defaults.
+/// `preferred HOW PREFERENCES`: key exchanges, host keys, certificates, ciphers, MACs and compressions of preferences
+/// as they are `given`, of a `copy`, or of the `compressed` defaults.
 fn preferences(row: &mut Row<'_>, found: &mut String) -> Result<(), Fault> {
     let how = row.word()?;
     let given = preferred(row)?;
@@ -509,7 +509,8 @@ fn say_read(found: &mut String, answer: &Result<Names, Error>) -> Result<(), Fau
     Ok(())
 }
 
-/// `read_kex SIDE CAUSE PREFERENCES KEYS CERTIFICATES PAYLOAD`: what a side reads in the other's KEXINIT, as `say_read`.
+/// `read_kex SIDE CAUSE PREFERENCES KEYS CERTIFICATES PAYLOAD`: what a side reads in the other's KEXINIT, as
+/// `say_read`.
 fn read_kex(row: &mut Row<'_>, found: &mut String) -> Result<(), Fault> {
     let reading = Reading::of(row)?;
     let payload = row.bytes()?;

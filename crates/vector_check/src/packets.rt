@@ -167,8 +167,8 @@ fn writer_at(alloc: Global, material: &Material, number: u32) -> Result<PacketWr
     Ok(writer)
 }
 
-/// Writes a payload by one of the four calls. Appends the packet of the first, and how many words weren't drawn; of another
-/// what it wrote, where that is other than the first.
+/// Writes a payload by one of the four calls. Appends the packet of the first, and how many words weren't drawn; of
+/// another what it wrote, where that is other than the first.
 fn say_sealed(
     call: usize,
     mut writer: PacketWriter,
@@ -360,8 +360,9 @@ fn shows_length(row: &mut Row<'_>, found: &mut String) -> Result<(), Fault> {
     }
 }
 
-/// `longest CALL CIPHER MAC KEY NONCE MACKEY LENGTH`: of a payload of so many bytes, written by this of the four calls, the first four bytes of its packet,
-/// the packet's length, and that of the payload that it opens to; or the refusal and the length of the output.
+/// `longest CALL CIPHER MAC KEY NONCE MACKEY LENGTH`: of a payload of so many bytes, written by this of the four calls,
+/// the first four bytes of its packet, the packet's length, and that of the payload that it opens to; or the refusal
+/// and the length of the output.
 fn longest(row: &mut Row<'_>, found: &mut String) -> Result<(), Fault> {
     let call = row.count()?;
     let material = Material::of(row)?;

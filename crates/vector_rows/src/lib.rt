@@ -1,5 +1,6 @@
-//! What the programs share that compare rows of values with what the crates' public calls answer: the loop over the rows,
-//! a row's words, what is found by them, preferences and KEXINITs that it gives, and a generator that hands out given bytes.
+//! What the programs share that compare rows of values with what the crates' public calls answer: the loop over the
+//! rows, a row's words, what is found by them, preferences and KEXINITs that it gives, and a generator that hands out
+//! given bytes.
 #![tactic(auto)]
 
 pub mod preferences;

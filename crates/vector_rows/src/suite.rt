@@ -7,8 +7,8 @@ use std::io::{BufRead, BufReader};
 
 /// What answers rows.
 pub trait Answers {
-    /// Whether a row is for other readers, and is passed over. What it says may be learned, for rows behind it. Its kind
-    /// was taken of its words.
+    /// Whether a row is for other readers, and is passed over. What it says may be learned, for rows behind it. Its
+    /// kind was taken of its words.
     fn passes_over(&mut self, kind: &str, row: &mut Row<'_>, wanted: &str) -> Result<bool, Fault>;
 
     /// Appends what is found by a row's words, of which its kind was taken. False where the kind is none of its own.
@@ -57,8 +57,8 @@ fn judged<A: Answers>(alloc: Global, answers: &mut A, line: &str) -> io::Result<
     }
 }
 
-/// Whether each row of the standard input passed, and at least one. Writes each row whose answer is another with its line
-/// number and what was found, and last how many passed and failed.
+/// Whether each row of the standard input passed, and at least one. Writes each row whose answer is another with its
+/// line number and what was found, and last how many passed and failed.
 pub fn check<A: Answers>(rt: &HostRuntime, answers: &mut A) -> io::Result<bool> {
     let (mut at, mut passed, mut failed) = (0u64, 0u64, 0u64);
     for line in BufReader::new(rt.alloc(), rt.reader())?.lines(rt.alloc()) {
