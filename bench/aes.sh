@@ -5,6 +5,11 @@
 # Where valgrind is installed, it also prints how many instructions ssh_aes runs for each byte of 1 MiB, less
 # what a run of no message takes. Needs rt (once, to build crates/aes_speed), openssl and python3.
 set -eu
+case ${1:-} in
+'') ;;
+--help) sed -n '2,/^[^#]/s/^# \{0,1\}//p' "$0"; exit ;;
+*) echo "$0 takes no words: $*" >&2; exit 2 ;;
+esac
 cd "$(dirname "$0")/.."
 [ -x crates/aes_speed/out/aes_speed ] || (cd crates/aes_speed && rt run -- ctr 1 >/dev/null 2>&1)
 python3 - crates/aes_speed/out/aes_speed <<'PYTHON'

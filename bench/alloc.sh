@@ -4,6 +4,10 @@
 # by `clear` elsewhere, with each of its allocations failing in turn. Each such run has to end with status 6 and write
 # nothing. Needs rt.
 set -u
+case ${1:-} in
+--help) sed -n '2,/^[^#]/s/^# \{0,1\}//p' "$0"; exit ;;
+esac
+[ -z "${1:-}" ] || [ -f "$1" ] || { echo "there is no file $1" >&2; exit 2; }
 script=$(realpath "${1:-$(dirname "$0")/../examples/clear.txt}")
 case $(basename "$script") in
 run*) word=run ;;

@@ -3,6 +3,11 @@
 # Makes scripts of 1, 4, 16 and 64 MB (the last just under the limit of 67108864 bytes), runs `sshlink clear`
 # on each, and prints bytes, seconds, peak memory and what each is for a byte of script. Needs python3.
 set -eu
+case ${1:-} in
+'') ;;
+--help) sed -n '2,/^[^#]/s/^# \{0,1\}//p' "$0"; exit ;;
+*) echo "$0 takes no words: $*" >&2; exit 2 ;;
+esac
 cd "$(dirname "$0")/.."
 [ -x crates/sshlink/out/sshlink ] || ./sshlink --prove
 python3 - crates/sshlink/out/sshlink <<'PYTHON'

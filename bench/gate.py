@@ -67,6 +67,9 @@ def table(seen):
 
 
 def main():
+    if sys.argv[1:]:
+        print(__doc__)
+        return 0 if sys.argv[1:] == ["--help"] else 2
     with tempfile.TemporaryDirectory(prefix="gate-") as room:
         subprocess.run(["git", "clone", "-q", str(TOP), f"{room}/clone"], check=True)
         with open(f"{room}/log", "w+", errors="replace") as log:

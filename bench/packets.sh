@@ -7,6 +7,11 @@
 # and opening run for each byte of 1 MiB, less what a run of no packet takes. Needs rt (once, to build
 # crates/packet_speed), openssl and python3.
 set -eu
+case ${1:-} in
+'') ;;
+--help) sed -n '2,/^[^#]/s/^# \{0,1\}//p' "$0"; exit ;;
+*) echo "$0 takes no words: $*" >&2; exit 2 ;;
+esac
 cd "$(dirname "$0")/.."
 [ -x crates/packet_speed/out/packet_speed ] || (cd crates/packet_speed && rt run >/dev/null 2>&1)
 python3 - crates/packet_speed/out/packet_speed <<'PYTHON'

@@ -7,6 +7,11 @@
 # instructions for a byte of payload where valgrind is there. Needs rt (once, to build crates/link_speed,
 # crates/packet_speed and crates/sshlink) and python3.
 set -eu
+case ${1:-} in
+'') ;;
+--help) sed -n '2,/^[^#]/s/^# \{0,1\}//p' "$0"; exit ;;
+*) echo "$0 takes no words: $*" >&2; exit 2 ;;
+esac
 cd "$(dirname "$0")/.."
 for program in link_speed packet_speed sshlink; do
   [ -x "crates/$program/out/$program" ] || (cd "crates/$program" && rt run >/dev/null 2>&1)

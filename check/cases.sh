@@ -1,12 +1,16 @@
 #!/usr/bin/env bash
-# Usage: bench/cases.sh [FOLDER]
+# Usage: check/cases.sh [FOLDER]
 # Runs the program on each case of the folder, or, if none is given, on those of cases/ and on the examples, and
 # compares what it writes and its exit status. A case is a folder with `args` (one word a line), `stdin`, `stdout` and
 # `status`; in place of `stdin` a line `COUNT TEXT` in `repeat` stands for so many lines of the text. An example is a
 # script NAME.txt of the command `clear`, or of `run` or `attack` where its name begins so, with NAME.stdout and NAME.status
 # beside it.
 set -u
+case ${1:-} in
+--help) sed -n '2,/^[^#]/s/^# \{0,1\}//p' "$0"; exit ;;
+esac
 cd "$(dirname "$0")/.." || exit 1
+[ -d "${1:-cases}" ] || { echo "there is no folder $1" >&2; exit 2; }
 # The proved program, with nothing beside its own answers.
 [ -x crates/sshlink/out/sshlink ] || ./sshlink --prove || exit 1
 export SSHLINK_QUIET=1

@@ -1,5 +1,5 @@
 #!/usr/bin/env python3
-"""Usage: bench/edits.py [CRATE..]
+"""Usage: check/edits.py [CRATE..]
 
 Checks each edit in crates/NAME/must-fail/ and crates/NAME/planted/, of all crates if none is named: that it has one
 line `file:` with a file that is there, and then pairs of lines `old:` and `new:`, and that each old text stands
@@ -45,7 +45,14 @@ def fault_of(crate, edit):
 
 
 def main():
-    names = sys.argv[1:] or sorted(path.name for path in (TOP / "crates").iterdir())
+    if "--help" in sys.argv:
+        print(__doc__)
+        return 0
+    there = sorted(path.name for path in (TOP / "crates").iterdir() if path.is_dir())
+    for name in set(sys.argv[1:]) - set(there):
+        print(f"there is no crate {name}", file=sys.stderr)
+        return 2
+    names = sys.argv[1:] or there
     count, faulty = 0, 0
     for name in names:
         crate = TOP / "crates" / name

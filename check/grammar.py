@@ -1,9 +1,9 @@
 #!/usr/bin/env python3
-"""Usage: bench/grammar.py [FOLDER..]
+"""Usage: check/grammar.py [FOLDER..]
 
-Compares the grammar of scripts (docs/script.abnf) with the cases (those below cases/ if no folder is given): a case is answered by status 3 and a line exactly where that
-line is the first which breaks the grammar, or a rule that the grammar's head names. Prints each case where it isn't so, and
-ends with status 1 then.
+Compares the grammar of scripts (docs/script.abnf) with the cases, those below cases/ if no folder is given. A case is
+answered by status 3 and a line exactly where that line is the first which breaks the grammar, or a rule that the grammar's
+head names. Prints each case where it isn't so, and ends with status 1 then.
 """
 import pathlib
 import re
@@ -102,6 +102,12 @@ def first_fault(text, word, form):
 
 
 def main():
+    if "--help" in sys.argv:
+        print(__doc__)
+        return
+    for word in sys.argv[1:]:
+        if not pathlib.Path(word).is_dir():
+            sys.exit(f"there is no folder {word}")
     known, made = rules(), {}
     spaces = pattern("SP", known, made) + b"*"
     forms = {w: re.compile(spaces + pattern(f"{w}-form", known, made) + spaces, re.S) for w in ("clear", "run", "attack")}

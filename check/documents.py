@@ -1,11 +1,12 @@
 #!/usr/bin/env python3
-"""Usage: bench/documents.py
+"""Usage: check/documents.py
 
 Checks what the documents show. Each name of docs/DEFINITIONS.md is defined in a file that its row names, below the crate
 of its heading, and each definition file of each crate is named in some row. Each piece of code of README.md and
 docs/LIBRARY.md stands in a source file, and the first script and report of README.md are those of examples/clear. Each link
 of a page leads to a file, each page of docs/ is in its index, and each example in its own. Each row of docs/PROTOCOL.md names
-definitions of its crates, functions of some source, and files of rows. Prints what isn't so, and ends with status 1 then.
+definitions of its crates, functions of some source, and files of rows. The bytes of docs/REPORT.md stand where it says.
+Prints what isn't so, and ends with status 1 then.
 """
 import pathlib
 import re
@@ -60,8 +61,18 @@ def faulty_snippets():
         yield "README.md: the first script or its report isn't that of examples/clear"
 
 
+def faulty_bytes():
+    """What docs/REPORT.md takes apart stands where it says in the report of examples/run."""
+    wires = dict(re.findall(r"^(client|server) wire ([0-9a-f]*)$", (TOP / "examples/run.stdout").read_text(), re.M))
+    for part in (TOP / "docs/REPORT.md").read_text().split("\n## ")[1:]:
+        side = re.match(r"The (client|server)'s bytes", part)
+        for at, shown in re.findall(r"^\| (\d+) \| `([0-9a-f]+)` \|", part, re.M) if side else ():
+            if not wires[side.group(1)][2 * int(at):].startswith(shown):
+                yield f"docs/REPORT.md: {shown} doesn't stand at {at} of the {side.group(1)}'s bytes"
+
+
 def pages():
-    return [TOP / "README.md", *sorted(TOP.glob("docs/*.md")), TOP / "examples/README.md"]
+    return [TOP / "README.md", *sorted(TOP.glob("docs/**/*.md")), TOP / "examples/README.md", *sorted(TOP.glob("crates/**/README.md"))]
 
 
 def faulty_links():
@@ -69,8 +80,9 @@ def faulty_links():
         for link in re.findall(r"\]\(([^)#]+)[^)]*\)", page.read_text()):
             if "://" not in link and not (page.parent / link).exists():
                 yield f"{page.relative_to(TOP)}: {link} isn't there"
-    index = (TOP / "docs/README.md").read_text()
-    yield from (f"docs/README.md: {page.name} is missing" for page in TOP.glob("docs/*.md") if f"({page.name})" not in index + "(README.md)")
+    index = (TOP / "docs/README.md").read_text() + "(README.md)"
+    names = (str(page.relative_to(TOP / "docs")) for page in TOP.glob("docs/**/*.md"))
+    yield from (f"docs/README.md: {name} is missing" for name in names if f"({name})" not in index)
     index = (TOP / "examples/README.md").read_text()
     yield from (f"examples/README.md: {script.name} is missing" for script in TOP.glob("examples/*.txt") if f"({script.name})" not in index)
 
@@ -95,7 +107,10 @@ def faulty_protocol():
 
 
 def main():
-    faults = [*faulty_definitions(), *faulty_snippets(), *faulty_links(), *faulty_protocol()]
+    if sys.argv[1:]:
+        print(__doc__)
+        sys.exit(0 if sys.argv[1:] == ["--help"] else 2)
+    faults = [*faulty_definitions(), *faulty_snippets(), *faulty_links(), *faulty_protocol(), *faulty_bytes()]
     print("\n".join(faults) if faults else "documents: what they show stands where they say")
     sys.exit(1 if faults else 0)
 

@@ -1,5 +1,5 @@
 #!/usr/bin/env bash
-# Usage: bench/vectors.sh [FILE..]
+# Usage: check/vectors.sh [FILE..]
 # Compares the rows of the files (each *.txt at or below vectors/ if none is given) with what the crates' public calls
 # answer, and prints each row that differs and how many passed and failed. Then each file is read again with all wanted
 # answers spoiled, of which none may pass: no contract says what these programs answer, so this shows that they compare.
@@ -8,7 +8,14 @@
 # crates/replay_check and by crates/vector_check, all others by the latter.
 # Where a program is missing, or older than its sources, it is proved and built first.
 set -u
+case ${1:-} in
+--help) sed -n '2,/^[^#]/s/^# \{0,1\}//p' "$0"; exit ;;
+esac
 top=$(cd "$(dirname "${BASH_SOURCE[0]}")/.." && pwd)
+
+for file in "$@"; do
+  [ -f "$file" ] || { echo "there is no file $file" >&2; exit 2; }
+done
 
 # Builds a program where it is stale.
 build() {

@@ -1,10 +1,16 @@
 #!/usr/bin/env bash
-# Usage: bench/planted.sh [CRATE..]
+# Usage: check/planted.sh [CRATE..]
 # Tries the edits that stand in crates/NAME/planted/, of all crates that have some if none is named. The gate tries
 # those in must-fail/; these are more of the same, for whoever changes a contract. It works on a copy of the
 # repository, and prints each edit that the proofs didn't refuse and each that couldn't be tried.
 set -u
+case ${1:-} in
+--help) sed -n '2,/^[^#]/s/^# \{0,1\}//p' "$0"; exit ;;
+esac
 cd "$(dirname "$0")/.." || exit 1
+for name in "$@"; do
+  [ -d "crates/$name" ] || { echo "there is no crate $name" >&2; exit 2; }
+done
 if [ $# = 0 ]; then
   mapfile -t names < <(find crates -path '*/planted/*.edit' | cut -d/ -f2 | sort -u)
   set -- "${names[@]}"
