@@ -6,6 +6,7 @@ of its heading, and each definition file of each crate is named in some row. Eac
 docs/LIBRARY.md stands in a source file, and the first script and report of README.md are those of examples/clear. Each link
 of a page leads to a file, each page of docs/ is in its index, and each example in its own. Each row of docs/PROTOCOL.md names
 definitions of its crates, functions of some source, and files of rows. The bytes of docs/REPORT.md stand where it says.
+Names in backticks are those of some source, script or file.
 Prints what isn't so, and ends with status 1 then.
 """
 import pathlib
@@ -72,7 +73,8 @@ def faulty_bytes():
 
 
 def pages():
-    return [TOP / "README.md", *sorted(TOP.glob("docs/**/*.md")), TOP / "examples/README.md", *sorted(TOP.glob("crates/**/README.md"))]
+    indexes = [TOP / part / "README.md" for part in ("", "examples", "cases", "vectors", "crates")]
+    return [*indexes, *sorted(TOP.glob("docs/**/*.md")), *sorted(TOP.glob("crates/*/README.md"))]
 
 
 def faulty_links():
@@ -84,7 +86,8 @@ def faulty_links():
     names = (str(page.relative_to(TOP / "docs")) for page in TOP.glob("docs/**/*.md"))
     yield from (f"docs/README.md: {name} is missing" for name in names if f"({name})" not in index)
     index = (TOP / "examples/README.md").read_text()
-    yield from (f"examples/README.md: {script.name} is missing" for script in TOP.glob("examples/*.txt") if f"({script.name})" not in index)
+    names = (script.name for script in TOP.glob("examples/*.txt"))
+    yield from (f"examples/README.md: {name} is missing" for name in names if f"({name})" not in index)
 
 
 def faulty_protocol():
@@ -97,20 +100,40 @@ def faulty_protocol():
         cells = [cell.strip() for cell in line.strip("|").split("|")]
         if len(cells) != 5 or "`" not in line:
             continue
-        for crate, names in re.findall(r"`(\w+)`: ([^;]*)", cells[2]):
-            there = known.get(crate, set())
-            yield from (f"docs/PROTOCOL.md: {crate} has no {name}" for name in re.findall(r"`([^`]+)`", names) if name not in there)
+        for crate, listed in re.findall(r"`(\w+)`: ([^;]*)", cells[2]):
+            names = set(re.findall(r"`([^`]+)`", listed)) - known.get(crate, set())
+            yield from (f"docs/PROTOCOL.md: {crate} has no {name}" for name in sorted(names))
         words = (word.split("::")[-1] for word in re.findall(r"`([^`]+)`", cells[3]))
         yield from (f"docs/PROTOCOL.md: no source has {word}" for word in words if word not in items)
         files = re.findall(r"`([^`]+)`", cells[4])
         yield from (f"docs/PROTOCOL.md: there is no {file}" for file in files if not (TOP / "vectors" / file).exists())
 
 
+def faulty_names():
+    """Names in backticks that no source, script or file has, but for fronts of names, as `x_..`. DIFFERENCES names what the
+    ported crate has, and the crates' pages are made of the sources."""
+    roots = [*(TOP / top for top in (".ci", "bench", "check", "cases", "docs", "examples", "vectors")),
+             *(folder for kind in ("src", "specs", "proofs", "must-fail", "planted") for folder in TOP.glob(f"crates/*/{kind}"))]
+    files = [TOP / "sshlink", TOP / "NOTICE", TOP / "crates.txt", *(path for root in roots for path in root.rglob("*"))]
+    texts = (path.read_text(errors="replace") for path in files if path.is_file() and path.suffix != ".md")
+    paths = (str(path.relative_to(TOP)) for path in files)
+    words = set(re.findall(r"\w+", "\n".join((*texts, *paths))))
+    for page in pages():
+        if page.name == "DIFFERENCES.md" or page.is_relative_to(TOP / "crates"):
+            continue
+        text = re.sub(r"^```.*?^```", "", page.read_text(), flags=re.M | re.S)
+        for quoted in re.findall(r"`([^`\n]+)`", text):
+            parts = [part.strip() for part in re.split(r"::|, |\.", quoted)]
+            if any(re.fullmatch(r"(?![0-9a-f]{8})[A-Za-z]\w*[^\W_]", part) and part not in words for part in parts):
+                yield f"{page.relative_to(TOP)}: nothing is named {quoted}"
+
+
 def main():
     if sys.argv[1:]:
         print(__doc__)
         sys.exit(0 if sys.argv[1:] == ["--help"] else 2)
-    faults = [*faulty_definitions(), *faulty_snippets(), *faulty_links(), *faulty_protocol(), *faulty_bytes()]
+    checks = (faulty_definitions, faulty_snippets, faulty_links, faulty_protocol, faulty_bytes, faulty_names)
+    faults = [fault for check in checks for fault in check()]
     print("\n".join(faults) if faults else "documents: what they show stands where they say")
     sys.exit(1 if faults else 0)
 

@@ -117,7 +117,8 @@ def main():
         words = (case / "args").read_text(errors="replace").split()
         if len(words) != 1 or words[0] not in forms or not (case / "stdin").exists():
             continue
-        text, status = (case / "stdin").read_bytes(), (case / "status").read_text().strip() if (case / "status").exists() else "0"
+        text = (case / "stdin").read_bytes()
+        status = (case / "status").read_text().strip() if (case / "status").exists() else "0"
         told = None
         if status == "3":
             told = int((case / "stdout").read_bytes().split()[1])

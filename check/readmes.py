@@ -111,7 +111,8 @@ def code(lines):
 
 def item_text(file, lines, name):
     """The lines on one public item of a file, but for a constant."""
-    at = next((i for i, line in enumerate(lines) if (m := ITEM.match(line)) and m.group(2) == name and m.group(1) != "const"), None)
+    found = ((i, ITEM.match(line)) for i, line in enumerate(lines))
+    at = next((i for i, m in found if m and m.group(2) == name and m.group(1) != "const"), None)
     if at is None:
         return []
     kind = ITEM.match(lines[at]).group(1)
