@@ -1,13 +1,15 @@
 #!/usr/bin/env python3
 """Usage: check/documents.py
 
-Checks what the documents show. Each name of docs/DEFINITIONS.md is defined in a file that its row names, below the crate
-of its heading, and each definition file of each crate is named in some row. Each piece of code of README.md and
-docs/LIBRARY.md stands in a source file, and the first script and report of README.md are those of examples/clear. Each link
-of a page leads to a file, each page of docs/ is in its index, and each example in its own. Each row of docs/PROTOCOL.md names
-definitions of its crates, functions of some source, and files of rows. The bytes of docs/REPORT.md stand where it says.
-Names in backticks are those of some source, script or file.
-Prints what isn't so, and ends with status 1 then.
+Checks what the documents show, prints what isn't so, and ends with status 1 then:
+
+- Each name of docs/DEFINITIONS.md is defined in a file that its row names, below the crate of its heading.
+- Each piece of code of README.md and docs/LIBRARY.md stands in a source file.
+- The first script and report of README.md are those of examples/clear.
+- Each link of a page leads to a file. Each page of docs/ is in its index, and each example in its own.
+- Each row of docs/PROTOCOL.md names definitions of its crates, functions of some source, and files of rows.
+- The bytes of docs/REPORT.md stand where it says.
+- Names in backticks are those of some source, script or file.
 """
 import pathlib
 import re
@@ -36,17 +38,11 @@ def rows():
 
 
 def faulty_definitions():
-    named = {lib.parent.parent.name: set() for lib in TOP.glob("crates/*/specs/Lib.antt")}
     for crate, names, files in rows():
-        named.setdefault(crate, set()).update(files)
         paths = [TOP / "crates" / crate / "specs" / f"{file}.antt" for file in files]
         there = set().union(*(defined(path) for path in paths if path.exists()))
         yield from (f"{crate}: there is no {path.name}" for path in paths if not path.exists())
         yield from (f"{crate}: {name} isn't defined in {', '.join(files)}" for name in names if name not in there)
-    for crate, files in sorted(named.items()):
-        for path in sorted((TOP / "crates" / crate / "specs").glob("*.antt")):
-            if path.stem not in files | {"Lib"}:
-                yield f"{crate}: {path.name} is in no row"
 
 
 def faulty_snippets():

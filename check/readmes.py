@@ -1,16 +1,18 @@
 #!/usr/bin/env python3
 """Usage: check/readmes.py [--write]
 
-Makes of the sources what crates/README.md and crates/NAME/README.md have: the head of each crate, what it stands on, and
-its public items with their comments and contracts. It prints each page that isn't so, and ends with status 1 then. With
---write it writes the pages.
+Makes of the sources what crates/README.md, crates/NAME/README.md and crates/NAME/WORDS.md have: the head of each crate, what
+it stands on, its public items with their comments and contracts, and its definitions with their comments. It prints each page
+that isn't so, and ends with status 1 then. With --write it writes the pages.
 """
+import itertools
 import pathlib
 import re
 import sys
 
 TOP = pathlib.Path(__file__).resolve().parent.parent
 ITEM = re.compile(r"pub (?:const )?(struct|enum|trait|fn|const) (\w+)")
+DEFINED = re.compile(r"(?:abbrev |unfoldable )?pub (?:abbrev |unfoldable )?(?:record |data )?(?!mod\b)([^\s:(]+)")
 CLAUSE = re.compile(r"\s*(?:ensures|requires|decreases|ghost)\b")
 LAYERS = [
     ("The program", ["sshlink"]),
@@ -159,8 +161,7 @@ def crate_page(crate, below, known):
     if own or kit:
         out += ["It stands on " + ", ".join(own + kit) + ".", ""]
     if (folder / "specs").is_dir() and any((folder / "specs").glob("*.antt")):
-        out += ["[DEFINITIONS](../../docs/DEFINITIONS.md) has the words of its clauses, and [CLAUSES](../../docs/CLAUSES.md)",
-                "what its clauses say.", ""]
+        out += ["[WORDS](WORDS.md) has the words of its clauses, and [CLAUSES](../../docs/CLAUSES.md) what the clauses say.", ""]
     if not program:
         passed_on = re.findall(r"^pub use (\w+)(?:::\w+)?::(\{[^}]*\}|\w+);", "\n".join(top), re.M)
         passed_on = [(where, re.findall(r"\w+", listed)) for where, listed in passed_on if where != "crate"]
@@ -176,6 +177,30 @@ def crate_page(crate, below, known):
             for name in fresh:
                 out += item_text(f"{module}.rt", lines, name)
     return "\n".join(out).rstrip() + "\n"
+
+
+def words_page(crate):
+    """The definitions of a crate, by file; none where it has no definitions."""
+    out = [f"# The words of `{crate}`", "",
+           f"These are the definitions of [`{crate}`](README.md), with their comments.",
+           "[DEFINITIONS](../../docs/DEFINITIONS.md) has those that public clauses rest on.", ""]
+    empty = len(out)
+    for path in sorted((TOP / "crates" / crate / "specs").glob("*.antt")):
+        lines = path.read_text().split("\n")
+        rows, comment = [], []
+        for line in lines:
+            if line.startswith("--"):
+                comment.append(line.lstrip("-").strip())
+                continue
+            if m := DEFINED.match(line):
+                rows.append(f"| `{m.group(1)}` | {' '.join(comment).replace('|', chr(92) + '|')} |")
+            comment = []
+        if rows and path.stem != "Lib":
+            head = itertools.takewhile(lambda line: line.startswith("--"), lines)
+            top = " ".join(line.lstrip("-").strip() for line in head)
+            out += [f"## [{path.stem}](specs/{path.name})", "", *([top, ""] if top else [])]
+            out += ["| word | says |", "|---|---|", *rows, ""]
+    return "\n".join(out).rstrip() + "\n" if len(out) > empty else None
 
 
 def first_sentence(crate):
@@ -206,6 +231,8 @@ def main():
     known = crates()
     pages = {TOP / "crates/README.md": layers_page(known)}
     pages |= {TOP / "crates" / crate / "README.md": crate_page(crate, below, known) for crate, below in known.items()}
+    words = {TOP / "crates" / crate / "WORDS.md": words_page(crate) for crate in known}
+    pages |= {page: text for page, text in words.items() if text}
     stale = [page for page, text in pages.items() if not page.exists() or page.read_text() != text]
     if sys.argv[1:]:
         for page in stale:
