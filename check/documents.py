@@ -21,14 +21,14 @@ NAME = re.compile(r"^(?:abbrev |unfoldable )?(?:pub )?(?:abbrev |unfoldable )?(?
 
 def defined(path):
     """The names that a file of definitions has: definitions, records, and constructors."""
-    text = path.read_text()
+    text = path.read_text(encoding="utf-8")
     return set(NAME.findall(text)) | set(re.findall(r"^  (\w+) :", text, re.M))
 
 
 def rows():
     """Crate, names and files of each row of the page of definitions."""
     crate = None
-    for line in (TOP / "docs/DEFINITIONS.md").read_text().split("\n"):
+    for line in (TOP / "docs/DEFINITIONS.md").read_text(encoding="utf-8").split("\n"):
         heading = re.match(r"## `(\w+)`", line)
         if heading:
             crate = heading.group(1)
@@ -46,22 +46,22 @@ def faulty_definitions():
 
 
 def faulty_snippets():
-    sources = [path.read_text() for path in TOP.glob("crates/*/src/*.rt")]
+    sources = [path.read_text(encoding="utf-8") for path in TOP.glob("crates/*/src/*.rt")]
     for page in ("README.md", "docs/LIBRARY.md"):
-        for snippet in re.findall(r"^```rust\n(.*?)^```", (TOP / page).read_text(), re.M | re.S):
+        for snippet in re.findall(r"^```rust\n(.*?)^```", (TOP / page).read_text(encoding="utf-8"), re.M | re.S):
             if not any(snippet in source for source in sources):
                 yield f"{page}: no source has {snippet.splitlines()[0]}"
-    text = (TOP / "README.md").read_text()
+    text = (TOP / "README.md").read_text(encoding="utf-8")
     shown = re.findall(r"^```\n(.*?)^```", text.split("## A first script")[1], re.M | re.S)
-    script = "".join(line for line in (TOP / "examples/clear.txt").open() if not line.startswith("#"))
-    if shown[:2] != [script, (TOP / "examples/clear.stdout").read_text()]:
+    script = "".join(line for line in (TOP / "examples/clear.txt").open(encoding="utf-8") if not line.startswith("#"))
+    if shown[:2] != [script, (TOP / "examples/clear.stdout").read_text(encoding="utf-8")]:
         yield "README.md: the first script or its report isn't that of examples/clear"
 
 
 def faulty_bytes():
     """What docs/REPORT.md takes apart stands where it says in the report of examples/run."""
-    wires = dict(re.findall(r"^(client|server) wire ([0-9a-f]*)$", (TOP / "examples/run.stdout").read_text(), re.M))
-    for part in (TOP / "docs/REPORT.md").read_text().split("\n## ")[1:]:
+    wires = dict(re.findall(r"^(client|server) wire ([0-9a-f]*)$", (TOP / "examples/run.stdout").read_text(encoding="utf-8"), re.M))
+    for part in (TOP / "docs/REPORT.md").read_text(encoding="utf-8").split("\n## ")[1:]:
         side = re.match(r"The (client|server)'s bytes", part)
         for at, shown in re.findall(r"^\| (\d+) \| `([0-9a-f]+)` \|", part, re.M) if side else ():
             if not wires[side.group(1)][2 * int(at):].startswith(shown):
@@ -75,13 +75,13 @@ def pages():
 
 def faulty_links():
     for page in pages():
-        for link in re.findall(r"\]\(([^)#]+)[^)]*\)", page.read_text()):
+        for link in re.findall(r"\]\(([^)#]+)[^)]*\)", page.read_text(encoding="utf-8")):
             if "://" not in link and not (page.parent / link).exists():
                 yield f"{page.relative_to(TOP)}: {link} isn't there"
-    index = (TOP / "docs/README.md").read_text() + "(README.md)"
+    index = (TOP / "docs/README.md").read_text(encoding="utf-8") + "(README.md)"
     names = (str(page.relative_to(TOP / "docs")) for page in TOP.glob("docs/**/*.md"))
     yield from (f"docs/README.md: {name} is missing" for name in names if f"({name})" not in index)
-    index = (TOP / "examples/README.md").read_text()
+    index = (TOP / "examples/README.md").read_text(encoding="utf-8")
     names = (script.name for script in TOP.glob("examples/*.txt"))
     yield from (f"examples/README.md: {name} is missing" for name in names if f"({name})" not in index)
 
@@ -90,9 +90,9 @@ def faulty_protocol():
     known = {}
     for path in TOP.glob("crates/*/specs/*.antt"):
         known.setdefault(path.parent.parent.name, set()).update(defined(path))
-    sources = "\n".join(path.read_text() for path in TOP.glob("crates/*/src/*.rt"))
+    sources = "\n".join(path.read_text(encoding="utf-8") for path in TOP.glob("crates/*/src/*.rt"))
     items = set(re.findall(r"\b(?:fn|struct|trait|enum|ensures\*?) (\w+)", sources))
-    for line in (TOP / "docs/PROTOCOL.md").read_text().split("\n"):
+    for line in (TOP / "docs/PROTOCOL.md").read_text(encoding="utf-8").split("\n"):
         cells = [cell.strip() for cell in line.strip("|").split("|")]
         if len(cells) != 5 or "`" not in line:
             continue
@@ -111,13 +111,13 @@ def faulty_names():
     roots = [*(TOP / top for top in (".ci", "bench", "check", "cases", "docs", "examples", "vectors")),
              *(folder for kind in ("src", "specs", "proofs", "must-fail", "planted") for folder in TOP.glob(f"crates/*/{kind}"))]
     files = [TOP / "sshlink", TOP / "NOTICE", TOP / "crates.txt", *(path for root in roots for path in root.rglob("*"))]
-    texts = (path.read_text(errors="replace") for path in files if path.is_file() and path.suffix != ".md")
+    texts = (path.read_text(encoding="utf-8", errors="replace") for path in files if path.is_file() and path.suffix != ".md")
     paths = (str(path.relative_to(TOP)) for path in files)
     words = set(re.findall(r"\w+", "\n".join((*texts, *paths))))
     for page in pages():
         if page.name == "DIFFERENCES.md" or page.is_relative_to(TOP / "crates"):
             continue
-        text = re.sub(r"^```.*?^```", "", page.read_text(), flags=re.M | re.S)
+        text = re.sub(r"^```.*?^```", "", page.read_text(encoding="utf-8"), flags=re.M | re.S)
         for quoted in re.findall(r"`([^`\n]+)`", text):
             parts = [part.strip() for part in re.split(r"::|, |\.", quoted)]
             if any(re.fullmatch(r"(?![0-9a-f]{8})[A-Za-z]\w*[^\W_]", part) and part not in words for part in parts):

@@ -15,14 +15,14 @@ TOP = pathlib.Path(__file__).resolve().parent.parent
 def fault_of(crate, edit):
     """What is wrong with an edit, or None."""
     name, text, old, pairs = None, None, None, 0
-    for line in edit.read_text().splitlines():
+    for line in edit.read_text(encoding="utf-8").splitlines():
         key, _, value = line.partition(": ")
         if key == "file":
             name = value.strip()
             path = crate / name
             if not path.is_file():
                 return f"no file {name}"
-            text = path.read_text()
+            text = path.read_text(encoding="utf-8")
         elif key == "old":
             if old is not None:
                 return f"two lines old: {old}"

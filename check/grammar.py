@@ -14,7 +14,7 @@ TOKEN = re.compile(r'%s"([^"]*)"|"([^"]*)"|%x([0-9A-F]+)-([0-9A-F]+)|%x([0-9A-F]
 
 
 def rules():
-    text = re.sub(r";.*", "", (TOP / "docs/script.abnf").read_text())
+    text = re.sub(r";.*", "", (TOP / "docs/script.abnf").read_text(encoding="utf-8"))
     text = re.sub(r"\n +", " ", text)
     return dict(re.match(r"(\S+)\s*=\s*(.*)", line).groups() for line in text.splitlines() if line.strip())
 
@@ -114,11 +114,11 @@ def main():
     compared, differ = 0, []
     folders = [pathlib.Path(word).resolve() for word in sys.argv[1:]] or [TOP / "cases"]
     for case in sorted(path.parent for folder in folders for path in folder.glob("**/args")):
-        words = (case / "args").read_text(errors="replace").split()
+        words = (case / "args").read_text(encoding="utf-8", errors="replace").split()
         if len(words) != 1 or words[0] not in forms or not (case / "stdin").exists():
             continue
         text = (case / "stdin").read_bytes()
-        status = (case / "status").read_text().strip() if (case / "status").exists() else "0"
+        status = (case / "status").read_text(encoding="utf-8").strip() if (case / "status").exists() else "0"
         told = None
         if status == "3":
             told = int((case / "stdout").read_bytes().split()[1])

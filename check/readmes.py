@@ -34,7 +34,7 @@ LAYERS = [
 
 def crates():
     """Each crate of crates.txt with what it stands on."""
-    lines = (line.partition(":") for line in (TOP / "crates.txt").read_text().split("\n") if ":" in line)
+    lines = (line.partition(":") for line in (TOP / "crates.txt").read_text(encoding="utf-8").split("\n") if ":" in line)
     return {name.strip(): below.split() for name, _, below in lines}
 
 
@@ -144,7 +144,7 @@ def public_names(folder, top):
     text = "\n".join(top)
     found = []
     for module in re.findall(r"^pub mod (\w+);", text, re.M):
-        lines = (folder / f"src/{module}.rt").read_text().split("\n")
+        lines = (folder / f"src/{module}.rt").read_text(encoding="utf-8").split("\n")
         found.append((module, [m.group(2) for line in lines if (m := ITEM.match(line))]))
     for module, listed in re.findall(r"^pub use crate::(\w+)::(\{[^}]*\}|\w+);", text, re.M):
         found.append((module, re.findall(r"\w+", listed)))
@@ -154,7 +154,7 @@ def public_names(folder, top):
 def crate_page(crate, below, known):
     folder = TOP / "crates" / crate
     program = not (folder / "src/lib.rt").exists()
-    top = (folder / ("src/main.rt" if program else "src/lib.rt")).read_text().split("\n")
+    top = (folder / ("src/main.rt" if program else "src/lib.rt")).read_text(encoding="utf-8").split("\n")
     own = [f"[`{name}`](../{name}/README.md)" for name in below if name in known]
     kit = [f"`{name}`" for name in below if name not in known]
     out = [f"# `{crate}`", "", *head_of(top), ""]
@@ -170,7 +170,7 @@ def crate_page(crate, below, known):
         out += ["## What it gives", ""]
         seen = set()
         for module, names in public_names(folder, top):
-            lines = (folder / f"src/{module}.rt").read_text().split("\n")
+            lines = (folder / f"src/{module}.rt").read_text(encoding="utf-8").split("\n")
             fresh = [name for name in names if (module, name) not in seen]
             seen.update((module, name) for name in fresh)
             out += constants_text(f"{module}.rt", lines, fresh)
@@ -186,7 +186,7 @@ def words_page(crate):
            "[DEFINITIONS](../../docs/DEFINITIONS.md) has those that public clauses rest on.", ""]
     empty = len(out)
     for path in sorted((TOP / "crates" / crate / "specs").glob("*.antt")):
-        lines = path.read_text().split("\n")
+        lines = path.read_text(encoding="utf-8").split("\n")
         rows, comment = [], []
         for line in lines:
             if line.startswith("--"):
@@ -206,7 +206,7 @@ def words_page(crate):
 def first_sentence(crate):
     folder = TOP / "crates" / crate / "src"
     path = folder / "lib.rt" if (folder / "lib.rt").exists() else folder / "main.rt"
-    text = " ".join(head_of(path.read_text().split("\n")))
+    text = " ".join(head_of(path.read_text(encoding="utf-8").split("\n")))
     return re.split(r"(?<=[.:]) ", text)[0].rstrip(":").rstrip(".") + "."
 
 
@@ -233,10 +233,10 @@ def main():
     pages |= {TOP / "crates" / crate / "README.md": crate_page(crate, below, known) for crate, below in known.items()}
     words = {TOP / "crates" / crate / "WORDS.md": words_page(crate) for crate in known}
     pages |= {page: text for page, text in words.items() if text}
-    stale = [page for page, text in pages.items() if not page.exists() or page.read_text() != text]
+    stale = [page for page, text in pages.items() if not page.exists() or page.read_text(encoding="utf-8") != text]
     if sys.argv[1:]:
         for page in stale:
-            page.write_text(pages[page])
+            page.write_text(pages[page], encoding="utf-8")
         print(f"readmes: {len(stale)} written")
         return
     print("\n".join(f"{page.relative_to(TOP)} isn't what the sources say: check/readmes.py --write" for page in stale)
