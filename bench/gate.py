@@ -6,7 +6,8 @@ of `rattle build`, which proves a library and compiles a program, and of `rattle
 edits; the most memory that one of its processes held, in gigabytes; and how many edits it has. The last lines are the sums,
 the minutes by the clock, how much was done in this run, and the gate's verdict, whose status is this program's. The kit keeps
 what a run on this machine passed in a folder `rattle-kept` beside its own: only where that is moved aside is all done
-anew. What the gate writes goes to standard error. Reads /proc once a second, so it needs Linux; run nothing beside it.
+anew. What the gate writes goes to standard error. Reads /proc once a second, so it needs Linux. What runs beside it isn't
+counted, and makes it slower.
 """
 
 import os
@@ -21,12 +22,15 @@ TICKS = os.sysconf("SC_CLK_TCK")
 PAGE = os.sysconf("SC_PAGE_SIZE")
 
 
-def proving():
-    """Each process of rattle that builds or checks a crate: its number and start, command, crate, seconds and bytes held."""
+def proving(room):
+    """Each process of rattle that builds or checks a crate in the room: its number and start, command, crate, seconds and
+    bytes held."""
     for name in filter(str.isdigit, os.listdir("/proc")):
         try:
             words = pathlib.Path(f"/proc/{name}/cmdline").read_bytes().decode(errors="replace").split("\0")
             if os.path.basename(words[0]) != "rattle" or words[1] not in ("build", "check"):
+                continue
+            if not os.readlink(f"/proc/{name}/cwd").startswith(room):
                 continue
             # the fields behind the process's name, which stands in brackets
             fields = pathlib.Path(f"/proc/{name}/stat").read_text().rpartition(")")[2].split()
@@ -36,11 +40,11 @@ def proving():
         yield (name, fields[19]), words[1], crate, (int(fields[11]) + int(fields[12])) / TICKS, int(fields[21]) * PAGE
 
 
-def watch(process):
-    """What each process took until the gate ended."""
+def watch(process, room):
+    """What each process in the room took until the gate ended."""
     seen = {}
     while process.poll() is None:
-        for key, command, crate, seconds, held in proving():
+        for key, command, crate, seconds, held in proving(room):
             most = max(held, seen[key][3] if key in seen else 0)
             seen[key] = command, crate, seconds, most
         time.sleep(1)
@@ -74,8 +78,11 @@ def main():
         subprocess.run(["git", "clone", "-q", str(TOP), f"{room}/clone"], check=True)
         with open(f"{room}/log", "w+", errors="replace") as log:
             start = time.monotonic()
-            process = subprocess.Popen(["bash", ".ci/run"], cwd=f"{room}/clone", stdout=log, stderr=subprocess.STDOUT)
-            seen = watch(process)
+            # the copies on which edits are tried stand in the room, too
+            os.mkdir(f"{room}/tmp")
+            process = subprocess.Popen(["bash", ".ci/run"], cwd=f"{room}/clone", env=os.environ | {"TMPDIR": f"{room}/tmp"},
+                                       stdout=log, stderr=subprocess.STDOUT)
+            seen = watch(process, os.path.realpath(room))
             clock = (time.monotonic() - start) / 60
             log.seek(0)
             written = log.read()

@@ -200,7 +200,7 @@ pub record IsPrompt (side : Side) (config : Config) (kind : Bool) (accepted : Li
       (length (exchange_block (kexinits own - 1) read))
   pub begins : asked ≡ true → epochs_ended read < max 1 (kexinits own)
 
--- A side of an attacked run. `lawful` says that its agreement and its lookup are.
+-- A side of an attacked run. `lawful` says that its agreement is.
 pub record IsAttackedSide (agrees : Secrets) (lawful : Type 0) (accepts : Accepting) (trusts : Trusting) (side : Side) (config : Config) (handed : Handed) (r : SideReport) : Type 0 where
   -- the packets handled, the own ones, and those handled without dropped guesses
   pub handled : List Item
