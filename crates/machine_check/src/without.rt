@@ -33,7 +33,7 @@ impl<A: Agreement> Agreement for Without<A> {
 
     ghost lawful = { λ v. A.lawful v.inner };
 
-    ghost obliging = { λ v. A.obliging v.inner };
+    ghost obliging = { λ v later. A.obliging v.inner later.inner };
 
     ghost refusals = { λ v. A.refusals v.inner };
 
@@ -41,7 +41,7 @@ impl<A: Agreement> Agreement for Without<A> {
 
     ghost one_secret = { λ v s. A.one_secret v.inner s };
 
-    ghost obliging_lawful = { λ v s. A.obliging_lawful v.inner s };
+    ghost obliging_lawful = { λ v later s. A.obliging_lawful v.inner later.inner s };
 
     fn offers(&self, name: kex::Name) -> bool {
         name.as_str() != self.name.as_str() && self.inner.offers(name)

@@ -22,9 +22,9 @@ by_denying t u d w = record {
 }
 
 -- from the states behind some calls to those before them
-pub earlier_lifts : {A H G : Type 0} (lawful obliging : A → Setup → Type 0) (offered : A → KexName → Bool) (client_makes : KexName → Option DhGroup → List ℕ → List ℕ → Type 0) (server_makes : KexName → Option DhGroup → List ℕ → Type 0) (agrees : KexName → Option DhGroup → List ℕ → List ℕ → List ℕ → Type 0) (refusals calls : A → ℕ)
-    (lawful_hosts obliging_hosts : H → Setup → Type 0) (accepts : H → ServerHost → List ℕ → List ℕ → Bool) (trusts : H → ServerHost → Bool) (makes : Config → ServerHost → List ℕ → List ℕ → Type 0) (refused_sign refused_verify refused_check asked : H → ℕ)
-    (lawful_groups obliging_groups : G → Setup → Type 0) (group : G → GexParams → DhGroup) (refused_lookup looked : G → ℕ)
+pub earlier_lifts : {A H G : Type 0} (lawful : A → Setup → Type 0) (obliging : A → A → Setup → Type 0) (offered : A → KexName → Bool) (client_makes : KexName → Option DhGroup → List ℕ → List ℕ → Type 0) (server_makes : KexName → Option DhGroup → List ℕ → Type 0) (agrees : KexName → Option DhGroup → List ℕ → List ℕ → List ℕ → Type 0) (refusals calls : A → ℕ)
+    (lawful_hosts : H → Setup → Type 0) (obliging_hosts : H → H → Setup → Type 0) (accepts : H → ServerHost → List ℕ → List ℕ → Bool) (trusts : H → ServerHost → Bool) (makes : Config → ServerHost → List ℕ → List ℕ → Type 0) (refused_sign refused_verify refused_check asked : H → ℕ)
+    (lawful_groups : G → Setup → Type 0) (obliging_groups : G → G → Setup → Type 0) (group : G → GexParams → DhGroup) (refused_lookup looked : G → ℕ)
     → (config : Config) (a a' a'' : A) (h h' h'' : H) (g g' g'' : G)
     → KeepsAgreement lawful obliging offered refusals calls a a' → KeepsHosts lawful_hosts obliging_hosts accepts trusts refused_sign refused_verify refused_check asked h h' → KeepsGroups lawful_groups obliging_groups group refused_lookup looked g g'
     → Lifts (tells_by lawful obliging offered client_makes server_makes agrees refusals calls lawful_hosts obliging_hosts accepts trusts makes refused_sign refused_verify refused_check asked lawful_groups obliging_groups group refused_lookup looked config a' a'' h' h'' g' g'')
@@ -51,9 +51,9 @@ rose_more : (x y z : ℕ) → Rose x y → y ≤ z → Rose x z
 rose_more x y z r h = omega (arith, h, r)
 
 -- and what was denied behind some calls was denied behind more
-pub later_lifts : {A H G : Type 0} (lawful obliging : A → Setup → Type 0) (offered : A → KexName → Bool) (client_makes : KexName → Option DhGroup → List ℕ → List ℕ → Type 0) (server_makes : KexName → Option DhGroup → List ℕ → Type 0) (agrees : KexName → Option DhGroup → List ℕ → List ℕ → List ℕ → Type 0) (refusals calls : A → ℕ)
-    (lawful_hosts obliging_hosts : H → Setup → Type 0) (accepts : H → ServerHost → List ℕ → List ℕ → Bool) (trusts : H → ServerHost → Bool) (makes : Config → ServerHost → List ℕ → List ℕ → Type 0) (refused_sign refused_verify refused_check asked : H → ℕ)
-    (lawful_groups obliging_groups : G → Setup → Type 0) (group : G → GexParams → DhGroup) (refused_lookup looked : G → ℕ)
+pub later_lifts : {A H G : Type 0} (lawful : A → Setup → Type 0) (obliging : A → A → Setup → Type 0) (offered : A → KexName → Bool) (client_makes : KexName → Option DhGroup → List ℕ → List ℕ → Type 0) (server_makes : KexName → Option DhGroup → List ℕ → Type 0) (agrees : KexName → Option DhGroup → List ℕ → List ℕ → List ℕ → Type 0) (refusals calls : A → ℕ)
+    (lawful_hosts : H → Setup → Type 0) (obliging_hosts : H → H → Setup → Type 0) (accepts : H → ServerHost → List ℕ → List ℕ → Bool) (trusts : H → ServerHost → Bool) (makes : Config → ServerHost → List ℕ → List ℕ → Type 0) (refused_sign refused_verify refused_check asked : H → ℕ)
+    (lawful_groups : G → Setup → Type 0) (obliging_groups : G → G → Setup → Type 0) (group : G → GexParams → DhGroup) (refused_lookup looked : G → ℕ)
     → (config : Config) (a a' a'' : A) (h h' h'' : H) (g g' g'' : G)
     → KeepsAgreement lawful obliging offered refusals calls a' a'' → KeepsHosts lawful_hosts obliging_hosts accepts trusts refused_sign refused_verify refused_check asked h' h'' → KeepsGroups lawful_groups obliging_groups group refused_lookup looked g' g''
     → Lifts (tells_by lawful obliging offered client_makes server_makes agrees refusals calls lawful_hosts obliging_hosts accepts trusts makes refused_sign refused_verify refused_check asked lawful_groups obliging_groups group refused_lookup looked config a a' h h' g g')
@@ -65,11 +65,11 @@ later_lifts lawful obliging offered cm sm ag refusals calls lh oh accepts trusts
       offers = λ n o. o;
       value_small = λ v k. k;
       signature_small = λ v k. k;
-      start = λ n q k. (rose_more (refusals a) (refusals a') (refusals a'') k.0 ka.refusals_later, k.1);
-      value = λ n q v k. (rose_more (refusals a) (refusals a') (refusals a'') k.0 ka.refusals_later, k.1);
-      reply = λ n q l v k. (rose_more (refusals a) (refusals a') (refusals a'') k.0 ka.refusals_later, k.1);
-      lookup = λ sizes k. (rose_more (rl g) (rl g') (rl g'') k.0 kg.refusals_later, k.1);
-      sign = λ k. (rose_more (rs h) (rs h') (rs h'') k.0 kh.sign_later, k.1);
-      verify = λ host hash signature k. (rose_more (rv h) (rv h') (rv h'') k.0 kh.verify_later, k.1);
+      start = λ n q k. (rose_more (refusals a) (refusals a') (refusals a'') k.0 ka.refusals_later, λ s o. k.1 s (ka.obliging_sooner a s o));
+      value = λ n q v k. (rose_more (refusals a) (refusals a') (refusals a'') k.0 ka.refusals_later, λ s l o. k.1 s l (ka.obliging_sooner a s o));
+      reply = λ n q l v k. (rose_more (refusals a) (refusals a') (refusals a'') k.0 ka.refusals_later, λ s c o. k.1 s c (ka.obliging_sooner a s o));
+      lookup = λ sizes k. (rose_more (rl g) (rl g') (rl g'') k.0 kg.refusals_later, λ s o. k.1 s (kg.obliging_sooner g s o));
+      sign = λ k. (rose_more (rs h) (rs h') (rs h'') k.0 kh.sign_later, λ s o. k.1 s (kh.obliging_sooner h s o));
+      verify = λ host hash signature k. (rose_more (rv h) (rv h') (rv h'') k.0 kh.verify_later, λ s o. k.1 s (kh.obliging_sooner h s o));
     })
-    (λ host u. (rose_more (rc h) (rc h') (rc h'') u.0 kh.check_later, u.1))
+    (λ host u. (rose_more (rc h) (rc h') (rc h'') u.0 kh.check_later, λ s o. u.1 s (kh.obliging_sooner h s o)))

@@ -16,8 +16,8 @@ use rand_core::Rng;
 use ssh_kex::{Agreement, Config, GroupLookup, Handed, HostKeys, Parts};
 use ssh_rules::link::{AnswerList, AttackReport, AttackStep};
 use ssh_rules::{Asked, sizes_are_u32};
-use ssh_transport::{Transport, config_fault};
-use ssh_wire::{ConfigFault, Error, Side};
+use ssh_transport::{Transport, first_config_fault};
+use ssh_wire::{Error, Side};
 use std::alloc::{AllocError, Global};
 
 /// Both sides.
@@ -53,7 +53,7 @@ pub fn run_attacked<A: Agreement, H: HostKeys, G: GroupLookup, R: Rng>(
 {
     sizes_are_u32(client);
     sizes_are_u32(server);
-    if let Some(fault) = first_fault(client, server) {
+    if let Some(fault) = first_config_fault(client, server) {
         return Err(Error::InvalidConfig(fault));
     }
     let mut attack = Attack {
@@ -150,16 +150,5 @@ impl<'c> Attack<'c> {
             AttackStep::Rekey(Side::Client) => self.client.rekey(client_parts),
             AttackStep::Rekey(Side::Server) => self.server.rekey(server_parts),
         }
-    }
-}
-
-/// The first test that refuses one of two configurations, the client's tested first, if one does.
-fn first_fault(client: &Config, server: &Config) -> Option<ConfigFault>
-    ensures { result ≡ first_config_fault (valid.config_fault Client client.now)
-        (valid.config_fault Server server.now) }
-{
-    match config_fault(Side::Client, client) {
-        Some(fault) => Some(fault),
-        None => config_fault(Side::Server, server),
     }
 }

@@ -17,6 +17,7 @@ ghost use Rattle.ssh_client_kex.specs.ClientRows.{AnswersGroup, AnswersKexinit, 
 ghost use Rattle.ssh_client_kex.specs.ClientViews.{behind_guess, client_machine, drops_guess, ClientHolds, HasNoValues};
 ghost use Rattle.ssh_client_kex.specs.declared.client_kex.ClientState.TheVariants.{AwaitsGroup as awaits_group};
 ghost use Rattle.ssh_kex.specs.declared.progress.KexProgress.TheVariants.{NeedsReply};
+ghost use Rattle.ssh_kex.specs.Drawing.{DrawnByClient, StartsFrom, ValueDrawn};
 ghost use Rattle.ssh_kex.specs.Messages.{is_gex, request_message};
 ghost use Rattle.ssh_kex.specs.Parts.{IsSmall, KeepsAgreement, Setup};
 ghost use Rattle.ssh_kex.specs.Fields.{IsInside, IsOutside};
@@ -133,6 +134,7 @@ impl<'c> ClientKex<'c> {
         ensures goes { IfOk result (λ p. Progresses (⟦<Parts<A, H, G, R> as Handed>⟧.says self.entry.setting.config
             parts.old)
             self.entry input.entry output.old p output.new) }
+        ensures drawn { DrawnByClient A.client_draws (R.stream parts.old.rng) self.entry.stage (next_of result) }
         ensures causes { IfErr result (λ e. RefusesStep (⟦<Parts<A, H, G, R> as Handed>⟧.says self.entry.setting.config
             parts.old)
             (⟦<Parts<A, H, G, R> as Handed>⟧.denies parts.old parts.new) self.entry input.entry e) }
@@ -340,7 +342,10 @@ fn send_value<A: Agreement, R: Rng>(
     ensures err { IfErr result (RefusesValue (λ l v. (s : Setup) → A.lawful agreement.old s
         → A.client_makes algorithm.old.name algorithm.old.group l v) (λ v. (s : Setup) → A.lawful agreement.old s
         → IsSmall v) (Rose (A.refusals agreement.old) (A.refusals agreement.new)
-        × ((s : Setup) → A.obliging agreement.old s → A.offered agreement.old algorithm.old.name ≡ true → ⊥))) }
+        × ((s : Setup) → A.obliging agreement.old agreement.new s → A.offered agreement.old algorithm.old.name ≡ true
+        → ⊥))) }
+    ensures drawn { OnOk result (ValueDrawn (A.client_draws algorithm.old.name algorithm.old.group) (R.stream rng.old)
+        algorithm.new.local client_ephemeral.new) }
     ensures unchanged { OnErr result (SameButRoom output.old output.new) }
     ensures late { IfErr result (λ e. is_early false e ≡ false) }
 {
@@ -420,7 +425,8 @@ fn open_with_value<'c, A: Agreement, R: Rng>(
     ensures err { IfErr result (RefusesValue (λ l v. (s : Setup) → A.lawful agreement.old s
         → A.client_makes names.kex None l v) (λ v. (s : Setup) → A.lawful agreement.old s
         → IsSmall v) (Rose (A.refusals agreement.old) (A.refusals agreement.new)
-        × ((s : Setup) → A.obliging agreement.old s → A.offered agreement.old names.kex ≡ true → ⊥))) }
+        × ((s : Setup) → A.obliging agreement.old agreement.new s → A.offered agreement.old names.kex ≡ true → ⊥))) }
+    ensures drawn { IfSome (next_of result) (StartsFrom A.client_draws (R.stream rng.old)) }
     ensures unchanged { OnErr result (SameButRoom output.old output.new) }
     ensures late { asks_nobody false result ≡ false }
 {
@@ -473,8 +479,9 @@ fn take_kexinit<'c, A: Agreement, R: Rng>(
     ensures err { IfErr result (RefusesKexinit (λ n. A.offered agreement.old n ≡ true) (λ n l v. (s : Setup)
         → A.lawful agreement.old s → A.client_makes n None l v) (λ v. (s : Setup) → A.lawful agreement.old s
         → IsSmall v) (λ n. Rose (A.refusals agreement.old) (A.refusals agreement.new)
-        × ((s : Setup) → A.obliging agreement.old s → A.offered agreement.old n ≡ true
+        × ((s : Setup) → A.obliging agreement.old agreement.new s → A.offered agreement.old n ≡ true
         → ⊥)) config.now cause incoming.entry) }
+    ensures drawn { IfSome (next_of result) (StartsFrom A.client_draws (R.stream rng.old)) }
     ensures unchanged { OnErr result (SameButRoom output.old output.new) }
     ensures unasked { asks_nobody false result ≡ true → agreement.new ≡ agreement.old }
 {
@@ -538,7 +545,8 @@ fn answer_group<'c, A: Agreement, R: Rng>(
     ensures err { IfErr result (RefusesValue (λ l v. (s : Setup) → A.lawful agreement.old s
         → A.client_makes names.kex (Some group) l v) (λ v. (s : Setup) → A.lawful agreement.old s
         → IsSmall v) (Rose (A.refusals agreement.old) (A.refusals agreement.new)
-        × ((s : Setup) → A.obliging agreement.old s → A.offered agreement.old names.kex ≡ true → ⊥))) }
+        × ((s : Setup) → A.obliging agreement.old agreement.new s → A.offered agreement.old names.kex ≡ true → ⊥))) }
+    ensures drawn { IfSome (next_of result) (StartsFrom A.client_draws (R.stream rng.old)) }
     ensures unchanged { OnErr result (SameButRoom output.old output.new) }
     ensures late { asks_nobody false result ≡ false }
 {
@@ -597,8 +605,9 @@ fn take_group<'c, A: Agreement, R: Rng>(
     ensures err { IfErr result (RefusesGroup (λ g l v. (s : Setup) → A.lawful agreement.old s
         → A.client_makes names.kex (Some g) l v) (λ v. (s : Setup) → A.lawful agreement.old s
         → IsSmall v) (λ g. Rose (A.refusals agreement.old) (A.refusals agreement.new)
-        × ((s : Setup) → A.obliging agreement.old s → A.offered agreement.old names.kex ≡ true
+        × ((s : Setup) → A.obliging agreement.old agreement.new s → A.offered agreement.old names.kex ≡ true
         → ⊥)) config.now payload.now) }
+    ensures drawn { IfSome (next_of result) (StartsFrom A.client_draws (R.stream rng.old)) }
     ensures unchanged { OnErr result (SameButRoom output.old output.new) }
     ensures unasked { asks_nobody false result ≡ true → agreement.new ≡ agreement.old }
 {

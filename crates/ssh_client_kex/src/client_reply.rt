@@ -67,7 +67,7 @@ fn agree_on_reply<'a, A: Agreement>(
         → A.agrees algorithm.old.name algorithm.old.group public v x) algorithm.old algorithm.new payload.now r.host.now
         r.value.now r.signature.now) }
     ensures err { IfErr result (RefusesToAgree (λ l v. Rose (A.refusals agreement.old) (A.refusals agreement.new)
-        × ((s : Setup) (public : List ℕ) → A.obliging agreement.old s
+        × ((s : Setup) (public : List ℕ) → A.obliging agreement.old agreement.new s
         → A.offered agreement.old algorithm.old.name ≡ true
         → A.client_makes algorithm.old.name algorithm.old.group l public
         → A.server_makes algorithm.old.name algorithm.old.group v → ⊥)) (λ l v x. (s : Setup) (public : List ℕ)
@@ -125,7 +125,8 @@ fn verify_signature<H: HostKeys>(
     ensures ok { OnOk result (H.accepts hosts.old host.now hash.now (judged signature.now) ≡ true) }
     ensures err { IfErr result (λ e. (e ≡ Memory) ⊎ ((e ≡ WrongServerSig)
         × (Rose (H.refused_verify hosts.old) (H.refused_verify hosts.new)
-        × ((s : Setup) → H.obliging hosts.old s → H.accepts hosts.old host.now hash.now (judged signature.now) ≡ true
+        × ((s : Setup) → H.obliging hosts.old hosts.new s
+        → H.accepts hosts.old host.now hash.now (judged signature.now) ≡ true
         → ⊥)))) }
 {
     let form = match canonicalize_ecdsa_signature(alloc, signature) {
@@ -164,7 +165,7 @@ fn accept_reply<'c, H: HostKeys, R: Rng>(
         output.new) }
     ensures err { IfErr result (λ e. (e ≡ Memory) ⊎ ((e ≡ WrongServerSig)
         × (Rose (H.refused_verify hosts.old) (H.refused_verify hosts.new)
-        × ((s : Setup) → H.obliging hosts.old s → H.accepts hosts.old (host_with names reply.entry.host.now)
+        × ((s : Setup) → H.obliging hosts.old hosts.new s → H.accepts hosts.old (host_with names reply.entry.host.now)
         (made_with cause names exchange algorithm.secret reply.entry.host.now reply.entry.value.now).hash
         (judged reply.entry.signature.now) ≡ true → ⊥)))) }
     ensures unchanged { OnErr result (SameButRoom output.old output.new) }
@@ -224,12 +225,13 @@ pub(crate) fn take_reply<'c, A: Agreement, H: HostKeys, R: Rng>(
         (λ h d g. H.accepts hosts.old h d g ≡ true) config.now cause exchange names algorithm payload.now p output.old
         output.new) }
     ensures err { IfErr result (RefusesReply (λ l v. Rose (A.refusals agreement.old)
-        (A.refusals agreement.new) × ((s : Setup) (public : List ℕ) → A.obliging agreement.old s
+        (A.refusals agreement.new) × ((s : Setup) (public : List ℕ) → A.obliging agreement.old agreement.new s
         → A.offered agreement.old algorithm.name ≡ true → A.client_makes algorithm.name algorithm.group l public
         → A.server_makes algorithm.name algorithm.group v → ⊥)) (λ l v x. (s : Setup) (public : List ℕ)
         → A.lawful agreement.old s → A.client_makes algorithm.name algorithm.group l public
         → A.agrees algorithm.name algorithm.group public v x) (λ h d g. Rose (H.refused_verify hosts.old)
-        (H.refused_verify hosts.new) × ((s : Setup) → H.obliging hosts.old s → H.accepts hosts.old h d g ≡ true
+        (H.refused_verify hosts.new) × ((s : Setup) → H.obliging hosts.old hosts.new s
+        → H.accepts hosts.old h d g ≡ true
         → ⊥)) cause exchange names algorithm payload.now) }
     ensures unchanged { OnErr result (SameButRoom output.old output.new) }
     ensures unasked_agreement { asks_nobody (is_ok (reply_front (fields payload.now))) result ≡ true

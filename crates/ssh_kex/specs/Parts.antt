@@ -36,35 +36,39 @@ IsValue bytes = length bytes < 2 ^ 31
 abbrev pub IsSmall : List ℕ → Type 0
 IsSmall bytes = length bytes ≤ 65536
 
--- what each call of an agreement keeps: no count falls
-pub record KeepsAgreement {A : Type 0} (lawful obliging : A → Setup → Type 0) (offered : A → kexes.Name
-    → Bool) (refusals calls : A → ℕ) (old new : A) : Type 0 where
+-- what each call of an agreement keeps: no count falls, and what obliges between two states does so between any states
+-- between these
+pub record KeepsAgreement {A : Type 0} (lawful : A → Setup → Type 0) (obliging : A → A → Setup → Type 0)
+    (offered : A → kexes.Name → Bool) (refusals calls : A → ℕ) (old new : A) : Type 0 where
   pub refusals_later : refusals old ≤ refusals new
   pub calls_later : calls old ≤ calls new
   pub lawful_kept : (s : Setup) → lawful old s → lawful new s
-  pub obliging_kept : (s : Setup) → obliging old s → obliging new s
+  pub obliging_kept : (later : A) (s : Setup) → obliging old later s → obliging new later s
+  pub obliging_sooner : (before : A) (s : Setup) → obliging before new s → obliging before old s
   pub offered_kept : offered new ≡ offered old
 
 -- what each call of host keys keeps
-pub record KeepsHosts {H : Type 0} (lawful obliging : H → Setup → Type 0) (accepts : H → ServerHost → List ℕ → List ℕ
-    → Bool) (trusts : H → ServerHost → Bool) (refused_sign refused_verify refused_check calls : H
-    → ℕ) (old new : H) : Type 0 where
+pub record KeepsHosts {H : Type 0} (lawful : H → Setup → Type 0) (obliging : H → H → Setup → Type 0)
+    (accepts : H → ServerHost → List ℕ → List ℕ → Bool) (trusts : H → ServerHost → Bool)
+    (refused_sign refused_verify refused_check calls : H → ℕ) (old new : H) : Type 0 where
   pub sign_later : refused_sign old ≤ refused_sign new
   pub verify_later : refused_verify old ≤ refused_verify new
   pub check_later : refused_check old ≤ refused_check new
   pub calls_later : calls old ≤ calls new
   pub lawful_kept : (s : Setup) → lawful old s → lawful new s
-  pub obliging_kept : (s : Setup) → obliging old s → obliging new s
+  pub obliging_kept : (later : H) (s : Setup) → obliging old later s → obliging new later s
+  pub obliging_sooner : (before : H) (s : Setup) → obliging before new s → obliging before old s
   pub accepts_kept : accepts new ≡ accepts old
   pub trusts_kept : trusts new ≡ trusts old
 
 -- what each call of a lookup keeps
-pub record KeepsGroups {G : Type 0} (lawful obliging : G → Setup → Type 0) (group : G → GexParams
-    → DhGroup) (refusals calls : G → ℕ) (old new : G) : Type 0 where
+pub record KeepsGroups {G : Type 0} (lawful : G → Setup → Type 0) (obliging : G → G → Setup → Type 0)
+    (group : G → GexParams → DhGroup) (refusals calls : G → ℕ) (old new : G) : Type 0 where
   pub refusals_later : refusals old ≤ refusals new
   pub calls_later : calls old ≤ calls new
   pub lawful_kept : (s : Setup) → lawful old s → lawful new s
-  pub obliging_kept : (s : Setup) → obliging old s → obliging new s
+  pub obliging_kept : (later : G) (s : Setup) → obliging old later s → obliging new later s
+  pub obliging_sooner : (before : G) (s : Setup) → obliging before new s → obliging before old s
   pub group_kept : group new ≡ group old
 
 -- what each call keeps of all parts of a side: of each part what its own calls keep

@@ -159,7 +159,7 @@ impl KexAlgorithm {
         ensures unchanged { OnErr result ((self.new ≡ self.old) × (exchange.new ≡ exchange.old)) }
         ensures causes { IfErr result (λ e. (e ≡ Kex) ⊎ (e ≡ Memory)) }
         ensures rose { result ≡ Err Kex → Rose (A.refusals agreement.old) (A.refusals agreement.new) }
-        ensures owed { result ≡ Err Kex → (s : Setup) (local : List ℕ) → A.obliging agreement.old s
+        ensures owed { result ≡ Err Kex → (s : Setup) (local : List ℕ) → A.obliging agreement.old agreement.new s
             → A.offered agreement.old self.old.name ≡ true
             → A.client_makes self.old.name self.old.group local exchange.old.client_ephemeral → ⊥ }
         ensures none { (shape_of self.old.name).skip ≡ true → (result ≡ Ok tt) × (agreement.new ≡ agreement.old)
@@ -208,7 +208,7 @@ impl KexAlgorithm {
             → IsSmall client_ephemeral.new) }
         ensures causes { IfErr result (λ e. (e ≡ Kex) ⊎ (e ≡ Memory)) }
         ensures rose { result ≡ Err Kex → Rose (A.refusals agreement.old) (A.refusals agreement.new) }
-        ensures owed { result ≡ Err Kex → (s : Setup) → A.obliging agreement.old s
+        ensures owed { result ≡ Err Kex → (s : Setup) → A.obliging agreement.old agreement.new s
             → A.offered agreement.old self.old.name ≡ true → ⊥ }
         ensures none { (shape_of self.old.name).skip ≡ true → (result ≡ Ok tt) × (agreement.new ≡ agreement.old)
             × (rng.new ≡ rng.old) }
@@ -251,7 +251,7 @@ impl KexAlgorithm {
             × (agreement.new ≡ agreement.old) }
         ensures rose { result ≡ Err Kex → Rose (A.refusals agreement.old) (A.refusals agreement.new) }
         ensures owed { result ≡ Err Kex → (s : Setup) (local public : List ℕ) → self.old.local ≡ Some local
-            → A.obliging agreement.old s → A.offered agreement.old self.old.name ≡ true
+            → A.obliging agreement.old agreement.new s → A.offered agreement.old self.old.name ≡ true
             → A.client_makes self.old.name self.old.group local public
             → A.server_makes self.old.name self.old.group server_public.now → ⊥ }
         ensures none { (shape_of self.old.name).skip ≡ true → (result ≡ Ok tt) × (agreement.new ≡ agreement.old) }

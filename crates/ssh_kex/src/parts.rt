@@ -1,6 +1,6 @@
 //! What is handed in: key agreements, host keys, and the lookup of groups.
 
-ghost use Rattle.std.specs.Prelude.{◌≡◌, ℕ, ◌≤◌, List, Bool, true, Option, Some, None, IfOk, OnOk};
+ghost use Rattle.std.specs.Prelude.{◌≡◌, ℕ, ◌≤◌, codes, List, Bool, true, Option, Some, None, IfOk, OnOk};
 ghost use Rattle.rand_core.specs.Stream.{Stream};
 ghost use Rattle.std.specs.Option.{option_copied};
 ghost use Rattle.ssh_kex.specs.Messages.{IsCanonical, bit_size};
@@ -20,6 +20,7 @@ use ssh_mac::HashValue;
 use ssh_negotiate::{HostKey, kex};
 use ssh_wire::{Algorithm, Blob};
 use std::alloc::Global;
+use std::fmt;
 
 /// Why a part gave no answer.
 #[derive(Clone, Copy, Debug, PartialEq, Eq)]
@@ -31,17 +32,35 @@ pub enum Refusal {
 }
 
 /// A client's first value: what it sends, and what it keeps.
-#[derive(Debug, Drop)]
+#[derive(Drop)]
 pub struct Started {
     pub public: Blob,
     pub local: Blob,
 }
 
+/// Shows no byte of a value.
+impl fmt::Debug for Started {
+    ghost debug_output = { λ v. Some (codes "Started") };
+
+    fn fmt<W: fmt::Write>(&self, f: &mut fmt::Formatter<W>) -> fmt::Result {
+        f.write_str("Started")
+    }
+}
+
 /// A server's value, and the secret.
-#[derive(Debug, Drop)]
+#[derive(Drop)]
 pub struct Agreed {
     pub public: Blob,
     pub secret: Blob,
+}
+
+/// Shows no byte of a value.
+impl fmt::Debug for Agreed {
+    ghost debug_output = { λ v. Some (codes "Agreed") };
+
+    fn fmt<W: fmt::Write>(&self, f: &mut fmt::Formatter<W>) -> fmt::Result {
+        f.write_str("Agreed")
+    }
 }
 
 /// Agrees on secrets. What is said of both sides' values is said of the type, for all its values alike.
@@ -66,10 +85,11 @@ pub trait Agreement {
 
     ghost server_draws: { kexes.Name → Option DhGroup → List ℕ → Stream → List ℕ → List ℕ → Stream → Type 0 };
 
-    // What it keeps under two sides' configurations, and what it owes besides to be refused never.
+    // What it keeps under two sides' configurations; and that besides, from one of its states to a later one, it
+    // refuses nothing that it owes an answer to.
     ghost lawful: { Self → Setup → Type 0 };
 
-    ghost obliging: { Self → Setup → Type 0 };
+    ghost obliging: { Self → Self → Setup → Type 0 };
 
     ghost refusals: { Self → ℕ };
 
@@ -95,7 +115,8 @@ pub trait Agreement {
         ensures made { (s : Setup) → lawful self.old s
             → IfOk result (λ v. client_makes name (option_copied group.entry) v.local v.public × IsSmall v.public
             × IsSmall v.local) }
-        ensures never { (s : Setup) → obliging self.old s → offered self.old name ≡ true → IsRefused result → ⊥ };
+        ensures never { (s : Setup) → obliging self.old self.new s → offered self.old name ≡ true
+            → IsRefused result → ⊥ };
 
     /// A server's value for a client's, and the secret.
     fn server_agree<R: Rng>(
@@ -115,7 +136,7 @@ pub trait Agreement {
             → IfOk result (λ v. server_makes name (option_copied group.entry) v.public
             × agrees name (option_copied group.entry) client_public.now v.public v.secret × IsSmall v.public
             × IsSmall v.secret) }
-        ensures never { (s : Setup) (local : List ℕ) → obliging self.old s → offered self.old name ≡ true
+        ensures never { (s : Setup) (local : List ℕ) → obliging self.old self.new s → offered self.old name ≡ true
             → client_makes name (option_copied group.entry) local client_public.now → IsRefused result → ⊥ };
 
     /// The secret of a client's own value and a server's.
@@ -133,7 +154,7 @@ pub trait Agreement {
         ensures made { (s : Setup) (public : List ℕ) → lawful self.old s
             → client_makes name (option_copied group.entry) local.now public
             → IfOk result (λ v. agrees name (option_copied group.entry) public server_public.now v × IsSmall v) }
-        ensures never { (s : Setup) (public : List ℕ) → obliging self.old s → offered self.old name ≡ true
+        ensures never { (s : Setup) (public : List ℕ) → obliging self.old self.new s → offered self.old name ≡ true
             → client_makes name (option_copied group.entry) local.now public
             → server_makes name (option_copied group.entry) server_public.now → IsRefused result → ⊥ };
 
@@ -144,7 +165,7 @@ pub trait Agreement {
         → x ≡ y };
 
     // What is obliging is lawful.
-    ghost obliging_lawful: { (v : Self) (s : Setup) → obliging v s → lawful v s };
+    ghost obliging_lawful: { (v w : Self) (s : Setup) → obliging v w s → lawful v s };
 }
 
 /// Finds the group of a group exchange.
@@ -154,7 +175,7 @@ pub trait GroupLookup {
 
     ghost lawful: { Self → Setup → Type 0 };
 
-    ghost obliging: { Self → Setup → Type 0 };
+    ghost obliging: { Self → Self → Setup → Type 0 };
 
     ghost refusals: { Self → ℕ };
 
@@ -170,7 +191,7 @@ pub trait GroupLookup {
         ensures keeps { KeepsGroups lawful obliging group refusals calls self.old self.new }
         ensures values { IfOk result (λ g. IsValue g.prime × IsValue g.generator) }
         ensures found { (s : Setup) → lawful self.old s → IfOk result (λ g. g ≡ group self.old gex_params.now) }
-        ensures never { (s : Setup) → obliging self.old s → IsRefused result → ⊥ };
+        ensures never { (s : Setup) → obliging self.old self.new s → IsRefused result → ⊥ };
 
     // A lawful group has no leading zeros.
     ghost canonical: { (v : Self) (s : Setup) (sizes : GexParams) → lawful v s → IsCanonical (group v sizes) };
@@ -179,11 +200,11 @@ pub trait GroupLookup {
     ghost small: { (v : Self) (s : Setup) → lawful v s → IsSmall (group v s.client.gex).prime
         × IsSmall (group v s.client.gex).generator };
 
-    ghost fitting: { (v : Self) (s : Setup) → obliging v s
+    ghost fitting: { (v w : Self) (s : Setup) → obliging v w s
         → (s.client.gex.min_group_size ≤ bit_size (group v s.client.gex).prime)
         × (bit_size (group v s.client.gex).prime ≤ s.client.gex.max_group_size) };
 
-    ghost obliging_lawful: { (v : Self) (s : Setup) → obliging v s → lawful v s };
+    ghost obliging_lawful: { (v w : Self) (s : Setup) → obliging v w s → lawful v s };
 }
 
 /// Signs, and judges signatures and hosts. A signature is the blob of RFC 4253 section 6.6: two strings, the name of
@@ -199,7 +220,7 @@ pub trait HostKeys {
 
     ghost lawful: { Self → Setup → Type 0 };
 
-    ghost obliging: { Self → Setup → Type 0 };
+    ghost obliging: { Self → Self → Setup → Type 0 };
 
     ghost refused_sign: { Self → ℕ };
 
@@ -225,9 +246,9 @@ pub trait HostKeys {
         ensures check { refused_check self.new ≡ refused_check self.old }
         ensures values { IfOk result (λ v. IsValue v) }
         ensures small { (s : Setup) → lawful self.old s → IfOk result (λ v. IsSmall v) }
-        ensures made { (s : Setup) (host : ServerHost) → obliging self.old s
+        ensures made { (later : Self) (s : Setup) (host : ServerHost) → obliging self.old later s
             → Presents s.server host key.now algorithm → IfOk result (λ v. makes s.server host hash.now (judged v)) }
-        ensures never { (s : Setup) → obliging self.old s → IsRefused result → ⊥ };
+        ensures never { (s : Setup) → obliging self.old self.new s → IsRefused result → ⊥ };
 
     /// Whether a signature of a host is right.
     fn verify(
@@ -244,8 +265,8 @@ pub trait HostKeys {
         ensures sign { refused_sign self.new ≡ refused_sign self.old }
         ensures check { refused_check self.new ≡ refused_check self.old }
         ensures ok { OnOk result (accepts self.old host.now hash.now signature.now ≡ true) }
-        ensures never { (s : Setup) → obliging self.old s → accepts self.old host.now hash.now signature.now ≡ true
-            → IsRefused result → ⊥ };
+        ensures never { (s : Setup) → obliging self.old self.new s
+            → accepts self.old host.now hash.now signature.now ≡ true → IsRefused result → ⊥ };
 
     /// Whether a host is trusted.
     fn check(&mut self, alloc: Global, host: &ServerHost) -> Result<(), Refusal>
@@ -256,14 +277,15 @@ pub trait HostKeys {
         ensures sign { refused_sign self.new ≡ refused_sign self.old }
         ensures verify { refused_verify self.new ≡ refused_verify self.old }
         ensures ok { OnOk result (trusts self.old host.now ≡ true) }
-        ensures never { (s : Setup) → obliging self.old s → trusts self.old host.now ≡ true → IsRefused result → ⊥ };
+        ensures never { (s : Setup) → obliging self.old self.new s → trusts self.old host.now ≡ true
+            → IsRefused result → ⊥ };
 
-    ghost obliging_lawful: { (v : Self) (s : Setup) → obliging v s → lawful v s };
+    ghost obliging_lawful: { (v w : Self) (s : Setup) → obliging v w s → lawful v s };
 
-    ghost obliging_trusts: { (v : Self) (s : Setup) (host : ServerHost) (key : HostKey) → obliging v s
+    ghost obliging_trusts: { (v w : Self) (s : Setup) (host : ServerHost) (key : HostKey) → obliging v w s
         → Presents s.server host key host.algorithm → trusts v host ≡ true };
 
-    ghost obliging_accepts: { (v : Self) (s : Setup) (host : ServerHost) (hash signature : List ℕ) → obliging v s
+    ghost obliging_accepts: { (v w : Self) (s : Setup) (host : ServerHost) (hash signature : List ℕ) → obliging v w s
         → makes s.server host hash signature → accepts v host hash signature ≡ true };
 }
 

@@ -1,5 +1,5 @@
 -- The run of a plan whose sides are fed any bytes is that of its test parts.
-use Rattle.std.proofs.Common.{true, ◌≡◌, ◌⊎◌, inl, inr, ℕ, List, Option, Some, None, Result, Ok, Err, IfErr, IfOk, IfSome, OnOk, refl, sym, ◌∙◌, ap, subst}
+use Rattle.std.proofs.Common.{true, ◌≡◌, ◌⊎◌, inl, inr, ℕ, ◌<◌, ◌≤◌, List, Option, Some, None, Result, Ok, Err, IfErr, IfOk, IfSome, OnOk, refl, sym, ◌∙◌, ap, subst}
 use Rattle.ssh_wire.specs.declared.error.ConfigFault.{ConfigFault}
 use Rattle.ssh_wire.specs.declared.error.Error.{Error}
 use Rattle.ssh_wire.specs.declared.error.Error.TheVariants as errors
@@ -22,13 +22,13 @@ use Rattle.ssh_vectors.specs.Primes.{IsLawful, IsObliging, group_for}
 use Rattle.ssh_vectors.specs.declared.hosts.TrustedHost.{TrustedHost}
 use Rattle.ssh_script.specs.Plans.{Plan}
 use Rattle.ssh_script.specs.declared.setup.SideSetup.{SideSetup}
-use Rattle.ssh_link.specs.PlanParts.{any_rises, never_asked, offers_exchange, test_parts, trusted_of}
+use Rattle.ssh_link.specs.PlanParts.{IsCallOf, never_asked, offers_exchange, test_parts, trusted_of, untold_rises}
 use Rattle.ssh_link.specs.PlanRun.{IsAttackedPlan}
 
 -- ---- which part refused isn't told
 
 abbrev untold : PartsDo → Type 0 → PartsDo
-untold p O = record p { rises = any_rises Client; obliging = O }
+untold p O = record p { rises = untold_rises; obliging = O }
 
 denies_untold : (p : PartsDo) (O : Type 0) (f : O → p.obliging) (v : Seen) (items : List Item) (i : Item) (due : Due) → PartDeniesNow p v items i due → PartDeniesNow (untold p O) v items i due
 denies_untold p O f v items i KexinitDue (n, reads, plain, d) = (n, reads, plain, record { client = d.client; rose = tt; only = λ o. d.only (f o) })
@@ -71,7 +71,7 @@ refuses_untold p O f v items i errors.Memory h = h
 answered_untold : (p : PartsDo) (O : Type 0) (f : O → p.obliging) (side : Side) (config : Config) (steps : List AttackStep) (answers : List (Result (Unit {0}) Error)) (xs : List FinishedExchange) (own handled : List Item) (ending : Ending)
     → IsAnsweredSide p side config steps answers xs own handled ending → IsAnsweredSide (untold p O) side config steps answers xs own handled ending
 answered_untold p O f side config steps answers xs own handled ending h = record {
-  answered = answers_weaker _ _ side _ steps answers (λ items i e r. refuses_untold p O f (seen_in side config (fed_to side steps) xs own) items i e r) h.answered;
+  answered = answers_weaker _ _ side _ steps answers (λ items k. k) (λ items i e r. refuses_untold p O f (seen_in side config (fed_to side steps) xs own) items i e r) h.answered;
   accepted = h.accepted;
   asked = h.asked;
 }
@@ -84,6 +84,10 @@ run_untold p q O P f g client server steps report h = record {
 }
 
 -- ---- test parts with these values
+
+-- the number of a call between two counts of calls
+abbrev IsBetween : (before after number : ℕ) → Type 0
+IsBetween before after number = (before < number) × (number ≤ after)
 
 -- how a side's parts begin
 pub record Begins : Type 0 where
@@ -99,9 +103,9 @@ parts_by plan b rises calls = record {
   lawful = Unit {0};
   lawful_hosts = Unit {0};
   lawful_lookup = IsLawful b.bits plan.client.config.gex;
-  obliging = (b.agreement ≡ 0) × Unit {0};
-  obliging_hosts = (b.hosts ≡ 0) × TrustsAll b.trusted plan.server.config;
-  obliging_lookup = (b.groups ≡ 0) × IsObliging b.bits plan.client.config.gex;
+  obliging = Unit {0} × (IsBetween b.calls.agreement calls.agreement b.agreement → ⊥);
+  obliging_hosts = TrustsAll b.trusted plan.server.config × (IsBetween b.calls.hosts calls.hosts b.hosts → ⊥);
+  obliging_lookup = IsObliging b.bits plan.client.config.gex × (IsBetween b.calls.lookups calls.lookups b.groups → ⊥);
   rises = rises;
   offers = λ name. offers_exchange name ≡ true;
   client_makes = ClientMakes;
@@ -131,7 +135,7 @@ pub attacked_plan : (plan : Plan) (steps : List AttackStep) (b d : Begins) (r s 
 attacked_plan plan steps b d r s cc sc report e f g h = record {
   client_calls = cc;
   server_calls = sc;
-  run = run_untold (parts_by plan (begins_of plan plan.client) r cc) (parts_by plan (begins_of plan plan.server) s sc) _ _ (λ o. (o, tt)) (λ o. (o, tt)) plan.client.config plan.server.config plan.attack report
+  run = run_untold (parts_by plan (begins_of plan plan.client) r cc) (parts_by plan (begins_of plan plan.server) s sc) _ _ (λ o. (tt, o)) (λ o. (tt, o)) plan.client.config plan.server.config plan.attack report
       (subst (λ x. IsAttackedRun (parts_by plan x r cc) (parts_by plan (begins_of plan plan.server) s sc) plan.client.config plan.server.config plan.attack report) f
       (subst (λ x. IsAttackedRun (parts_by plan b r cc) (parts_by plan x s sc) plan.client.config plan.server.config plan.attack report) g
       (subst (λ x. IsAttackedRun (parts_by plan b r cc) (parts_by plan d s sc) plan.client.config plan.server.config x report) e h)));

@@ -23,7 +23,7 @@ use Rattle.ssh_rules.specs.declared.link.Step.{Step}
 use Rattle.ssh_rules.specs.declared.link.Step.TheVariants.{Deliver, Rekey, Settle}
 use Rattle.ssh_vectors.specs.Hosts.{TrustsHosts, TrustsKey}
 use Rattle.ssh_script.specs.Generated.{drawn, generated_steps, payload_drawn, rekey_drawn, side_drawn, state_behind, state_behind_turn, turn_by, turn_steps, turns_from, generated_plan}
-use Rattle.ssh_link.specs.PlanParts.{IsFaultlessPlan, configs_of, offers_exchange, trusted_key, trusted_of}
+use Rattle.ssh_link.specs.PlanParts.{IsFaultlessPlan, RefusesNoCall, configs_of, offers_exchange, trusted_key, trusted_of}
 use Rattle.ssh_script.specs.Plans.{Plan}
 use Rattle.ssh_link.specs.Program.{AnswersGen, IsRefusal}
 use Rattle.ssh_script.specs.RunScript.{host_key}
@@ -113,6 +113,13 @@ key_trusted = record {
   certificates = All-nil (λ (c : HostCertificate). TrustsKey (trusted_of default_hosts) c.blob c.key_blob);
 }
 
+none : 0 < 0 → ⊥
+none h = omega (arith, h)
+
+no_call : (seed count : ℕ) (side : Side) → RefusesNoCall (generated_plan seed count) side
+no_call seed count Client = record { agreement = λ c. none c.0; hosts = λ c. none c.0 }
+no_call seed count Server = record { agreement = λ c. none c.0; hosts = λ c. none c.0 }
+
 pub generated_faultless : (seed count : ℕ) → IsFaultlessPlan (generated_plan seed count)
 generated_faultless seed count =
     let k = has_kex _ Mlkem768X25519Sha256 default_kex in
@@ -125,11 +132,10 @@ generated_faultless seed count =
         good = generated_good seed count;
       };
       parts = record {
-        client = record { agreement = refl; hosts = refl };
-        server = record { agreement = refl; hosts = refl };
+        calls = no_call seed count;
         trusted = key_trusted;
         lawful = record { most = omega arith };
-        lookup = λ _. record { groups = refl; group = record { lawful = record { most = omega arith }; least = omega arith; within = omega arith } };
+        lookup = λ _. record { groups = λ c. none c.0; group = record { lawful = record { most = omega arith }; least = omega arith; within = omega arith } };
       };
     }
 

@@ -10,7 +10,7 @@ use Rattle.ssh_negotiate.specs.declared.kex.Name.{Name as KexName}
 use Rattle.ssh_kex.specs.Setting.{Says}
 use Rattle.ssh_kex.specs.declared.config.Config.{Config}
 use Rattle.ssh_kex.specs.declared.exchange.FinishedExchange.{FinishedExchange}
-use Rattle.ssh_rules.specs.AttackCauses.{IsAnsweredSide, IsAttackedRun, PartsDo, RefusesNow, packet_at, seen_in, text_of}
+use Rattle.ssh_rules.specs.AttackCauses.{IsAnsweredSide, IsAttackedRun, PartsDo, RefusesNow, judged_in, packet_at, seen_in, text_of}
 use Rattle.ssh_rules.specs.Attacked.{accepted_of, ends_asked, fed_to, first_refusal}
 use Rattle.ssh_rules.specs.Attacking.{AttackedEnd, AttacksSide, Tells, attacked_report}
 use Rattle.ssh_rules.specs.Asking.{AsksAtMost, kex_count}
@@ -23,7 +23,7 @@ use Rattle.ssh_rules.specs.declared.link.AttackStep.{AttackStep}
 use Rattle.ssh_rules.proofs.AcceptedNow.{all_accepted}
 use Rattle.ssh_rules.proofs.AttackedLinks.{answers_weaker, first_end, run_asks, run_ending, run_ends, shown_link}
 use Rattle.ssh_rules.proofs.FedReports.{Told}
-use Rattle.ssh_rules.proofs.AttackedRuns.{EndsSide, RefusesBehindLog, StandsBy, fed_side}
+use Rattle.ssh_rules.proofs.AttackedRuns.{EndsSide, RefusesBehindLog, StandsBy, fed_side, judged_behind}
 use Rattle.ssh_rules.proofs.RefusedNow.{TellsParts, refuses_now}
 use Rattle.ssh_rules.proofs.SeenSides.{seen_of, shows_quiet}
 use Rattle.ssh_rules.proofs.Valid.{tests}
@@ -69,7 +69,8 @@ answered_side t p side config steps answers first new tells offered valid n h ex
 
     whole : IsAnsweredSide p side config steps answers (recorded log) (wrote log) (handled log) (run_ending t side config steps answers new r)
     whole = record {
-      answered = answers_weaker (RefusesBehindLog t side config log (id_text_in (heard_in side (fed_to side steps)))) (RefusesNow p (seen_in side config (fed_to side steps) (recorded log) (wrote log))) side (fed_side config (recorded log) [] false) steps answers
+      answered = answers_weaker (judged_behind t side config log (id_text_in (heard_in side (fed_to side steps)))) (judged_in p (seen_in side config (fed_to side steps) (recorded log) (wrote log)) (handled log)) side (fed_side config (recorded log) [] false) steps answers
+          (λ l f. f)
           (λ l i e. by_table t p side config log (fed_to side steps) l i e tells (tests side config valid).5) r.answered;
       accepted = all_accepted t.says p.offers side config (text_of (id_text_in (heard_in side (fed_to side steps)))) (wrote log) log went.st offered went.steps
           (λ x known. ap text_of (sym went.heard ∙ known));

@@ -4,9 +4,10 @@ use Rattle.std.specs.Prelude.{Result, Ok, Err}
 use Rattle.ssh_packet.specs.Sealing.{Item}
 use Rattle.ssh_wire.specs.declared.error.Error.{Error}
 use Rattle.ssh_wire.specs.declared.side.Side.{Side}
+use Rattle.ssh_wire.specs.Sides.{same_side}
 use Rattle.ssh_wire.specs.declared.side.Side.TheVariants.{Client, Server}
 use Rattle.ssh_kex.specs.declared.config.Config.{Config}
-use Rattle.ssh_rules.specs.Attacked.{AreAnswers, CarriesPrefix, FedSide, IsAttackedLink, IsAttackedSide, accepted_of, ends_asked, fed_to, first_refusal, handed_to}
+use Rattle.ssh_rules.specs.Attacked.{AnswersFeed, AnswersFeedBy, AreAnswers, CarriesPrefix, FedAnswer, FedSide, IfOwn, Judged, IsAttackedLink, IsAttackedSide, accepted_of, ends_asked, fed_to, first_refusal, handed_to}
 use Rattle.ssh_rules.specs.Attacking.{AttackedEnd, AttacksSide, Tells, attacked_report}
 use Rattle.ssh_rules.specs.Asking.{AsksAtMost, PartCalls, kex_count, packet_of}
 use Rattle.ssh_rules.specs.AttackCauses.{packet_at}
@@ -18,6 +19,7 @@ use Rattle.ssh_rules.specs.Standing.{IsNew, OfFault, OfMemory, OfPacket, OfVersi
 use Rattle.ssh_rules.specs.Wire.{carried_payloads, exchange_block}
 use Rattle.ssh_rules.specs.declared.link.AttackReport.{AttackReport}
 use Rattle.ssh_rules.specs.declared.link.AttackStep.{AttackStep}
+use Rattle.ssh_rules.specs.declared.link.AttackStep.TheVariants.{Feed, Rekey, Submit}
 use Rattle.ssh_rules.specs.declared.link.SideReport.{SideReport}
 use Rattle.ssh_rules.proofs.AttackedRuns.{EndsSide, StandsBy, ends_side}
 use Rattle.ssh_rules.proofs.FedReports.{SideShown, ending_of, Told, failed_says, handed_as, live_says, shown_side}
@@ -148,21 +150,21 @@ same_delivered agrees agrees' lawful lawful' accepts accepts' trusts trusts' sid
 
 -- ---- answers
 
-pub answers_weaker : (R S : List Item → Item → Error → Type 0) (side : Side) (t : FedSide) (steps : List AttackStep) (answers : List (Result (Unit {0}) Error)) → ((items : List Item) (i : Item) (e : Error) → R items i e → S items i e) → AreAnswers R side t steps answers → AreAnswers S side t steps answers
-answers_weaker R S side t [] [] w h = tt
-answers_weaker R S side t [] (a ∷ answers) w h = h
-answers_weaker R S side t (step ∷ steps) [] w h = h
-answers_weaker R S side t (Rattle.ssh_rules.specs.declared.link.AttackStep.TheVariants.Submit s p ∷ steps) (a ∷ answers) w h = (h.0, answers_weaker R S side t steps answers w h.1)
-answers_weaker R S side t (Rattle.ssh_rules.specs.declared.link.AttackStep.TheVariants.Rekey s ∷ steps) (a ∷ answers) w h = (h.0, answers_weaker R S side t steps answers w h.1)
-answers_weaker R S side t (Rattle.ssh_rules.specs.declared.link.AttackStep.TheVariants.Feed s bytes ∷ steps) (a ∷ answers) w h = (own (Rattle.ssh_wire.specs.Sides.same_side s side) h.0, answers_weaker R S side _ steps answers w h.1) where
-  by_answer : (a : Result (Unit {0}) Error) → Rattle.ssh_rules.specs.Attacked.FedAnswer R side t.config t.exchanges (t.fed ++ bytes) a → Rattle.ssh_rules.specs.Attacked.FedAnswer S side t.config t.exchanges (t.fed ++ bytes) a
-  by_answer (Ok u) f = f
-  by_answer (Err e) f = (f.0, f.1, f.2, (f.3.0, λ i k. w f.0 i e (f.3.1 i k)))
+pub answers_weaker : (R S : Judged) (side : Side) (t : FedSide) (steps : List AttackStep) (answers : List (Result (Unit {0}) Error)) → ((items : List Item) → R.takes items → S.takes items) → ((items : List Item) (i : Item) (e : Error) → R.refuses items i e → S.refuses items i e) → AreAnswers R side t steps answers → AreAnswers S side t steps answers
+answers_weaker R S side t [] [] v w h = tt
+answers_weaker R S side t [] (a ∷ answers) v w h = h
+answers_weaker R S side t (step ∷ steps) [] v w h = h
+answers_weaker R S side t (Submit s p ∷ steps) (a ∷ answers) v w h = (h.0, answers_weaker R S side t steps answers v w h.1)
+answers_weaker R S side t (Rekey s ∷ steps) (a ∷ answers) v w h = (h.0, answers_weaker R S side t steps answers v w h.1)
+answers_weaker R S side t (Feed s bytes ∷ steps) (a ∷ answers) v w h = (own (same_side s side) h.0, answers_weaker R S side _ steps answers v w h.1) where
+  by_answer : (a : Result (Unit {0}) Error) → FedAnswer R side t.config t.exchanges (t.fed ++ bytes) a → FedAnswer S side t.config t.exchanges (t.fed ++ bytes) a
+  by_answer (Ok u) f = (f.0, f.1, f.2, v f.0 f.3, f.4)
+  by_answer (Err e) f = (f.0, f.1, f.2, v f.0 f.3, (f.4.0, λ i k. w f.0 i e (f.4.1 i k)))
 
-  by_failed : (b : Bool) → Rattle.ssh_rules.specs.Attacked.AnswersFeedBy b R side t bytes a → Rattle.ssh_rules.specs.Attacked.AnswersFeedBy b S side t bytes a
+  by_failed : (b : Bool) → AnswersFeedBy b R side t bytes a → AnswersFeedBy b S side t bytes a
   by_failed true f = f
   by_failed false f = by_answer a f
 
-  own : (b : Bool) → Rattle.ssh_rules.specs.Attacked.IfOwn b (Rattle.ssh_rules.specs.Attacked.AnswersFeed R side t bytes a) → Rattle.ssh_rules.specs.Attacked.IfOwn b (Rattle.ssh_rules.specs.Attacked.AnswersFeed S side t bytes a)
+  own : (b : Bool) → IfOwn b (AnswersFeed R side t bytes a) → IfOwn b (AnswersFeed S side t bytes a)
   own true f = by_failed t.failed f
   own false f = f

@@ -13,8 +13,9 @@ use Rattle.ssh_wire.specs.declared.error.Error.TheVariants as errors
 use Rattle.ssh_wire.specs.declared.side.Side.{Side}
 use Rattle.ssh_kex.specs.declared.config.Config.{Config}
 use Rattle.ssh_kex.specs.declared.exchange.FinishedExchange.{FinishedExchange}
-use Rattle.ssh_rules.specs.Attacked.{AnswersFeed, AreAnswers, FedAnswer, FedSide, IfOwn, accepted_of, ends_asked, fed_to, feeds, first_refusal, submit_answer}
+use Rattle.ssh_rules.specs.Attacked.{AnswersFeed, AreAnswers, FedAnswer, FedSide, IfOwn, Judged, accepted_of, ends_asked, fed_to, feeds, first_refusal, submit_answer}
 use Rattle.ssh_rules.specs.Attacking.{AttackedEnd, AttacksSide, FeedsBy, FeedsEnd, OwnStep, RekeysBy, SubmitsBy, Tells}
+use Rattle.ssh_rules.specs.Wire.{HasFront}
 use Rattle.ssh_rules.specs.Handled.{AllRead, AtPacket, Handled, heard_in, id_text_in, packets_in}
 use Rattle.ssh_rules.specs.Asking.{AsksAtMost, PartCalls, kex_count, packet_of}
 use Rattle.ssh_rules.specs.Log.{handled, recorded}
@@ -44,6 +45,10 @@ pub record RefusesBehindLog (t : Tells) (side : Side) (config : Config) (log : L
   pub memory : e ≡ errors.Memory → ⊥
   pub refuses : RefusesPacket t.says t.denies t.untrusted side config at i e
 
+-- what is handled by then is of what the run handled
+abbrev pub judged_behind : Tells → Side → Config → List Event → Option (List ℕ) → Judged
+judged_behind t side config log heard = record { takes = HasFront (handled log); refuses = RefusesBehindLog t side config log heard }
+
 -- how a side stands at the end, by what its first refused feed was answered
 pub record FailedBy (t : Tells) (side : Side) (config : Config) (log : List Event) (fed : List ℕ) (accepted : List (List ℕ)) (error : Error) (e : AttackedEnd) : Type 0 where
   pub at : SideState
@@ -71,7 +76,7 @@ pub record EndsSide (t : Tells) (side : Side) (config : Config) (log : List Even
   pub more : List Event
   pub stands : StandsBy t side config (log ++ more) (fed ++ fed_to side steps) (accepted ++ accepted_of side steps answers) (first_refusal side steps answers) (ends_asked asked side steps answers) new
   pub taken : new.taken ≡ length (fed ++ fed_to side steps)
-  pub answered : AreAnswers (RefusesBehindLog t side config (log ++ more) (id_text_in (heard_in side (fed ++ fed_to side steps)))) side (fed_side config (recorded (log ++ more)) fed false) steps answers
+  pub answered : AreAnswers (judged_behind t side config (log ++ more) (id_text_in (heard_in side (fed ++ fed_to side steps)))) side (fed_side config (recorded (log ++ more)) fed false) steps answers
 
 -- ---- a side that failed
 
@@ -130,14 +135,14 @@ failed_feed t false bytes a old mid f o = record {
 }
 
 -- what happens to it from then on
-record Frozen (refuses : List Item → Item → Error → Type 0) (side : Side) (config : Config) (exchanges : List FinishedExchange) (fed : List ℕ) (steps : List AttackStep) (answers : List (Result (Unit {0}) Error)) (old new : AttackedEnd) : Type 0 where
+record Frozen (judged : Judged) (side : Side) (config : Config) (exchanges : List FinishedExchange) (fed : List ℕ) (steps : List AttackStep) (answers : List (Result (Unit {0}) Error)) (old new : AttackedEnd) : Type 0 where
   pub transport : new.transport ≡ old.transport
   pub delivered : new.delivered ≡ old.delivered
   pub calls : new.calls ≡ old.calls
   pub taken : new.taken ≡ old.taken + length (fed_to side steps)
   pub bytes : AreBytes (fed_to side steps)
   pub none : accepted_of side steps answers ≡ []
-  pub answered : AreAnswers refuses side (fed_side config exchanges fed true) steps answers
+  pub answered : AreAnswers judged side (fed_side config exchanges fed true) steps answers
 
 same_either : {A : Type 0} (b : Bool) (x : A) → (if b then x else x) ≡ x
 same_either true x = refl
@@ -155,8 +160,8 @@ none_either : (b : Bool) (p : List ℕ) (rest : List (List ℕ)) (u : Unit {0}) 
 none_either true p rest u h e = absurd (ok_err u errors.Disconnect h)
 none_either false p rest u h e = e
 
-frozen_submit_ok : (refuses : List Item → Item → Error → Type 0) (side : Side) (config : Config) (exchanges : List FinishedExchange) (fed : List ℕ) (s : Side) (p : List ℕ) (steps : List AttackStep) (u : Unit {0}) (answers : List (Result (Unit {0}) Error)) (old mid new : AttackedEnd) → StaysFailed (same_side s side) [] (Ok u) old mid → Frozen refuses side config exchanges fed steps answers mid new → Frozen refuses side config exchanges fed (Submit s p ∷ steps) (Ok u ∷ answers) old new
-frozen_submit_ok refuses side config exchanges fed s p steps u answers old mid new f g = record {
+frozen_submit_ok : (judged : Judged) (side : Side) (config : Config) (exchanges : List FinishedExchange) (fed : List ℕ) (s : Side) (p : List ℕ) (steps : List AttackStep) (u : Unit {0}) (answers : List (Result (Unit {0}) Error)) (old mid new : AttackedEnd) → StaysFailed (same_side s side) [] (Ok u) old mid → Frozen judged side config exchanges fed steps answers mid new → Frozen judged side config exchanges fed (Submit s p ∷ steps) (Ok u ∷ answers) old new
+frozen_submit_ok judged side config exchanges fed s p steps u answers old mid new f g = record {
   transport = g.transport ∙ f.transport;
   delivered = g.delivered ∙ f.delivered;
   calls = g.calls ∙ f.calls;
@@ -166,8 +171,8 @@ frozen_submit_ok refuses side config exchanges fed s p steps u answers old mid n
   answered = (f.answer, g.answered);
 }
 
-frozen_submit_err : (refuses : List Item → Item → Error → Type 0) (side : Side) (config : Config) (exchanges : List FinishedExchange) (fed : List ℕ) (s : Side) (p : List ℕ) (steps : List AttackStep) (e : Error) (answers : List (Result (Unit {0}) Error)) (old mid new : AttackedEnd) → StaysFailed (same_side s side) [] (Err e) old mid → Frozen refuses side config exchanges fed steps answers mid new → Frozen refuses side config exchanges fed (Submit s p ∷ steps) (Err e ∷ answers) old new
-frozen_submit_err refuses side config exchanges fed s p steps e answers old mid new f g = record {
+frozen_submit_err : (judged : Judged) (side : Side) (config : Config) (exchanges : List FinishedExchange) (fed : List ℕ) (s : Side) (p : List ℕ) (steps : List AttackStep) (e : Error) (answers : List (Result (Unit {0}) Error)) (old mid new : AttackedEnd) → StaysFailed (same_side s side) [] (Err e) old mid → Frozen judged side config exchanges fed steps answers mid new → Frozen judged side config exchanges fed (Submit s p ∷ steps) (Err e ∷ answers) old new
+frozen_submit_err judged side config exchanges fed s p steps e answers old mid new f g = record {
   transport = g.transport ∙ f.transport;
   delivered = g.delivered ∙ f.delivered;
   calls = g.calls ∙ f.calls;
@@ -177,8 +182,8 @@ frozen_submit_err refuses side config exchanges fed s p steps e answers old mid 
   answered = (f.answer, g.answered);
 }
 
-frozen_rekey : (refuses : List Item → Item → Error → Type 0) (side : Side) (config : Config) (exchanges : List FinishedExchange) (fed : List ℕ) (s : Side) (steps : List AttackStep) (a : Result (Unit {0}) Error) (answers : List (Result (Unit {0}) Error)) (old mid new : AttackedEnd) → StaysFailed (same_side s side) [] a old mid → Frozen refuses side config exchanges fed steps answers mid new → Frozen refuses side config exchanges fed (Rekey s ∷ steps) (a ∷ answers) old new
-frozen_rekey refuses side config exchanges fed s steps a answers old mid new f g = record {
+frozen_rekey : (judged : Judged) (side : Side) (config : Config) (exchanges : List FinishedExchange) (fed : List ℕ) (s : Side) (steps : List AttackStep) (a : Result (Unit {0}) Error) (answers : List (Result (Unit {0}) Error)) (old mid new : AttackedEnd) → StaysFailed (same_side s side) [] a old mid → Frozen judged side config exchanges fed steps answers mid new → Frozen judged side config exchanges fed (Rekey s ∷ steps) (a ∷ answers) old new
+frozen_rekey judged side config exchanges fed s steps a answers old mid new f g = record {
   transport = g.transport ∙ f.transport;
   delivered = g.delivered ∙ f.delivered;
   calls = g.calls ∙ f.calls;
@@ -188,22 +193,22 @@ frozen_rekey refuses side config exchanges fed s steps a answers old mid new f g
   answered = (f.answer, g.answered);
 }
 
-frozen_feed : (refuses : List Item → Item → Error → Type 0) (side : Side) (config : Config) (exchanges : List FinishedExchange) (fed : List ℕ) (s : Side) (bytes : List ℕ) (steps : List AttackStep) (a : Result (Unit {0}) Error) (answers : List (Result (Unit {0}) Error)) (old mid new : AttackedEnd) → StaysFailed (same_side s side) bytes a old mid → Frozen refuses side config exchanges fed steps answers mid new → Frozen refuses side config exchanges fed (Feed s bytes ∷ steps) (a ∷ answers) old new
-frozen_feed refuses side config exchanges fed s bytes steps a answers old mid new f g = record {
+frozen_feed : (judged : Judged) (side : Side) (config : Config) (exchanges : List FinishedExchange) (fed : List ℕ) (s : Side) (bytes : List ℕ) (steps : List AttackStep) (a : Result (Unit {0}) Error) (answers : List (Result (Unit {0}) Error)) (old mid new : AttackedEnd) → StaysFailed (same_side s side) bytes a old mid → Frozen judged side config exchanges fed steps answers mid new → Frozen judged side config exchanges fed (Feed s bytes ∷ steps) (a ∷ answers) old new
+frozen_feed judged side config exchanges fed s bytes steps a answers old mid new f g = record {
   transport = g.transport ∙ f.transport;
   delivered = g.delivered ∙ f.delivered;
   calls = g.calls ∙ f.calls;
   taken = (let x = g.taken in let b = f.taken in let z = length_either (same_side s side) bytes (fed_to side steps) in omega (arith, x, b, z));
   bytes = bytes_either (same_side s side) bytes (fed_to side steps) f.are_bytes g.bytes;
   none = g.none;
-  answered = (f.answer, subst (λ x. AreAnswers refuses side x steps answers) (sym (same_either (same_side s side) (fed_side config exchanges fed true))) g.answered);
+  answered = (f.answer, subst (λ x. AreAnswers judged side x steps answers) (sym (same_either (same_side s side) (fed_side config exchanges fed true))) g.answered);
 }
 
 failed_on : (b : Bool) (bytes : List ℕ) (a : Result (Unit {0}) Error) (old mid : AttackedEnd) → StaysFailed b bytes a old mid → old.transport.failed ≡ true → mid.transport.failed ≡ true
 failed_on b bytes a old mid s f = ap (λ (x : Standing). x.failed) s.transport ∙ f
 
-frozen : (refuses : List Item → Item → Error → Type 0) (t : Tells) (side : Side) (config : Config) (exchanges : List FinishedExchange) (fed : List ℕ) (steps : List AttackStep) (answers : List (Result (Unit {0}) Error)) (old new : AttackedEnd) → old.transport.failed ≡ true → AttacksSide t side steps answers old new → Frozen refuses side config exchanges fed steps answers old new
-frozen refuses t side config exchanges fed [] [] old new f h = record {
+frozen : (judged : Judged) (t : Tells) (side : Side) (config : Config) (exchanges : List FinishedExchange) (fed : List ℕ) (steps : List AttackStep) (answers : List (Result (Unit {0}) Error)) (old new : AttackedEnd) → old.transport.failed ≡ true → AttacksSide t side steps answers old new → Frozen judged side config exchanges fed steps answers old new
+frozen judged t side config exchanges fed [] [] old new f h = record {
   transport = ap (λ (x : AttackedEnd). x.transport) h;
   delivered = ap (λ (x : AttackedEnd). x.delivered) h;
   calls = ap (λ (x : AttackedEnd). x.calls) h;
@@ -212,20 +217,20 @@ frozen refuses t side config exchanges fed [] [] old new f h = record {
   none = refl;
   answered = tt;
 }
-frozen refuses t side config exchanges fed [] (a ∷ answers) old new f h = absurd h
-frozen refuses t side config exchanges fed (step ∷ steps) [] old new f h = absurd h
-frozen refuses t side config exchanges fed (Submit s p ∷ steps) (Ok u ∷ answers) old new f h =
+frozen judged t side config exchanges fed [] (a ∷ answers) old new f h = absurd h
+frozen judged t side config exchanges fed (step ∷ steps) [] old new f h = absurd h
+frozen judged t side config exchanges fed (Submit s p ∷ steps) (Ok u ∷ answers) old new f h =
     let d = failed_submit t (same_side s side) p (Ok u) old h.0 f h.1 in
-    frozen_submit_ok refuses side config exchanges fed s p steps u answers old h.0 new d (frozen refuses t side config exchanges fed steps answers h.0 new (failed_on (same_side s side) [] (Ok u) old h.0 d f) h.2)
-frozen refuses t side config exchanges fed (Submit s p ∷ steps) (Err e ∷ answers) old new f h =
+    frozen_submit_ok judged side config exchanges fed s p steps u answers old h.0 new d (frozen judged t side config exchanges fed steps answers h.0 new (failed_on (same_side s side) [] (Ok u) old h.0 d f) h.2)
+frozen judged t side config exchanges fed (Submit s p ∷ steps) (Err e ∷ answers) old new f h =
     let d = failed_submit t (same_side s side) p (Err e) old h.0 f h.1 in
-    frozen_submit_err refuses side config exchanges fed s p steps e answers old h.0 new d (frozen refuses t side config exchanges fed steps answers h.0 new (failed_on (same_side s side) [] (Err e) old h.0 d f) h.2)
-frozen refuses t side config exchanges fed (Rekey s ∷ steps) (a ∷ answers) old new f h =
+    frozen_submit_err judged side config exchanges fed s p steps e answers old h.0 new d (frozen judged t side config exchanges fed steps answers h.0 new (failed_on (same_side s side) [] (Err e) old h.0 d f) h.2)
+frozen judged t side config exchanges fed (Rekey s ∷ steps) (a ∷ answers) old new f h =
     let d = failed_rekey t (same_side s side) a old h.0 f h.1 in
-    frozen_rekey refuses side config exchanges fed s steps a answers old h.0 new d (frozen refuses t side config exchanges fed steps answers h.0 new (failed_on (same_side s side) [] a old h.0 d f) h.2)
-frozen refuses t side config exchanges fed (Feed s bytes ∷ steps) (a ∷ answers) old new f h =
+    frozen_rekey judged side config exchanges fed s steps a answers old h.0 new d (frozen judged t side config exchanges fed steps answers h.0 new (failed_on (same_side s side) [] a old h.0 d f) h.2)
+frozen judged t side config exchanges fed (Feed s bytes ∷ steps) (a ∷ answers) old new f h =
     let d = failed_feed t (same_side s side) bytes a old h.0 f h.1 in
-    frozen_feed refuses side config exchanges fed s bytes steps a answers old h.0 new d (frozen refuses t side config exchanges fed steps answers h.0 new (failed_on (same_side s side) bytes a old h.0 d f) h.2)
+    frozen_feed judged side config exchanges fed s bytes steps a answers old h.0 new d (frozen judged t side config exchanges fed steps answers h.0 new (failed_on (same_side s side) bytes a old h.0 d f) h.2)
 
 -- ---- how often the parts were asked
 
@@ -280,12 +285,13 @@ fails_here t side config log fed bytes accepted asked e old mid l n f = by (subs
 
 -- why it was answered so
 fails_answer : (t : Tells) (side : Side) (config : Config) (log : List Event) (fed after : List ℕ) (accepted : List (List ℕ)) (e : Error) (mid : AttackedEnd) → FailedBy t side config log fed accepted e mid → AreBytes after
-    → FedAnswer (RefusesBehindLog t side config log (id_text_in (heard_in side (fed ++ after)))) side config (recorded log) fed (Err e)
+    → FedAnswer (judged_behind t side config log (id_text_in (heard_in side (fed ++ after)))) side config (recorded log) fed (Err e)
 fails_answer t side config log fed after accepted e mid f b =
     let s = f.stands in (
       handled log,
       ending_of f.cause,
       handled_by_cause t.says side config log f.at f.cause fed s.left s.steps s.read s.bytes s.next,
+      ([], append-nil (handled log)),
       (ends_as t.says t.denies t.untrusted side config fed s.left f.cause f.at e f.answers f.memory s.next, packet f.cause s.idle s.next f.answers),
     )
   where
@@ -308,12 +314,13 @@ heard_good side fed done behind heard (Waiting bytes others) g e = (let z : NotY
 heard_good side fed done behind heard (Heard text) g e = (let z : Id text g.line_is.0 ≡ Version = sym g.line_is.1 ∙ e in cc)
 heard_good side fed done behind heard Failed g e = absurd g.line_is
 
-live_answer : (refuses : List Item → Item → Error → Type 0) (t : Tells) (side : Side) (config : Config) (log more : List Event) (fed : List ℕ) (accepted : List (List ℕ)) (asked : Bool) (u : Unit {0}) (e : AttackedEnd) → LiveSide t.says side config log e.transport fed accepted e.delivered asked
-    → FedAnswer refuses side config (recorded (log ++ more)) fed (Ok u)
-live_answer refuses t side config log more fed accepted asked u e l = (
+live_answer : (judged : Judged) (t : Tells) (side : Side) (config : Config) (log more : List Event) (fed : List ℕ) (accepted : List (List ℕ)) (asked : Bool) (u : Unit {0}) (e : AttackedEnd) → LiveSide t.says side config log e.transport fed accepted e.delivered asked
+    → judged.takes (handled log) → FedAnswer judged side config (recorded (log ++ more)) fed (Ok u)
+live_answer judged t side config log more fed accepted asked u e l takes = (
   handled log,
   AllRead,
   subst (λ xs. Handled side config xs (packets_in (heard_in side fed) fed) (handled log) AllRead) (sym (recorded_more log more)) (run_so_far t.says side config (id_text config.id) log e.transport.state (packets_in (heard_in side fed) fed) e.transport.waiting (recorded more) l.steps l.line.read l.part),
+  takes,
   (refl, heard_good side fed _ _ _ e.transport.line l.line),
 )
 
@@ -377,11 +384,11 @@ live_end t side config log fed accepted asked old l n = record {
 stands_at : (t : Tells) (side : Side) (config : Config) (refusal : Option Error) (asked : Bool) (new : AttackedEnd) (log log' : List Event) (fed fed' : List ℕ) (accepted accepted' : List (List ℕ)) → log ≡ log' → fed ≡ fed' → accepted ≡ accepted' → StandsBy t side config log fed accepted refusal asked new → StandsBy t side config log' fed' accepted' refusal asked new
 stands_at t side config refusal asked new log log' fed fed' accepted accepted' e f g h = subst (λ x. StandsBy t side config log' fed' x refusal asked new) g (subst (λ x. StandsBy t side config log' x accepted refusal asked new) f (subst (λ x. StandsBy t side config x fed accepted refusal asked new) e h))
 
-answers_at : (t : Tells) (side : Side) (config : Config) (steps : List AttackStep) (answers : List (Result (Unit {0}) Error)) (log log' : List Event) (all all' fed fed' : List ℕ) → log ≡ log' → all ≡ all' → fed ≡ fed' → AreAnswers (RefusesBehindLog t side config log (id_text_in (heard_in side all))) side (fed_side config (recorded log) fed false) steps answers → AreAnswers (RefusesBehindLog t side config log' (id_text_in (heard_in side all'))) side (fed_side config (recorded log') fed' false) steps answers
+answers_at : (t : Tells) (side : Side) (config : Config) (steps : List AttackStep) (answers : List (Result (Unit {0}) Error)) (log log' : List Event) (all all' fed fed' : List ℕ) → log ≡ log' → all ≡ all' → fed ≡ fed' → AreAnswers (judged_behind t side config log (id_text_in (heard_in side all))) side (fed_side config (recorded log) fed false) steps answers → AreAnswers (judged_behind t side config log' (id_text_in (heard_in side all'))) side (fed_side config (recorded log') fed' false) steps answers
 answers_at t side config steps answers log log' all all' fed fed' e f g h =
-    subst (λ x. AreAnswers (RefusesBehindLog t side config log' (id_text_in (heard_in side all'))) side (fed_side config (recorded log') x false) steps answers) g
-    (subst (λ x. AreAnswers (RefusesBehindLog t side config log' (id_text_in (heard_in side x))) side (fed_side config (recorded log') fed false) steps answers) f
-    (subst (λ x. AreAnswers (RefusesBehindLog t side config x (id_text_in (heard_in side all))) side (fed_side config (recorded x) fed false) steps answers) e h))
+    subst (λ x. AreAnswers (judged_behind t side config log' (id_text_in (heard_in side all'))) side (fed_side config (recorded log') x false) steps answers) g
+    (subst (λ x. AreAnswers (judged_behind t side config log' (id_text_in (heard_in side x))) side (fed_side config (recorded log') fed false) steps answers) f
+    (subst (λ x. AreAnswers (judged_behind t side config x (id_text_in (heard_in side all))) side (fed_side config (recorded x) fed false) steps answers) e h))
 
 -- a submit that was accepted
 submit_ok : (t : Tells) (side : Side) (config : Config) (log : List Event) (fed p : List ℕ) (accepted : List (List ℕ)) (asked : Bool) (u : Unit {0}) (old mid : AttackedEnd) → LiveSide t.says side config log old.transport fed accepted old.delivered asked → Counts t log fed old → SubmitsBy old.transport.failed t old p (Ok u) mid → (is_good_payload p ≡ true) × StepsLive t side config log fed (accepted ++ p ∷ []) false mid
@@ -493,15 +500,15 @@ FedAll b fed bytes rest = fed ++ (if b then bytes ++ rest else rest)
 
 abbrev FeedAnswered : Bool → Tells → Side → Config → List Event → (fed bytes rest : List ℕ) → Result (Unit {0}) Error → List AttackStep → List (Result (Unit {0}) Error) → Type 0
 FeedAnswered c t side config log fed bytes rest a steps answers =
-    IfOwn c (AnswersFeed (RefusesBehindLog t side config log (id_text_in (heard_in side (FedAll c fed bytes rest)))) side (fed_side config (recorded log) fed false) bytes a)
-    × AreAnswers (RefusesBehindLog t side config log (id_text_in (heard_in side (FedAll c fed bytes rest)))) side (if c then feeds (fed_side config (recorded log) fed false) bytes a else fed_side config (recorded log) fed false) steps answers
+    IfOwn c (AnswersFeed (judged_behind t side config log (id_text_in (heard_in side (FedAll c fed bytes rest)))) side (fed_side config (recorded log) fed false) bytes a)
+    × AreAnswers (judged_behind t side config log (id_text_in (heard_in side (FedAll c fed bytes rest)))) side (if c then feeds (fed_side config (recorded log) fed false) bytes a else fed_side config (recorded log) fed false) steps answers
 
 feed_answered : (b : Bool) (t : Tells) (side : Side) (config : Config) (log : List Event) (fed bytes : List ℕ) (accepted : List (List ℕ)) (asked : Bool) (u : Unit {0}) (steps : List AttackStep) (answers : List (Result (Unit {0}) Error)) (mid : AttackedEnd) (d : StepsLive t side config log (if b then fed ++ bytes else fed) accepted asked mid) (more : List Event)
-    → AreAnswers (RefusesBehindLog t side config ((log ++ d.more) ++ more) (id_text_in (heard_in side ((if b then fed ++ bytes else fed) ++ fed_to side steps)))) side (fed_side config (recorded ((log ++ d.more) ++ more)) (if b then fed ++ bytes else fed) false) steps answers
+    → AreAnswers (judged_behind t side config ((log ++ d.more) ++ more) (id_text_in (heard_in side ((if b then fed ++ bytes else fed) ++ fed_to side steps)))) side (fed_side config (recorded ((log ++ d.more) ++ more)) (if b then fed ++ bytes else fed) false) steps answers
     → FeedAnswered b t side config (log ++ (d.more ++ more)) fed bytes (fed_to side steps) (Ok u) steps answers
 feed_answered true t side config log fed bytes accepted asked u steps answers mid d more h = (
-  subst (λ l. FedAnswer (RefusesBehindLog t side config l (id_text_in (heard_in side (fed ++ (bytes ++ fed_to side steps))))) side config (recorded l) (fed ++ bytes) (Ok u)) (append_assoc log d.more more)
-      (live_answer (RefusesBehindLog t side config ((log ++ d.more) ++ more) (id_text_in (heard_in side (fed ++ (bytes ++ fed_to side steps))))) t side config (log ++ d.more) more (fed ++ bytes) accepted asked u mid d.live),
+  subst (λ l. FedAnswer (judged_behind t side config l (id_text_in (heard_in side (fed ++ (bytes ++ fed_to side steps))))) side config (recorded l) (fed ++ bytes) (Ok u)) (append_assoc log d.more more)
+      (live_answer (judged_behind t side config ((log ++ d.more) ++ more) (id_text_in (heard_in side (fed ++ (bytes ++ fed_to side steps))))) t side config (log ++ d.more) more (fed ++ bytes) accepted asked u mid d.live (handled more, sym (handled_more (log ++ d.more) more))),
   answers_at t side config steps answers _ _ _ _ (fed ++ bytes) (fed ++ bytes) (append_assoc log d.more more) (append_assoc fed bytes (fed_to side steps)) refl h,
 )
 feed_answered false t side config log fed bytes accepted asked u steps answers mid d more h = (tt, answers_at t side config steps answers _ _ _ _ fed fed (append_assoc log d.more more) refl refl h)
@@ -536,11 +543,11 @@ run_feed_refused : (t : Tells) (side : Side) (config : Config) (log : List Event
 run_feed_refused t side config log fed accepted asked s bytes steps f answers old mid new e l n h rest =
     let d = fails_here t side config log fed bytes accepted asked f old mid l n h in
     let all = fed ++ (bytes ++ fed_to side steps) in
-    let z = frozen (RefusesBehindLog t side config (log ++ d.more) (id_text_in (heard_in side (fed ++ (bytes ++ fed_to side steps))))) t side config (recorded (log ++ d.more)) (fed ++ bytes) steps answers mid new d.failed.stands.failed rest in
+    let z = frozen (judged_behind t side config (log ++ d.more) (id_text_in (heard_in side (fed ++ (bytes ++ fed_to side steps))))) t side config (recorded (log ++ d.more)) (fed ++ bytes) steps answers mid new d.failed.stands.failed rest in
     let on = failed_more t.says side config (log ++ d.more) d.failed.at d.failed.cause mid.transport (fed ++ bytes) (fed_to side steps) accepted mid.delivered (AreBytes-append (fed ++ bytes) (fed_to side steps) d.failed.stands.bytes z.bytes) d.failed.stands in
     let there : FailedSide t.says side config (log ++ d.more) d.failed.at d.failed.cause new.transport ((fed ++ bytes) ++ fed_to side steps) accepted new.delivered = subst (λ x. FailedSide t.says side config (log ++ d.more) d.failed.at d.failed.cause new.transport ((fed ++ bytes) ++ fed_to side steps) accepted x) (sym z.delivered) (subst (λ x. FailedSide t.says side config (log ++ d.more) d.failed.at d.failed.cause x ((fed ++ bytes) ++ fed_to side steps) accepted mid.delivered) (sym z.transport) on) in
     let by_end : FailedBy t side config (log ++ d.more) (fed ++ (bytes ++ fed_to side steps)) (accepted ++ accepted_of side steps answers) f new = subst (λ x. FailedBy t side config (log ++ d.more) (fed ++ (bytes ++ fed_to side steps)) x f new) (sym (ap (λ q. accepted ++ q) z.none ∙ append-nil accepted)) (subst (λ x. FailedBy t side config (log ++ d.more) x accepted f new) (append_assoc fed bytes (fed_to side steps)) (record { at = d.failed.at; cause = d.failed.cause; stands = there; answers = d.failed.answers; memory = d.failed.memory; asks = subst (λ q. AsksAtMost (kex_count (handled (log ++ d.more) ++ packet_of d.failed.cause)) t.calls q) (sym z.calls) d.failed.asks })) in
-    let here : FedAnswer (RefusesBehindLog t side config (log ++ d.more) (id_text_in (heard_in side (fed ++ (bytes ++ fed_to side steps))))) side config (recorded (log ++ d.more)) (fed ++ bytes) (Err f) = subst (λ x. FedAnswer (RefusesBehindLog t side config (log ++ d.more) (id_text_in (heard_in side x))) side config (recorded (log ++ d.more)) (fed ++ bytes) (Err f)) (append_assoc fed bytes (fed_to side steps)) (fails_answer t side config (log ++ d.more) (fed ++ bytes) (fed_to side steps) accepted f mid d.failed z.bytes) in
+    let here : FedAnswer (judged_behind t side config (log ++ d.more) (id_text_in (heard_in side (fed ++ (bytes ++ fed_to side steps))))) side config (recorded (log ++ d.more)) (fed ++ bytes) (Err f) = subst (λ x. FedAnswer (judged_behind t side config (log ++ d.more) (id_text_in (heard_in side x))) side config (recorded (log ++ d.more)) (fed ++ bytes) (Err f)) (append_assoc fed bytes (fed_to side steps)) (fails_answer t side config (log ++ d.more) (fed ++ bytes) (fed_to side steps) accepted f mid d.failed z.bytes) in
     record {
       more = d.more;
       stands = subst (λ c. StandsBy t side config (log ++ d.more) (FedAll c fed bytes (fed_to side steps)) (accepted ++ accepted_of side steps answers) (if c then Some f else first_refusal side steps answers) (ends_asked (if c then false else asked) side steps answers) new) (sym e) by_end;

@@ -48,8 +48,8 @@ pub use Rattle.ssh_rules.proofs.NoneRefused.{AreMet, host_presented, nothing_ref
 pub use Rattle.ssh_rules.proofs.RefusedTurns.{fit_of, AreLawful, refused_turn}
 pub use Rattle.ssh_rules.proofs.LinkCauses.{Causes, Tells, link_cause, none_in_link, offers_by}
 pub use Rattle.ssh_rules.proofs.AnyRefusals.{any_refused, client_played, reached_played, server_played}
-pub use Rattle.ssh_rules.proofs.Obliged.{AreSmall, Duties}
-pub use Rattle.ssh_rules.proofs.Owed.{PartLaws, duties_of, small_of}
+pub use Rattle.ssh_rules.proofs.Obliged.{AreSmall, Duties, Owes}
+pub use Rattle.ssh_rules.proofs.Owed.{PartLaws, duties_of, owes_of, small_of}
 pub use Rattle.ssh_rules.proofs.RunHandled.{behind_handled, handled_place, run_handled, run_faulted}
 pub use Rattle.ssh_rules.proofs.Numbers.{few_run}
 pub use Rattle.ssh_rules.proofs.Moved.{same_mark}

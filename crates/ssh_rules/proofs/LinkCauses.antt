@@ -16,8 +16,9 @@ use Rattle.ssh_negotiate.specs.Laws.{IsWithin, own_list, peer_list, side_answer}
 use Rattle.ssh_negotiate.specs.Reading.{KexinitFault, NoCommon, names_read}
 use Rattle.ssh_negotiate.specs.declared.kex.Name.{Name as KexName}
 use Rattle.ssh_negotiate.specs.declared.negotiation.Names.{Names}
+use Rattle.ssh_negotiate.specs.declared.preferred.HostKey.{HostKey}
 use Rattle.ssh_kex.specs.Messages.{is_gex}
-use Rattle.ssh_kex.specs.Parts.{Setup}
+use Rattle.ssh_kex.specs.Parts.{Presents, Setup}
 use Rattle.ssh_kex.specs.Refusals.{Denies, IsCreated, IsOutOfRange, PartDenies, RefusesMessage, SignatureDenied, SigningDenied, kexinit_read}
 use Rattle.ssh_kex.specs.Fields.{IsInside, IsOutside}
 use Rattle.ssh_kex.specs.Setting.{Says, Setting, offers_of}
@@ -42,7 +43,7 @@ use Rattle.ssh_rules.proofs.LinkWire.{HoldsChosen, names_here}
 use Rattle.ssh_rules.proofs.Next.{Goes}
 use Rattle.ssh_rules.proofs.NextWhole.{WritesNext, next_whole}
 use Rattle.ssh_rules.proofs.NoneRefused.{AreMet, faced, host_presented, is_next, nothing_refused, parts_decide}
-use Rattle.ssh_rules.proofs.Obliged.{AreSmall, Duties, IsMet, ReadsKex, never_outside, not_unoffered}
+use Rattle.ssh_rules.proofs.Obliged.{AreSmall, Duties, IsMet, Owes, ReadsKex, met_denied, met_missigned, met_unsigned, never_outside, not_unoffered}
 use Rattle.ssh_rules.proofs.OnlyParts.{readable_type}
 use Rattle.ssh_rules.proofs.RefusedTurns.{AreLawful, SeenBy, fit_of, goes_on, heads_seen, kept_seen, readable_next, seen_by}
 use Rattle.ssh_rules.proofs.StageFits.{FitsStage, Trace, no_trace}
@@ -74,15 +75,6 @@ StageIs says s stage = IsCreated stage ⊎ ((own : List (List ℕ)) × (theirs :
 
 not_created : (stage : Stage) (k : List ℕ) → ((own : List ℕ) → stage ≡ Created own → ⊥) → IsCreated stage → ⊥
 not_created stage k n c = n c.0 c.1
-
-denied : (says : Says) (denies : Denies) (untrusted : ServerHost → Type 0) (r : Rises) (s : Setting) (stage : Stage) (seqn : ℕ) (payload : List ℕ) → Tells denies untrusted r → StageIs says s stage → PartDenies says denies s stage seqn payload → r.agreement ⊎ ((s.side ≡ Server) × r.lookup)
-denied says denies untrusted r s (Created own) seqn payload t f h = inl (t.start h.names.kex None h.denied)
-denied says denies untrusted r s (AwaitsGroup o) seqn payload t f h = inl (t.start o.names.kex (Some h.group) h.denied)
-denied says denies untrusted r s (AwaitsReply o gex local public) seqn payload t f h = inl (t.reply _ _ _ _ h.denied)
-denied says denies untrusted r s (AwaitsRequest o) seqn payload t (inl c) h = absurd (let q : AwaitsRequest o ≡ Created c.0 = c.1 in cc)
-denied says denies untrusted r s (AwaitsRequest o) seqn payload t (inr f) h = inr ((f.2).server, t.lookup h.sizes h.denied)
-denied says denies untrusted r s (AwaitsValue o gex) seqn payload t f h = inl (t.value _ _ _ h.denied)
-denied says denies untrusted r s (AwaitsNewkeys exchange made host) seqn payload t f h = absurd h
 
 pub missigned : (says : Says) (denies : Denies) (untrusted : ServerHost → Type 0) (r : Rises) (s : Setting) (stage : Stage) (payload : List ℕ) → Tells denies untrusted r → StageIs says s stage → SignatureDenied says denies s stage payload → (s.side ≡ Client) × r.verifying
 missigned says denies untrusted r s (Created own) payload t f h = absurd h
@@ -243,7 +235,8 @@ none_cause says denies r config side offered group s own seqn payload kind error
 pub record Causes (says : Side → Says) (config : Side → Config) (side : Side) (denies : Denies) (untrusted : ServerHost → Type 0) (r : Rises) (offered : KexName → Bool) (group : DhGroup) : Type 0 where
   pub lawful : AreLawful says config
   pub small : AreSmall (says side) side (config (other_side side)).gex
-  pub tells : Tells denies untrusted r
+  pub owes : (kex : KexName) → Owes says config side kex denies r
+  pub checks : (host : ServerHost) (key : HostKey) → side ≡ Client → Presents (config Server) host key host.algorithm → untrusted host → r.checking
   pub offers : (name : KexName) → offered name ≡ true → (says side).offers name
   pub finds : (g : DhGroup) → (says Server).finds (config Client).gex g → g ≡ group
 
@@ -251,8 +244,8 @@ by_offer : (b : Bool) → (b ≡ true → ⊥) → b ≡ false
 by_offer true h = absurd (h refl)
 by_offer false h = refl
 
-chosen_cause : (says : Side → Says) (config : Side → Config) (side : Side) (denies : Denies) (untrusted : ServerHost → Type 0) (r : Rises) (offered : KexName → Bool) (group : DhGroup) (s : Setting) (stage : Stage) (seqn : ℕ) (payload : List ℕ) (names : Names) (e : Error) → Causes says config side denies untrusted r offered group → s.side ≡ side → chosen_by (config Client) (config Server) ≡ Ok names → StageIs (says side) s stage → ((n : Names) → names_of stage ≡ Some n → HoldsChosen config n) → IsMet says config s stage payload → ReadsKex s stage payload names.kex → PartsDecide (says side) denies s stage seqn payload e → IsCauseOf r side config offered group e
-chosen_cause says config side denies untrusted r offered group s stage seqn payload names errors.KexInit c at chosen f holds met kex h =
+chosen_cause : (says : Side → Says) (config : Side → Config) (side : Side) (denies : Denies) (untrusted : ServerHost → Type 0) (r : Rises) (offered : KexName → Bool) (group : DhGroup) (s : Setting) (stage : Stage) (seqn : ℕ) (payload : List ℕ) (names : Names) (e : Error) → Causes says config side denies untrusted r offered group → s.side ≡ side → chosen_by (config Client) (config Server) ≡ Ok names → StageIs (says side) s stage → ((n : Names) → names_of stage ≡ Some n → HoldsChosen config n) → IsMet says config s stage payload → ReadsKex s stage payload names.kex → IsReadable (other_side s.side) (config (other_side s.side)) stage payload → PartsDecide (says side) denies s stage seqn payload e → IsCauseOf r side config offered group e
+chosen_cause says config side denies untrusted r offered group s stage seqn payload names errors.KexInit c at chosen f holds met kex readable h =
     let k = group_kind (says side) s stage payload f h in
     let n = holds k.0 k.1 in (
       ap kind_by n.chosen ∙ (ap is_gex n.kex ∙ k.2),
@@ -261,27 +254,27 @@ chosen_cause says config side denies untrusted r offered group s stage seqn payl
         | inr o ↦ o
       ],
     )
-chosen_cause says config side denies untrusted r offered group s stage seqn payload names errors.UnknownAlgo c at chosen f holds met kex h = record { names = names; chosen = chosen; none = by_offer (offered names.kex) (λ o. not_unoffered (says side) s stage seqn payload names.kex (c.offers names.kex o) kex h) }
-chosen_cause says config side denies untrusted r offered group s stage seqn payload names (errors.NoCommonAlgo kind ours theirs) c at chosen f holds met kex h = absurd h
-chosen_cause says config side denies untrusted r offered group s stage seqn payload names errors.Version c at chosen f holds met kex h = h
-chosen_cause says config side denies untrusted r offered group s stage seqn payload names errors.Kex c at chosen f holds met kex h = elim (denied (says side) denies untrusted r s stage seqn payload c.tells f h) [
+chosen_cause says config side denies untrusted r offered group s stage seqn payload names errors.UnknownAlgo c at chosen f holds met kex readable h = record { names = names; chosen = chosen; none = by_offer (offered names.kex) (λ o. not_unoffered (says side) s stage seqn payload names.kex (c.offers names.kex o) kex h) }
+chosen_cause says config side denies untrusted r offered group s stage seqn payload names (errors.NoCommonAlgo kind ours theirs) c at chosen f holds met kex readable h = absurd h
+chosen_cause says config side denies untrusted r offered group s stage seqn payload names errors.Version c at chosen f holds met kex readable h = h
+chosen_cause says config side denies untrusted r offered group s stage seqn payload names errors.Kex c at chosen f holds met kex readable h = elim (met_denied says config s stage seqn payload names.kex denies r (subst (λ z. Owes says config z names.kex denies r) (sym at) (c.owes names.kex)) met readable kex (subst (λ z. PartDenies (says z) denies s stage seqn payload) (sym at) h)) [
   | inl a ↦ inl a
   | inr l ↦ inr (sym at ∙ l.0, l.1)
 ]
-chosen_cause says config side denies untrusted r offered group s stage seqn payload names errors.PacketAuth c at chosen f holds met kex h = h
-chosen_cause says config side denies untrusted r offered group s stage seqn payload names errors.Inconsistent c at chosen f holds met kex h = h
-chosen_cause says config side denies untrusted r offered group s stage seqn payload names errors.IndexOutOfBounds c at chosen f holds met kex h = h
-chosen_cause says config side denies untrusted r offered group s stage seqn payload names errors.UnknownKey c at chosen f holds met kex h = absurd h
-chosen_cause says config side denies untrusted r offered group s stage seqn payload names errors.WrongServerSig c at chosen f holds met kex h = (let m = missigned (says side) denies untrusted r s stage payload c.tells f h in (sym at ∙ m.0, m.1))
-chosen_cause says config side denies untrusted r offered group s stage seqn payload names (errors.PacketSize n) c at chosen f holds met kex h = h
-chosen_cause says config side denies untrusted r offered group s stage seqn payload names errors.Disconnect c at chosen f holds met kex h = h
-chosen_cause says config side denies untrusted r offered group s stage seqn payload names errors.DecryptionError c at chosen f holds met kex h = h
-chosen_cause says config side denies untrusted r offered group s stage seqn payload names errors.IO c at chosen f holds met kex h = h
-chosen_cause says config side denies untrusted r offered group s stage seqn payload names (errors.StrictKeyExchangeViolation type place) c at chosen f holds met kex h = h
-chosen_cause says config side denies untrusted r offered group s stage seqn payload names errors.Signature c at chosen f holds met kex h = (let m = unsigned (says side) denies untrusted r s stage payload c.tells f h in (sym at ∙ m.0, m.1))
-chosen_cause says config side denies untrusted r offered group s stage seqn payload names (errors.SshEncoding fault) c at chosen f holds met kex h = h
-chosen_cause says config side denies untrusted r offered group s stage seqn payload names (errors.InvalidConfig fault) c at chosen f holds met kex h = h
-chosen_cause says config side denies untrusted r offered group s stage seqn payload names errors.Memory c at chosen f holds met kex h = tt
+chosen_cause says config side denies untrusted r offered group s stage seqn payload names errors.PacketAuth c at chosen f holds met kex readable h = h
+chosen_cause says config side denies untrusted r offered group s stage seqn payload names errors.Inconsistent c at chosen f holds met kex readable h = h
+chosen_cause says config side denies untrusted r offered group s stage seqn payload names errors.IndexOutOfBounds c at chosen f holds met kex readable h = h
+chosen_cause says config side denies untrusted r offered group s stage seqn payload names errors.UnknownKey c at chosen f holds met kex readable h = absurd h
+chosen_cause says config side denies untrusted r offered group s stage seqn payload names errors.WrongServerSig c at chosen f holds met kex readable h = (let m = met_missigned says config s stage payload names.kex denies r (subst (λ z. Owes says config z names.kex denies r) (sym at) (c.owes names.kex)) met (subst (λ z. SignatureDenied (says z) denies s stage payload) (sym at) h) in (sym at ∙ m.0, m.1))
+chosen_cause says config side denies untrusted r offered group s stage seqn payload names (errors.PacketSize n) c at chosen f holds met kex readable h = h
+chosen_cause says config side denies untrusted r offered group s stage seqn payload names errors.Disconnect c at chosen f holds met kex readable h = h
+chosen_cause says config side denies untrusted r offered group s stage seqn payload names errors.DecryptionError c at chosen f holds met kex readable h = h
+chosen_cause says config side denies untrusted r offered group s stage seqn payload names errors.IO c at chosen f holds met kex readable h = h
+chosen_cause says config side denies untrusted r offered group s stage seqn payload names (errors.StrictKeyExchangeViolation type place) c at chosen f holds met kex readable h = h
+chosen_cause says config side denies untrusted r offered group s stage seqn payload names errors.Signature c at chosen f holds met kex readable h = (let m = met_unsigned says config s stage payload names.kex denies r (subst (λ z. Owes says config z names.kex denies r) (sym at) (c.owes names.kex)) met h in (sym at ∙ m.0, m.1))
+chosen_cause says config side denies untrusted r offered group s stage seqn payload names (errors.SshEncoding fault) c at chosen f holds met kex readable h = h
+chosen_cause says config side denies untrusted r offered group s stage seqn payload names (errors.InvalidConfig fault) c at chosen f holds met kex readable h = h
+chosen_cause says config side denies untrusted r offered group s stage seqn payload names errors.Memory c at chosen f holds met kex readable h = tt
 
 -- ---- both
 
@@ -313,6 +306,7 @@ message_cause says config side denies untrusted r offered group w cl sl e c x = 
       let m = met_by_lawful says config names c.lawful chosen in
       let f = faced says config names side (one_of side w.client w.server) x.stage x.item m (is_next says config names w cl sl side x.stage x.item m x.awaits) in
       chosen_cause says config side denies untrusted r offered group s x.stage (next_number st.reading.number) x.item.payload names e c (setting_side side (config side) (id_text (config side).id) st) chosen seen.stage_is seen.holds f.met f.kex
+      (subst (λ z. IsReadable (other_side z) (config (other_side z)) x.stage x.item.payload) (sym (setting_side side (config side) (id_text (config side).id) st)) seen.readable)
       (parts_decide says denies config names w cl sl side x.stage x.item e m c.small x.awaits x.refuses)
   by (Err kind) none =
       let k = first_stage says config kind x.stage none seen.holds in
@@ -322,12 +316,24 @@ message_cause says config side denies untrusted r offered group w cl sl e c x = 
       (subst (λ z. RefusesMessage (says side) denies s z (next_number st.reading.number) x.item.payload e) k.1 x.refuses)
 
 host_cause : (says : Side → Says) (config : Side → Config) (side : Side) (denies : Denies) (untrusted : ServerHost → Type 0) (r : Rises) (offered : KexName → Bool) (group : DhGroup) (w : World) (cl sl : List Event) (e : Error) → Causes says config side denies untrusted r offered group → HostRefused (talkers says config) untrusted w cl sl side e → IsCauseOf r side config offered group e
-host_cause says config side denies untrusted r offered group w cl sl e c x = subst (IsCauseOf r side config offered group) (sym x.error_is) (client, c.tells.check x.host x.denied) where
+host_cause says config side denies untrusted r offered group w cl sl e c x = subst (IsCauseOf r side config offered group) (sym x.error_is) (client, by (chosen_by (config Client) (config Server)) refl) where
   st : SideState
   st = (one_of side w.client w.server).state
 
+  stage : Stage
+  stage = AwaitsNewkeys x.exchange x.made (Some x.host)
+
+  seen : Seen says config w cl sl side stage x.item
+  seen = see says config w cl sl side stage x.item c.lawful x.awaits
+
   client : side ≡ Client
-  client = host_client side (says side) (setting side (config side) (id_text (config side).id) st) (AwaitsNewkeys x.exchange x.made (Some x.host)) x.exchange x.made x.host (sym (setting_side side (config side) (id_text (config side).id) st)) refl (see says config w cl sl side (AwaitsNewkeys x.exchange x.made (Some x.host)) x.item c.lawful x.awaits).stage_is
+  client = host_client side (says side) (setting side (config side) (id_text (config side).id) st) stage x.exchange x.made x.host (sym (setting_side side (config side) (id_text (config side).id) st)) refl seen.stage_is
+
+  by : (q : Result Names AlgorithmKind) → chosen_by (config Client) (config Server) ≡ q → r.checking
+  by (Ok names) chosen =
+      let p = host_presented says config names w cl sl x.item x.exchange x.made x.host (met_by_lawful says config names c.lawful chosen) (subst (λ z. AwaitsNext (talkers says config) w cl sl z stage x.item) client x.awaits) in
+      c.checks x.host p.0 client p.1 x.denied
+  by (Err kind) none = absurd (let k = first_stage says config kind stage none seen.holds in let q : AwaitsNewkeys x.exchange x.made (Some x.host) ≡ Created k.0 = k.1 in cc)
 
 -- Each refusal of a link whose parts are lawful has its cause.
 pub link_cause : (says : Side → Says) (config : Side → Config) (side : Side) (denies : Denies) (untrusted : ServerHost → Type 0) (r : Rises) (offered : KexName → Bool) (group : DhGroup) (w : World) (e : Error) → Causes says config side denies untrusted r offered group → RefusesInTurn (talkers says config) denies untrusted w side e → IsCauseOf r side config offered group e
@@ -338,7 +344,7 @@ link_cause says config side denies untrusted r offered group w e c (inr b) = eli
 ]
 
 -- And where its parts do what they owe and trust what is presented, none but want of memory.
-pub none_in_link : (says : Side → Says) (config : Side → Config) (names : Names) (side : Side) (denies : Denies) (untrusted : ServerHost → Type 0) (w : World) (e : Error) → AreMet says config names → Duties says config side names.kex denies → AreSmall (says side) side (config (other_side side)).gex → ((host : ServerHost) (key : Rattle.ssh_negotiate.specs.declared.preferred.HostKey.HostKey) → side ≡ Client → Rattle.ssh_kex.specs.Parts.Presents (config Server) host key host.algorithm → untrusted host → ⊥)
+pub none_in_link : (says : Side → Says) (config : Side → Config) (names : Names) (side : Side) (denies : Denies) (untrusted : ServerHost → Type 0) (w : World) (e : Error) → AreMet says config names → Duties says config side names.kex denies → AreSmall (says side) side (config (other_side side)).gex → ((host : ServerHost) (key : HostKey) → side ≡ Client → Presents (config Server) host key host.algorithm → untrusted host → ⊥)
     → RefusesInTurn (talkers says config) denies untrusted w side e → e ≡ errors.Memory
 none_in_link says config names side denies untrusted w e m d a trusts (inl q) = q
 none_in_link says config names side denies untrusted w e m d a trusts (inr b) = elim b.refuses [

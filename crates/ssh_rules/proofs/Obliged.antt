@@ -1,5 +1,5 @@
 -- Parts that do what they owe refuse no message that the other side's parts made, and lawful parts make none too long.
-use Rattle.std.proofs.Common.{◌≡◌, ℕ, ◌+◌, ◌<◌, ◌≤◌, nat_lt, List, [], ◌∷◌, ◌++◌, length, refl, sym, ◌∙◌, ap, subst, arith, Bool, true, false, ◌||◌, ◌&&◌, if◌then◌else◌, Option, Some, None, Ok, Result, inl, inr, length-append}
+use Rattle.std.proofs.Common.{◌≡◌, ℕ, ◌+◌, ◌<◌, ◌≤◌, nat_lt, List, [], ◌∷◌, ◌++◌, length, refl, sym, ◌∙◌, ap, subst, arith, Bool, true, false, ◌||◌, ◌&&◌, if◌then◌else◌, Option, Some, None, Ok, Result, ◌⊎◌, inl, inr, length-append}
 use Rattle.std.proofs.lemmas.Bool.Decides.{nat_tests}
 use Rattle.std.specs.Prelude.{find, is_some}
 use Rattle.std.specs.List.{list_any}
@@ -33,6 +33,7 @@ use Rattle.ssh_kex.specs.declared.exchange.ServerHost.{ServerHost}
 use Rattle.ssh_kex.specs.declared.group.DhGroup.{DhGroup}
 use Rattle.ssh_kex.specs.declared.group.GexParams.{GexParams}
 use Rattle.ssh_rules.specs.Laws.{FindsCanonical, OneLink, OneSecret}
+use Rattle.ssh_rules.specs.LinkCauses.{Rises}
 use Rattle.ssh_rules.specs.Valid.{HasSizes, longest_blob, some_blob_long}
 use Rattle.ssh_rules.specs.Wire.{HasFront}
 use Rattle.ssh_rules.proofs.Awaited.{IsReadable}
@@ -42,15 +43,22 @@ use Rattle.ssh_rules.proofs.OnlyParts.{PartsRefuse, form_length, reply_fields, v
 use Rattle.ssh_rules.proofs.ReadAgain.{front_again, group_again, sizes_again, value_again}
 use Rattle.ssh_rules.proofs.StageFits.{FitsStage}
 
--- What obliging parts of both sides owe to the one that reads.
+-- What is known where a part of the one that reads refuses an answer that it owes.
+pub record Owes (says : Side → Says) (config : Side → Config) (side : Side) (kex : kexes.Name) (denies : Denies) (r : Rises) : Type 0 where
+  pub start : (name : kexes.Name) (group : Option DhGroup) → (says side).offers name → denies.start name group → r.agreement
+  pub value : (name : kexes.Name) (group : Option DhGroup) (local public : List ℕ) → (says side).offers name → (says Client).client_makes name group local public → denies.value name group public → r.agreement
+  pub reply : (name : kexes.Name) (group : Option DhGroup) (local public value : List ℕ) → (says side).offers name → (says Client).client_makes name group local public → (says Server).server_makes name group value → denies.reply name group local value → r.agreement
+  pub lookup : side ≡ Server → is_gex kex ≡ true → (sizes : GexParams) → denies.lookup sizes → r.lookup
+  pub sign : denies.sign → r.signing
+  pub verify : (host : ServerHost) (hash signature : List ℕ) → (says Server).signs host hash signature → denies.verify host hash signature → r.verifying
+
+-- obliging parts of both sides refuse none
+abbrev pub none_rose : Rises
+none_rose = record { agreement = ⊥; lookup = ⊥; signing = ⊥; verifying = ⊥; checking = ⊥ }
+
 pub record Duties (says : Side → Says) (config : Side → Config) (side : Side) (kex : kexes.Name) (denies : Denies) : Type 0 where
   pub offered : (says side).offers kex
-  pub start : (name : kexes.Name) (group : Option DhGroup) → (says side).offers name → denies.start name group → ⊥
-  pub value : (name : kexes.Name) (group : Option DhGroup) (local public : List ℕ) → (says side).offers name → (says Client).client_makes name group local public → denies.value name group public → ⊥
-  pub reply : (name : kexes.Name) (group : Option DhGroup) (local public value : List ℕ) → (says side).offers name → (says Client).client_makes name group local public → (says Server).server_makes name group value → denies.reply name group local value → ⊥
-  pub lookup : side ≡ Server → is_gex kex ≡ true → (sizes : GexParams) → denies.lookup sizes → ⊥
-  pub sign : denies.sign → ⊥
-  pub verify : (host : ServerHost) (hash signature : List ℕ) → (says Server).signs host hash signature → denies.verify host hash signature → ⊥
+  pub owes : Owes says config side kex denies none_rose
   pub fits : is_gex kex ≡ true → (group : DhGroup) → (says Server).finds (config Client).gex group → IsInside (config Client).gex group
 
 -- what lawful parts make is small
@@ -158,10 +166,10 @@ reply_read says config s p o gex local public m b f = record { made = r; names =
       (subst (λ (n : Names). (says p.side).server_makes n.kex (group_of gex) r.exchange.server_ephemeral) (sym names)
       (subst (λ y. (says p.side).server_makes r.knows.names.kex (group_of y) r.exchange.server_ephemeral) r.group r.knows.makes))
 
-not_missigned : (says : Side → Says) (config : Side → Config) (s p : Setting) (stage : Stage) (m : List ℕ) (kex : kexes.Name) (denies : Denies) → Duties says config s.side kex denies → AreBoth says config s p → Faces says s p stage m → SignatureDenied (says s.side) denies s stage m → ⊥
-not_missigned says config s p (Created own) m kex denies d b f h = h
-not_missigned says config s p (AwaitsGroup o) m kex denies d b f h = h
-not_missigned says config s p (AwaitsReply o gex local public) m kex denies d b f h = d.verify (host_with r.knows.names r.knows.shown.blob) r.made.hash (judged r.knows.signature) signs denied where
+faced_missigned : (says : Side → Says) (config : Side → Config) (s p : Setting) (stage : Stage) (m : List ℕ) (kex : kexes.Name) (denies : Denies) (rises : Rises) → Owes says config s.side kex denies rises → AreBoth says config s p → Faces says s p stage m → SignatureDenied (says s.side) denies s stage m → (s.side ≡ Client) × rises.verifying
+faced_missigned says config s p (Created own) m kex denies rises d b f h = absurd h
+faced_missigned says config s p (AwaitsGroup o) m kex denies rises d b f h = absurd h
+faced_missigned says config s p (AwaitsReply o gex local public) m kex denies rises d b f h = (f.here.client, d.verify (host_with r.knows.names r.knows.shown.blob) r.made.hash (judged r.knows.signature) signs denied) where
   q : ReplyRead says s p o gex public m
   q = reply_read says config s p o gex local public m b f
 
@@ -211,9 +219,9 @@ not_missigned says config s p (AwaitsReply o gex local public) m kex denies d b 
       (subst (λ z. denies.verify (host_with r.knows.names r.knows.shown.blob) z (judged h.signature)) hash
       (subst (λ z. denies.verify (host_with r.knows.names z) (made_of s.cause o.names (exchange_of s o gex public h.front.value) h.front.host (Some h.secret)).hash (judged h.signature)) host
       (subst (λ z. denies.verify (host_with z h.front.host) (made_of s.cause o.names (exchange_of s o gex public h.front.value) h.front.host (Some h.secret)).hash (judged h.signature)) q.names h.denied)))
-not_missigned says config s p (AwaitsRequest o) m kex denies d b f h = h
-not_missigned says config s p (AwaitsValue o gex) m kex denies d b f h = h
-not_missigned says config s p (AwaitsNewkeys exchange made host) m kex denies d b f h = h
+faced_missigned says config s p (AwaitsRequest o) m kex denies rises d b f h = absurd h
+faced_missigned says config s p (AwaitsValue o gex) m kex denies rises d b f h = absurd h
+faced_missigned says config s p (AwaitsNewkeys exchange made host) m kex denies rises d b f h = absurd h
 
 -- ---- what the agreement and the lookup are asked
 
@@ -226,16 +234,16 @@ ReadsKex s (AwaitsRequest o) m kex = is_gex kex ≡ true
 ReadsKex s (AwaitsValue o gex) m kex = Unit {0}
 ReadsKex s (AwaitsNewkeys exchange made host) m kex = Unit {0}
 
-not_denied : (says : Side → Says) (config : Side → Config) (s p : Setting) (stage : Stage) (seqn : ℕ) (m : List ℕ) (kex : kexes.Name) (denies : Denies) → Duties says config s.side kex denies → AreBoth says config s p → Faces says s p stage m → IsReadable (other_side s.side) (config (other_side s.side)) stage m → ReadsKex s stage m kex → PartDenies (says s.side) denies s stage seqn m → ⊥
-not_denied says config s p (Created own) seqn m kex denies d b f r k h = d.start h.names.kex None h.offered h.denied
-not_denied says config s p (AwaitsGroup o) seqn m kex denies d b f r k h = d.start o.names.kex (Some h.group) f.here.opened.offered h.denied
-not_denied says config s p (AwaitsReply o gex local public) seqn m kex denies d b f r k h =
+faced_denied : (says : Side → Says) (config : Side → Config) (s p : Setting) (stage : Stage) (seqn : ℕ) (m : List ℕ) (kex : kexes.Name) (denies : Denies) (rises : Rises) → Owes says config s.side kex denies rises → AreBoth says config s p → Faces says s p stage m → IsReadable (other_side s.side) (config (other_side s.side)) stage m → ReadsKex s stage m kex → PartDenies (says s.side) denies s stage seqn m → rises.agreement ⊎ ((s.side ≡ Server) × rises.lookup)
+faced_denied says config s p (Created own) seqn m kex denies rises d b f r k h = inl (d.start h.names.kex None h.offered h.denied)
+faced_denied says config s p (AwaitsGroup o) seqn m kex denies rises d b f r k h = inl (d.start o.names.kex (Some h.group) f.here.opened.offered h.denied)
+faced_denied says config s p (AwaitsReply o gex local public) seqn m kex denies rises d b f r k h =
     let q = reply_read says config s p o gex local public m b f in
     let value : h.front.value ≡ q.made.exchange.server_ephemeral = ap (λ (x : ReplyFront). x.value) (ok_is (reply_front (fields m)) h.front _ h.read q.front) in
-    d.reply o.names.kex (group_of gex) local public q.made.exchange.server_ephemeral f.here.opened.offered (subst (λ w. (says w).client_makes o.names.kex (group_of gex) local public) f.here.client f.here.makes) q.makes
-    (subst (λ v. denies.reply o.names.kex (group_of gex) local v) value h.denied)
-not_denied says config s p (AwaitsRequest o) seqn m kex denies d b f r k h = d.lookup f.here.server k h.sizes h.denied
-not_denied says config s p (AwaitsValue o gex) seqn m kex denies d b f r k h = d.value o.names.kex (group_of gex) v.local v.value f.here.opened.offered makes (subst (denies.value o.names.kex (group_of gex)) value h.denied) where
+    inl (d.reply o.names.kex (group_of gex) local public q.made.exchange.server_ephemeral f.here.opened.offered (subst (λ w. (says w).client_makes o.names.kex (group_of gex) local public) f.here.client f.here.makes) q.makes
+    (subst (λ v. denies.reply o.names.kex (group_of gex) local v) value h.denied))
+faced_denied says config s p (AwaitsRequest o) seqn m kex denies rises d b f r k h = inr (f.here.server, d.lookup f.here.server k h.sizes h.denied)
+faced_denied says config s p (AwaitsValue o gex) seqn m kex denies rises d b f r k h = inl (d.value o.names.kex (group_of gex) v.local v.value f.here.opened.offered makes (subst (denies.value o.names.kex (group_of gex)) value h.denied)) where
   client : p.side ≡ Client
   client = client_is s p f.here.server f.sides
 
@@ -260,15 +268,7 @@ not_denied says config s p (AwaitsValue o gex) seqn m kex denies d b f r k h = d
 
   makes : (says Client).client_makes o.names.kex (group_of gex) v.local v.value
   makes = subst (λ w. (says w).client_makes o.names.kex (group_of gex) v.local v.value) client (subst (λ (n : Names). (says p.side).client_makes n.kex (group_of gex) v.local v.value) names v.makes)
-not_denied says config s p (AwaitsNewkeys exchange made host) seqn m kex denies d b f r k h = h
-
-not_unsigned : (denies : Denies) (stage : Stage) (m : List ℕ) → (denies.sign → ⊥) → SigningDenied denies stage m → ⊥
-not_unsigned denies (Created own) m d h = h
-not_unsigned denies (AwaitsGroup o) m d h = h
-not_unsigned denies (AwaitsReply o gex local public) m d h = h
-not_unsigned denies (AwaitsRequest o) m d h = h
-not_unsigned denies (AwaitsValue o gex) m d h = d h.1
-not_unsigned denies (AwaitsNewkeys exchange made host) m d h = h
+faced_denied says config s p (AwaitsNewkeys exchange made host) seqn m kex denies rises d b f r k h = absurd h
 
 pub not_unoffered : (says : Says) (s : Setting) (stage : Stage) (seqn : ℕ) (m : List ℕ) (kex : kexes.Name) → says.offers kex → ReadsKex s stage m kex → IsUnoffered says s stage seqn m → ⊥
 not_unoffered says s (Created own) seqn m kex d r h = h.2 (subst says.offers (sym (r h.0 h.1.read)) d)
@@ -388,21 +388,34 @@ never_unfit says config s (AwaitsRequest o) m kex fits k f h = h
 never_unfit says config s (AwaitsValue o gex) m kex fits k f h = h
 never_unfit says config s (AwaitsNewkeys exchange made host) m kex fits k f h = h
 
-never_denied : (says : Side → Says) (config : Side → Config) (s : Setting) (stage : Stage) (seqn : ℕ) (m : List ℕ) (kex : kexes.Name) (denies : Denies) → Duties says config s.side kex denies → IsMet says config s stage m → IsReadable (other_side s.side) (config (other_side s.side)) stage m → ReadsKex s stage m kex → PartDenies (says s.side) denies s stage seqn m → ⊥
-never_denied says config s (Created own) seqn m kex denies d f r k h = d.start h.names.kex None h.offered h.denied
-never_denied says config s (AwaitsGroup o) seqn m kex denies d f r k h = not_denied says config s f.0 (AwaitsGroup o) seqn m kex denies d f.1 f.2 r k h
-never_denied says config s (AwaitsReply o gex local public) seqn m kex denies d f r k h = not_denied says config s f.0 (AwaitsReply o gex local public) seqn m kex denies d f.1 f.2 r k h
-never_denied says config s (AwaitsRequest o) seqn m kex denies d f r k h = not_denied says config s f.0 (AwaitsRequest o) seqn m kex denies d f.1 f.2 r k h
-never_denied says config s (AwaitsValue o gex) seqn m kex denies d f r k h = not_denied says config s f.0 (AwaitsValue o gex) seqn m kex denies d f.1 f.2 r k h
-never_denied says config s (AwaitsNewkeys exchange made host) seqn m kex denies d f r k h = h
+-- what is known where the reader's agreement or lookup refuses, its host keys refuse a signature, and refuse to sign
+pub met_denied : (says : Side → Says) (config : Side → Config) (s : Setting) (stage : Stage) (seqn : ℕ) (m : List ℕ) (kex : kexes.Name) (denies : Denies) (rises : Rises) → Owes says config s.side kex denies rises → IsMet says config s stage m → IsReadable (other_side s.side) (config (other_side s.side)) stage m → ReadsKex s stage m kex → PartDenies (says s.side) denies s stage seqn m → rises.agreement ⊎ ((s.side ≡ Server) × rises.lookup)
+met_denied says config s (Created own) seqn m kex denies rises d f r k h = inl (d.start h.names.kex None h.offered h.denied)
+met_denied says config s (AwaitsGroup o) seqn m kex denies rises d f r k h = faced_denied says config s f.0 (AwaitsGroup o) seqn m kex denies rises d f.1 f.2 r k h
+met_denied says config s (AwaitsReply o gex local public) seqn m kex denies rises d f r k h = faced_denied says config s f.0 (AwaitsReply o gex local public) seqn m kex denies rises d f.1 f.2 r k h
+met_denied says config s (AwaitsRequest o) seqn m kex denies rises d f r k h = faced_denied says config s f.0 (AwaitsRequest o) seqn m kex denies rises d f.1 f.2 r k h
+met_denied says config s (AwaitsValue o gex) seqn m kex denies rises d f r k h = faced_denied says config s f.0 (AwaitsValue o gex) seqn m kex denies rises d f.1 f.2 r k h
+met_denied says config s (AwaitsNewkeys exchange made host) seqn m kex denies rises d f r k h = absurd h
 
-never_missigned : (says : Side → Says) (config : Side → Config) (s : Setting) (stage : Stage) (m : List ℕ) (kex : kexes.Name) (denies : Denies) → Duties says config s.side kex denies → IsMet says config s stage m → SignatureDenied (says s.side) denies s stage m → ⊥
-never_missigned says config s (Created own) m kex denies d f h = h
-never_missigned says config s (AwaitsGroup o) m kex denies d f h = h
-never_missigned says config s (AwaitsReply o gex local public) m kex denies d f h = not_missigned says config s f.0 (AwaitsReply o gex local public) m kex denies d f.1 f.2 h
-never_missigned says config s (AwaitsRequest o) m kex denies d f h = h
-never_missigned says config s (AwaitsValue o gex) m kex denies d f h = h
-never_missigned says config s (AwaitsNewkeys exchange made host) m kex denies d f h = h
+pub met_missigned : (says : Side → Says) (config : Side → Config) (s : Setting) (stage : Stage) (m : List ℕ) (kex : kexes.Name) (denies : Denies) (rises : Rises) → Owes says config s.side kex denies rises → IsMet says config s stage m → SignatureDenied (says s.side) denies s stage m → (s.side ≡ Client) × rises.verifying
+met_missigned says config s (Created own) m kex denies rises d f h = absurd h
+met_missigned says config s (AwaitsGroup o) m kex denies rises d f h = absurd h
+met_missigned says config s (AwaitsReply o gex local public) m kex denies rises d f h = faced_missigned says config s f.0 (AwaitsReply o gex local public) m kex denies rises d f.1 f.2 h
+met_missigned says config s (AwaitsRequest o) m kex denies rises d f h = absurd h
+met_missigned says config s (AwaitsValue o gex) m kex denies rises d f h = absurd h
+met_missigned says config s (AwaitsNewkeys exchange made host) m kex denies rises d f h = absurd h
+
+pub met_unsigned : (says : Side → Says) (config : Side → Config) (s : Setting) (stage : Stage) (m : List ℕ) (kex : kexes.Name) (denies : Denies) (rises : Rises) → Owes says config s.side kex denies rises → IsMet says config s stage m → SigningDenied denies stage m → (s.side ≡ Server) × rises.signing
+met_unsigned says config s (Created own) m kex denies rises d f h = absurd h
+met_unsigned says config s (AwaitsGroup o) m kex denies rises d f h = absurd h
+met_unsigned says config s (AwaitsReply o gex local public) m kex denies rises d f h = absurd h
+met_unsigned says config s (AwaitsRequest o) m kex denies rises d f h = absurd h
+met_unsigned says config s (AwaitsValue o gex) m kex denies rises d f h = (f.2.here.server, d.sign h.1)
+met_unsigned says config s (AwaitsNewkeys exchange made host) m kex denies rises d f h = absurd h
+
+no_part : (P : Type 0) → ⊥ ⊎ (P × ⊥) → ⊥
+no_part P (inl x) = x
+no_part P (inr x) = x.1
 
 -- Where the other side's parts made the message, and the own parts do what they owe, want of memory is left.
 pub none_refused : (says : Side → Says) (denies : Denies) (config : Side → Config) (s : Setting) (stage : Stage) (seqn : ℕ) (m : List ℕ) (kex : kexes.Name) (e : Error) → Duties says config s.side kex denies → AreSmall (says s.side) s.side (config (other_side s.side)).gex → Serves s stage → some_blob_long s.config ≡ false → HasSizes (config (other_side s.side)) → IsMet says config s stage m → ReadsKex s stage m kex → IsReadable (other_side s.side) (config (other_side s.side)) stage m → PartsRefuse (says s.side) denies s stage seqn m e → e ≡ errors.Memory
@@ -410,18 +423,18 @@ none_refused says denies config s stage seqn m kex errors.KexInit d a sv c z f k
 none_refused says denies config s stage seqn m kex errors.UnknownAlgo d a sv c z f k r h = absurd (not_unoffered (says s.side) s stage seqn m kex d.offered k h)
 none_refused says denies config s stage seqn m kex (errors.NoCommonAlgo kind ours theirs) d a sv c z f k r h = absurd h
 none_refused says denies config s stage seqn m kex errors.Version d a sv c z f k r h = absurd h
-none_refused says denies config s stage seqn m kex errors.Kex d a sv c z f k r h = absurd (never_denied says config s stage seqn m kex denies d f r k h)
+none_refused says denies config s stage seqn m kex errors.Kex d a sv c z f k r h = absurd (no_part (s.side ≡ Server) (met_denied says config s stage seqn m kex denies none_rose d.owes f r k h))
 none_refused says denies config s stage seqn m kex errors.PacketAuth d a sv c z f k r h = absurd h
 none_refused says denies config s stage seqn m kex errors.Inconsistent d a sv c z f k r h = absurd h
 none_refused says denies config s stage seqn m kex errors.IndexOutOfBounds d a sv c z f k r h = absurd h
 none_refused says denies config s stage seqn m kex errors.UnknownKey d a sv c z f k r h = absurd h
-none_refused says denies config s stage seqn m kex errors.WrongServerSig d a sv c z f k r h = absurd (never_missigned says config s stage m kex denies d f h)
+none_refused says denies config s stage seqn m kex errors.WrongServerSig d a sv c z f k r h = absurd (met_missigned says config s stage m kex denies none_rose d.owes f h).1
 none_refused says denies config s stage seqn m kex (errors.PacketSize n) d a sv c z f k r h = absurd (not_long (says s.side) s (config (other_side s.side)) stage seqn m n a sv c z r h.0 h.1)
 none_refused says denies config s stage seqn m kex errors.Disconnect d a sv c z f k r h = absurd h
 none_refused says denies config s stage seqn m kex errors.DecryptionError d a sv c z f k r h = absurd h
 none_refused says denies config s stage seqn m kex errors.IO d a sv c z f k r h = absurd h
 none_refused says denies config s stage seqn m kex (errors.StrictKeyExchangeViolation type place) d a sv c z f k r h = absurd h
-none_refused says denies config s stage seqn m kex errors.Signature d a sv c z f k r h = absurd (not_unsigned denies stage m d.sign h)
+none_refused says denies config s stage seqn m kex errors.Signature d a sv c z f k r h = absurd (met_unsigned says config s stage m kex denies none_rose d.owes f h).1
 none_refused says denies config s stage seqn m kex (errors.SshEncoding fault) d a sv c z f k r h = absurd h
 none_refused says denies config s stage seqn m kex (errors.InvalidConfig fault) d a sv c z f k r h = absurd h
 none_refused says denies config s stage seqn m kex errors.Memory d a sv c z f k r h = refl

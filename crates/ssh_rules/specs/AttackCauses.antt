@@ -24,7 +24,7 @@ use Rattle.ssh_kex.specs.declared.exchange.Exchange.{Exchange}
 use Rattle.ssh_kex.specs.declared.exchange.FinishedExchange.{FinishedExchange}
 use Rattle.ssh_kex.specs.declared.group.DhGroup.{DhGroup}
 use Rattle.ssh_kex.specs.declared.group.GexParams.{GexParams}
-use Rattle.ssh_rules.specs.Attacked.{AreAnswers, IsAttackedLink, block_names, client_id_of, fed_to, kind_in, server_id_of, still_strict}
+use Rattle.ssh_rules.specs.Attacked.{AreAnswers, IsAttackedLink, Judged, block_names, client_id_of, fed_to, kind_in, server_id_of, still_strict}
 use Rattle.ssh_rules.specs.Asking.{AsksAtMost, PartCalls, counted_by, kex_count}
 use Rattle.ssh_kex.specs.Parts.{Setup}
 use Rattle.ssh_kex.specs.declared.exchange.ServerHost.{ServerHost}
@@ -201,11 +201,11 @@ pub record PartsDo : Type 1 where
   pub after : PartCalls
 
 -- by the members of the parts' traits, of one side, between the states before the run and behind it
-abbrev pub parts_of : {A H G : Type 0} (lawful obliging : A → Setup → Type 0) (offered : A → KexName → Bool)
+abbrev pub parts_of : {A H G : Type 0} (lawful : A → Setup → Type 0) (obliging : A → A → Setup → Type 0) (offered : A → KexName → Bool)
     (client_makes : ClientPairs) (server_makes : ServerValues) (agrees : Secrets) (refusals calls : A → ℕ)
-    (lawful_hosts obliging_hosts : H → Setup → Type 0) (accepts : H → ServerHost → List ℕ → List ℕ → Bool)
+    (lawful_hosts : H → Setup → Type 0) (obliging_hosts : H → H → Setup → Type 0) (accepts : H → ServerHost → List ℕ → List ℕ → Bool)
     (trusts : H → ServerHost → Bool) (refused_sign refused_verify refused_check asked : H → ℕ)
-    (lawful_groups obliging_groups : G → Setup → Type 0) (group : G → GexParams → DhGroup) (refused_lookup looked : G → ℕ)
+    (lawful_groups : G → Setup → Type 0) (obliging_groups : G → G → Setup → Type 0) (group : G → GexParams → DhGroup) (refused_lookup looked : G → ℕ)
     → Setup → A → A → H → H → G → G → PartsDo
 parts_of lawful obliging offered client_makes server_makes agrees refusals calls lawful_hosts obliging_hosts accepts trusts
     refused_sign refused_verify refused_check asked lawful_groups obliging_groups group refused_lookup looked s a a' h h' g g' =
@@ -213,9 +213,9 @@ parts_of lawful obliging offered client_makes server_makes agrees refusals calls
       lawful = lawful a s;
       lawful_hosts = lawful_hosts h s;
       lawful_lookup = lawful_groups g s;
-      obliging = obliging a s;
-      obliging_hosts = obliging_hosts h s;
-      obliging_lookup = obliging_groups g s;
+      obliging = obliging a a' s;
+      obliging_hosts = obliging_hosts h h' s;
+      obliging_lookup = obliging_groups g g' s;
       rises = rises_of refusals refused_sign refused_verify refused_check refused_lookup a a' h h' g g';
       offers = λ n. offered a n ≡ true;
       client_makes = client_makes;
@@ -418,11 +418,15 @@ packet_at AllRead = []
 packet_at (AtFault fault) = []
 packet_at (AtPacket i) = i ∷ []
 
+-- what a side took by then are the first of the packets that it handled, and what it refuses stands in the table
+abbrev pub judged_in : PartsDo → Seen → (handled : List Item) → Judged
+judged_in parts v handled = record { takes = HasFront handled; refuses = RefusesNow parts v }
+
 -- Each step of the side was answered by its cause, each packet that it handled is one that is taken there, and each part was
 -- asked once at most for each message of an exchange, the refused one included.
 pub record IsAnsweredSide (parts : PartsDo) (side : Side) (config : Config) (steps : List AttackStep) (answers : List (Rattle.std.specs.Prelude.Result (Unit {0}) Error))
     (exchanges : List FinishedExchange) (own handled : List Item) (ending : Ending) : Type 0 where
-  pub answered : AreAnswers (RefusesNow parts (seen_in side config (fed_to side steps) exchanges own)) side
+  pub answered : AreAnswers (judged_in parts (seen_in side config (fed_to side steps) exchanges own) handled) side
       (record { config = config; exchanges = exchanges; fed = []; failed = false }) steps answers
   pub accepted : AllAccepted parts.offers (seen_in side config (fed_to side steps) exchanges own) [] handled
   pub asked : AsksAtMost (kex_count (handled ++ packet_at ending)) parts.before parts.after

@@ -286,21 +286,23 @@ submit_answer payload =
     if is_bad_size (length payload) then Err (errors.PacketSize (length payload))
     else if is_payload_type (message_type payload) then Ok tt else Err errors.Inconsistent
 
--- by the answer: all is read, or the reading ends as such an answer says
-abbrev pub AnswersBytes : (refuses : List Item → Item → Error → Type 0) → IdFound → Result (Unit {0}) Error
-    → List Item → Ending → Type 0
-AnswersBytes refuses found (Ok u) items ending = (ending ≡ AllRead) × (found ≡ Version → ⊥)
-AnswersBytes refuses found (Err e) items ending =
-    EndsAsAnswered (Some e) found ending × ((i : Item) → ending ≡ AtPacket i → refuses items i e)
+-- which packets may be handled, and which packet is refused behind handled ones, and how
+pub record Judged : Type 1 where
+  pub takes : List Item → Type 0
+  pub refuses : List Item → Item → Error → Type 0
 
--- What a feed is answered, by all bytes that the side was fed up to it: `refuses` says which packet is refused behind
--- which handled ones, and how.
-abbrev pub FedAnswer : (refuses : List Item → Item → Error → Type 0) → Side → Config → List FinishedExchange → List ℕ
-    → Result (Unit {0}) Error → Type 0
-FedAnswer refuses side config exchanges fed answer =
+-- by the answer: all is read, or the reading ends as such an answer says
+abbrev pub AnswersBytes : Judged → IdFound → Result (Unit {0}) Error → List Item → Ending → Type 0
+AnswersBytes judged found (Ok u) items ending = (ending ≡ AllRead) × (found ≡ Version → ⊥)
+AnswersBytes judged found (Err e) items ending =
+    EndsAsAnswered (Some e) found ending × ((i : Item) → ending ≡ AtPacket i → judged.refuses items i e)
+
+-- What a feed is answered, by all bytes that the side was fed up to it: the packets before the end are such as are taken.
+abbrev pub FedAnswer : Judged → Side → Config → List FinishedExchange → List ℕ → Result (Unit {0}) Error → Type 0
+FedAnswer judged side config exchanges fed answer =
     (items : List Item) × (ending : Ending)
     × Handled side config exchanges (packets_in (heard_in side fed) fed) items ending
-    × AnswersBytes refuses (heard_in side fed) answer items ending
+    × judged.takes items × AnswersBytes judged (heard_in side fed) answer items ending
 
 -- a side between two steps
 pub record FedSide : Type 0 where
@@ -319,16 +321,13 @@ abbrev pub feeds : FedSide → List ℕ → Result (Unit {0}) Error → FedSide
 feeds t bytes answer = if t.failed then t else record t { fed = t.fed ++ bytes; failed = is_err answer }
 
 -- a side that failed answers Disconnect, any other by the bytes that it was fed
-abbrev pub AnswersFeedBy : Bool → (List Item → Item → Error → Type 0) → Side → FedSide → List ℕ
-    → Result (Unit {0}) Error → Type 0
-AnswersFeedBy true refuses side t bytes answer = answer ≡ Err errors.Disconnect
-AnswersFeedBy false refuses side t bytes answer =
-    FedAnswer refuses side t.config t.exchanges (t.fed ++ bytes) answer
+abbrev pub AnswersFeedBy : Bool → Judged → Side → FedSide → List ℕ → Result (Unit {0}) Error → Type 0
+AnswersFeedBy true judged side t bytes answer = answer ≡ Err errors.Disconnect
+AnswersFeedBy false judged side t bytes answer = FedAnswer judged side t.config t.exchanges (t.fed ++ bytes) answer
 
 -- the same, of a side between two steps
-abbrev pub AnswersFeed : (List Item → Item → Error → Type 0) → Side → FedSide → List ℕ → Result (Unit {0}) Error
-    → Type 0
-AnswersFeed refuses side t bytes answer = AnswersFeedBy t.failed refuses side t bytes answer
+abbrev pub AnswersFeed : Judged → Side → FedSide → List ℕ → Result (Unit {0}) Error → Type 0
+AnswersFeed judged side t bytes answer = AnswersFeedBy t.failed judged side t bytes answer
 
 -- what a submit is answered
 abbrev pub submit_answers : FedSide → List ℕ → Result (Unit {0}) Error
@@ -344,15 +343,14 @@ IfOwn true A = A
 IfOwn false A = Unit {0}
 
 -- Every answer to a step of the side has its cause.
-abbrev pub AreAnswers : (refuses : List Item → Item → Error → Type 0) → Side → FedSide → List AttackStep
-    → List (Result (Unit {0}) Error) → Type 0
-AreAnswers refuses side t [] [] = Unit {0}
-AreAnswers refuses side t [] (a ∷ answers) = ⊥
-AreAnswers refuses side t (step ∷ steps) [] = ⊥
-AreAnswers refuses side t (Submit s p ∷ steps) (a ∷ answers) =
-    IfOwn (same_side s side) (a ≡ submit_answers t p) × AreAnswers refuses side t steps answers
-AreAnswers refuses side t (Rekey s ∷ steps) (a ∷ answers) =
-    IfOwn (same_side s side) (a ≡ rekey_answers t) × AreAnswers refuses side t steps answers
-AreAnswers refuses side t (Feed s bytes ∷ steps) (a ∷ answers) =
-    IfOwn (same_side s side) (AnswersFeed refuses side t bytes a)
-    × AreAnswers refuses side (if same_side s side then feeds t bytes a else t) steps answers
+abbrev pub AreAnswers : Judged → Side → FedSide → List AttackStep → List (Result (Unit {0}) Error) → Type 0
+AreAnswers judged side t [] [] = Unit {0}
+AreAnswers judged side t [] (a ∷ answers) = ⊥
+AreAnswers judged side t (step ∷ steps) [] = ⊥
+AreAnswers judged side t (Submit s p ∷ steps) (a ∷ answers) =
+    IfOwn (same_side s side) (a ≡ submit_answers t p) × AreAnswers judged side t steps answers
+AreAnswers judged side t (Rekey s ∷ steps) (a ∷ answers) =
+    IfOwn (same_side s side) (a ≡ rekey_answers t) × AreAnswers judged side t steps answers
+AreAnswers judged side t (Feed s bytes ∷ steps) (a ∷ answers) =
+    IfOwn (same_side s side) (AnswersFeed judged side t bytes a)
+    × AreAnswers judged side (if same_side s side then feeds t bytes a else t) steps answers

@@ -50,6 +50,21 @@ rises_of refusals refused_sign refused_verify refused_check refused_lookup a a' 
   checking = Rose (refused_check h) (refused_check h');
 }
 
+-- And which rose of parts that don't oblige between these states, under both configurations. That a client's host keys
+-- refuse a signature may lie with the server's, which are `signer`.
+abbrev pub unobliged_of : {A H G : Type 0} (obliging : A → A → Setup → Type 0) (refusals : A → ℕ)
+    (obliging_hosts : H → H → Setup → Type 0) (refused_sign refused_verify refused_check : H → ℕ)
+    (obliging_groups : G → G → Setup → Type 0) (refused_lookup : G → ℕ) → Setup → H → A → A → H → H → G → G → Rises
+unobliged_of {A} {H} {G} obliging refusals obliging_hosts refused_sign refused_verify refused_check obliging_groups
+    refused_lookup setup signer a a' h h' g g' = record {
+      agreement = Rose (refusals a) (refusals a') × (obliging a a' setup → ⊥);
+      lookup = Rose (refused_lookup g) (refused_lookup g') × (obliging_groups g g' setup → ⊥);
+      signing = Rose (refused_sign h) (refused_sign h') × (obliging_hosts h h' setup → ⊥);
+      verifying = Rose (refused_verify h) (refused_verify h')
+          × ((later : H) → obliging_hosts h h' setup → obliging_hosts signer later setup → ⊥);
+      checking = Rose (refused_check h) (refused_check h') × (obliging_hosts h h' setup → ⊥);
+    }
+
 -- of a kind the lists of both configurations leave nothing to choose
 pub record NoneInCommon (side : Side) (config : Side → Config) (kind : AlgorithmKind) (ours theirs : List (List ℕ))
     : Type 0 where
@@ -64,7 +79,8 @@ pub record IsNotOffered (config : Side → Config) (offered : KexName → Bool) 
   pub none : offered names.kex ≡ false
 
 -- Why a side refuses something in a link whose parts are lawful: by both configurations, by what the side's agreement
--- offers, by the group that the server's lookup finds for the client's sizes, and by the counts of the side's parts.
+-- offers, by the group that the server's lookup finds for the client's sizes, and by a part that doesn't oblige and
+-- counted a refusal.
 abbrev pub IsCauseOf : Rises → Side → (Side → Config) → (KexName → Bool) → DhGroup → Error → Type 0
 IsCauseOf r side config offered group errors.KexInit =
     (kind_by (chosen_by (config Client) (config Server)) ≡ true) × IsOutside (config Client).gex group
@@ -146,31 +162,38 @@ AnyRefusals {A} {H} {G} says denies untrusted rises =
 
 -- ---- lawful and obliging parts
 
--- Where the parts of both sides are lawful, each refusal of a piece of an honest peer's wire has its cause.
+-- Where the parts of both sides are lawful, each refusal of a piece of an honest peer's wire has its cause. The agreement
+-- that is asked is the one at the start, after some calls.
 abbrev pub RefusalsHaveCauses : {A H G : Type 0} → (A → Setup → Type 0) → (H → Setup → Type 0) → (G → Setup → Type 0)
-    → (A → KexName → Bool) → (G → GexParams → DhGroup) → (Config → A → H → G → Says)
-    → (A → A → H → H → G → G → Denies) → (H → H → ServerHost → Type 0) → (A → A → H → H → G → G → Rises) → Type 0
-RefusalsHaveCauses {A} {H} {G} lawful lawful_hosts lawful_groups offered group says denies untrusted rises =
+    → (A → KexName → Bool) → (A → A → Type 0) → (G → GexParams → DhGroup) → (Config → A → H → G → Says)
+    → (A → A → H → H → G → G → Denies) → (H → H → ServerHost → Type 0)
+    → (Setup → H → A → A → H → H → G → G → Rises) → Type 0
+RefusalsHaveCauses {A} {H} {G} lawful lawful_hosts lawful_groups offered keeps group says denies untrusted unobliged =
     (setup : Setup) (a b : A) (h i : H) (g j : G) (w : World) (cl sl : List Event) (side : Side) (took piece : List ℕ)
     (old new : Standing) (v v' : A) (x x' : H) (y y' : G) (error : Error)
     → lawful a setup → lawful b setup → lawful_hosts h setup → lawful_hosts i setup → lawful_groups j setup
+    → keeps (one_of side a b) v
     → ((s : Side) → config_fault s (config_of setup s) ≡ None) → ((s : Side) → HasSizes (config_of setup s))
     → RefusesInLink (talkers (says_by says setup a b h i g j) (config_of setup)) (denies v v' x x' y y') (untrusted x x')
     w cl sl side took piece old error new
-    → IsCauseOf (rises v v' x x' y y') side (config_of setup) (offered (one_of side a b)) (group j setup.client.gex) error
+    → IsCauseOf (unobliged setup i v v' x x' y y') side (config_of setup) (offered (one_of side a b))
+    (group j setup.client.gex) error
 
--- Where they are obliging, the configurations valid, and the chosen key exchange offered by the side's agreement, memory
--- was wanting. The parts that are asked are those at the start, after some calls.
-abbrev pub NoneRefusedInLink : {A H G : Type 0} → (A → Setup → Type 0) → (H → Setup → Type 0) → (G → Setup → Type 0)
+-- Where they are obliging, from the start to the answer, the configurations valid, and the chosen key exchange offered by
+-- the side's agreement, memory was wanting. The parts that are asked are those at the start, after some calls.
+abbrev pub NoneRefusedInLink : {A H G : Type 0} → (A → A → Setup → Type 0) → (H → H → Setup → Type 0)
+    → (G → G → Setup → Type 0)
     → (A → KexName → Bool) → (A → A → Type 0) → (H → H → Type 0) → (G → G → Type 0) → (Config → A → H → G → Says)
     → (A → A → H → H → G → G → Denies) → (H → H → ServerHost → Type 0) → Type 0
 NoneRefusedInLink {A} {H} {G} obliging obliging_hosts obliging_groups offered keeps keeps_hosts keeps_groups says denies
     untrusted =
-    (setup : Setup) (a b : A) (h i : H) (g j : G) (names : Names) (w : World) (cl sl : List Event) (side : Side)
-    (took piece : List ℕ) (old new : Standing) (v v' : A) (x x' : H) (y y' : G) (error : Error)
-    → obliging a setup → obliging b setup → obliging_hosts h setup → obliging_hosts i setup → obliging_groups j setup
+    (setup : Setup) (a a' b b' : A) (h h' i i' : H) (g g' j j' : G) (names : Names) (w : World) (cl sl : List Event)
+    (side : Side) (took piece : List ℕ) (old new : Standing) (v : A) (x : H) (y : G) (error : Error)
+    → obliging a a' setup → obliging b b' setup → obliging_hosts h h' setup → obliging_hosts i i' setup
+    → obliging_groups j j' setup
     → AreValid setup names → offered (one_of side a b) names.kex ≡ true
     → keeps (one_of side a b) v → keeps_hosts (one_of side h i) x → keeps_groups (one_of side g j) y
-    → RefusesInLink (talkers (says_by says setup a b h i g j) (config_of setup)) (denies v v' x x' y y') (untrusted x x')
+    → RefusesInLink (talkers (says_by says setup a b h i g j) (config_of setup))
+    (denies v (one_of side a' b') x (one_of side h' i') y (one_of side g' j')) (untrusted x (one_of side h' i'))
     w cl sl side took piece old error new
     → error ≡ errors.Memory

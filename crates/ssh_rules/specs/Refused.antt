@@ -102,25 +102,29 @@ PartsRefuseAlone {A} {H} {G} lawful lawful_hosts lawful_groups says denies =
     (setting side (config_of setup side) (id_text (config_of setup side).id) (one_of side w.client w.server).state)
     stage (next_number (one_of side w.client w.server).state.reading.number) item.payload error
 
--- Where the parts of both sides are obliging and the reader's agreement offers the chosen name, nothing of an honest
--- peer's message is refused but for want of memory. The parts that are asked are those at the start, after some calls.
-abbrev pub NothingRefused : {A H G : Type 0} → (A → Setup → Type 0) → (H → Setup → Type 0) → (G → Setup → Type 0)
+-- Where the parts of both sides are obliging, from the start to the answer, and the reader's agreement offers the chosen
+-- name, nothing of an honest peer's message is refused but for want of memory. The parts that are asked are those at the
+-- start, after some calls.
+abbrev pub NothingRefused : {A H G : Type 0} → (A → A → Setup → Type 0) → (H → H → Setup → Type 0)
+    → (G → G → Setup → Type 0)
     → (A → KexName → Bool) → (A → A → Type 0) → (H → H → Type 0) → (G → G → Type 0)
     → (Config → A → H → G → Says) → (A → A → H → H → G → G → Denies) → Type 0
 NothingRefused {A} {H} {G} obliging obliging_hosts obliging_groups offered keeps keeps_hosts keeps_groups says denies =
-    (setup : Setup) (a b : A) (h i : H) (g j : G) (names : Names) (w : World) (cl sl : List Event) (side : Side)
-    (stage : Stage) (item : Item) (v v' : A) (x x' : H) (y y' : G) (error : Error)
-    → obliging a setup → obliging b setup → obliging_hosts h setup → obliging_hosts i setup → obliging_groups j setup
+    (setup : Setup) (a a' b b' : A) (h h' i i' : H) (g g' j j' : G) (names : Names) (w : World) (cl sl : List Event)
+    (side : Side) (stage : Stage) (item : Item) (v : A) (x : H) (y : G) (error : Error)
+    → obliging a a' setup → obliging b b' setup → obliging_hosts h h' setup → obliging_hosts i i' setup
+    → obliging_groups j j' setup
     → AreValid setup names → offered (one_of side a b) names.kex ≡ true
     → keeps (one_of side a b) v → keeps_hosts (one_of side h i) x → keeps_groups (one_of side g j) y
     → AwaitsNext (talkers (says_by says setup a b h i g j) (config_of setup)) w cl sl side stage item
-    → RefusesNext (says_by says setup a b h i g j side) (denies v v' x x' y y') (config_of setup side) side
+    → RefusesNext (says_by says setup a b h i g j side)
+    (denies v (one_of side a' b') x (one_of side h' i') y (one_of side g' j')) (config_of setup side) side
     (one_of side w.client w.server) stage item error
     → error ≡ errors.Memory
 
 -- Where the agreements of both and the server's lookup are lawful, the host that a client has accepted, when the last
 -- message comes, is one that the server presents; so obliging host keys trust it.
-abbrev pub HostTrusted : {A H G : Type 0} → (A → Setup → Type 0) → (G → Setup → Type 0) → (H → Setup → Type 0)
+abbrev pub HostTrusted : {A H G : Type 0} → (A → Setup → Type 0) → (G → Setup → Type 0) → (H → H → Setup → Type 0)
     → (H → ServerHost → Bool) → (Config → A → H → G → Says) → Type 0
 HostTrusted {A} {H} {G} lawful lawful_groups obliging_hosts trusts says =
     (setup : Setup) (a b : A) (h i : H) (g j : G) (names : Names) (w : World) (cl sl : List Event) (item : Item)
@@ -129,4 +133,4 @@ HostTrusted {A} {H} {G} lawful lawful_groups obliging_hosts trusts says =
     → AwaitsNext (talkers (says_by says setup a b h i g j) (config_of setup)) w cl sl Client
     (AwaitsNewkeys exchange made (Some host)) item
     → ((key : HostKey) × Presents setup.server host key host.algorithm)
-    × (obliging_hosts h setup → trusts h host ≡ true)
+    × ((later : H) → obliging_hosts h later setup → trusts h host ≡ true)

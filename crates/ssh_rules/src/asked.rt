@@ -1,8 +1,9 @@
 //! What the parts of a side are asked, and what of it they refuse, so that a clause names them once.
 
+ghost use Rattle.ssh_kex.specs.Parts.{Setup};
 ghost use Rattle.ssh_kex.specs.declared.exchange.ServerHost.{ServerHost};
 ghost use Rattle.ssh_rules.specs.Asking.{PartCalls, counted_by};
-ghost use Rattle.ssh_rules.specs.LinkCauses.{Rises, rises_of};
+ghost use Rattle.ssh_rules.specs.LinkCauses.{Rises, rises_of, unobliged_of};
 ghost use Rattle.ssh_rules.specs.Refusing.{untrusted_of};
 
 use ssh_kex::{Agreement, GroupLookup, HostKeys, Parts};
@@ -17,6 +18,9 @@ pub trait Asked {
 
     // Which of their counts of refusals rose.
     ghost rises: { Self → Self → Rises };
+
+    // And which rose of parts that don't oblige between these states, under both configurations, beside the server's.
+    ghost unobliged: { Setup → Self → Self → Self → Rises };
 }
 
 impl<A: Agreement, H: HostKeys, G: GroupLookup, R> Asked for Parts<A, H, G, R> {
@@ -25,5 +29,9 @@ impl<A: Agreement, H: HostKeys, G: GroupLookup, R> Asked for Parts<A, H, G, R> {
     ghost distrusts = { λ p q. untrusted_of H.obliging H.trusts H.refused_check p.hosts q.hosts };
 
     ghost rises = { λ p q. rises_of A.refusals H.refused_sign H.refused_verify H.refused_check G.refusals
+        p.agreement q.agreement p.hosts q.hosts p.groups q.groups };
+
+    ghost unobliged = { λ setup server p q. unobliged_of A.obliging A.refusals H.obliging H.refused_sign
+        H.refused_verify H.refused_check G.obliging G.refusals setup server.hosts
         p.agreement q.agreement p.hosts q.hosts p.groups q.groups };
 }

@@ -86,11 +86,12 @@ pub fn only_messages_refused<A: Agreement, H: HostKeys, G: GroupLookup>()
 {}
 
 /// Where the parts of both sides are lawful, each refusal of a piece of an honest peer's wire has its cause: the lists
-/// of both configurations, what the side's agreement offers, the group of the client's sizes, or a count of refusals of
-/// the side's parts that rose.
+/// of both configurations, what the side's agreement offers, the group of the client's sizes, or a part that doesn't
+/// oblige and counted a refusal.
 pub fn refusals_have_causes<A: Agreement, H: HostKeys, G: GroupLookup>()
-    ensures { RefusalsHaveCauses A.lawful H.lawful G.lawful A.offered G.group ⟦<(A, H, G) as Spoken>⟧.says
-        ⟦<(A, H, G) as Spoken>⟧.denies ⟦<(A, H, G) as Spoken>⟧.distrusts ⟦<(A, H, G) as Spoken>⟧.rises }
+    ensures { RefusalsHaveCauses A.lawful H.lawful G.lawful A.offered ⟦<(A, H, G) as Spoken>⟧.agreement_keeps G.group
+        ⟦<(A, H, G) as Spoken>⟧.says ⟦<(A, H, G) as Spoken>⟧.denies ⟦<(A, H, G) as Spoken>⟧.distrusts
+        ⟦<(A, H, G) as Spoken>⟧.unobliged }
 {}
 
 /// Where they are obliging, the configurations valid and the chosen key exchange offered, nothing of it is refused but

@@ -1,12 +1,12 @@
 //! What the parts of a side say of states that are told one by one, as the laws have them.
 
-ghost use Rattle.ssh_kex.specs.Parts.{KeepsAgreement, KeepsGroups, KeepsHosts};
+ghost use Rattle.ssh_kex.specs.Parts.{KeepsAgreement, KeepsGroups, KeepsHosts, Setup};
 ghost use Rattle.ssh_kex.specs.Refusals.{Denies};
 ghost use Rattle.ssh_kex.specs.Setting.{Says};
 ghost use Rattle.ssh_kex.specs.Stepping.{denies_of, says_of};
 ghost use Rattle.ssh_kex.specs.declared.config.Config.{Config};
 ghost use Rattle.ssh_kex.specs.declared.exchange.ServerHost.{ServerHost};
-ghost use Rattle.ssh_rules.specs.LinkCauses.{Rises, rises_of};
+ghost use Rattle.ssh_rules.specs.LinkCauses.{Rises, rises_of, unobliged_of};
 ghost use Rattle.ssh_rules.specs.Refusing.{untrusted_of};
 
 use ssh_kex::{Agreement, GroupLookup, HostKeys};
@@ -30,6 +30,11 @@ pub trait Spoken {
 
     // Which of their counts of refusals rose.
     ghost rises: { Self.Agrees → Self.Agrees → Self.Hosts → Self.Hosts → Self.Groups → Self.Groups → Rises };
+
+    // And which rose of parts that don't oblige between these states, under both configurations, beside the server's
+    // host keys.
+    ghost unobliged: { Setup → Self.Hosts → Self.Agrees → Self.Agrees → Self.Hosts → Self.Hosts → Self.Groups
+        → Self.Groups → Rises };
 
     // What each call of one keeps.
     ghost agreement_keeps: { Self.Agrees → Self.Agrees → Type 0 };
@@ -55,6 +60,9 @@ impl<A: Agreement, H: HostKeys, G: GroupLookup> Spoken for (A, H, G) {
     ghost distrusts = { untrusted_of H.obliging H.trusts H.refused_check };
 
     ghost rises = { rises_of A.refusals H.refused_sign H.refused_verify H.refused_check G.refusals };
+
+    ghost unobliged = { unobliged_of A.obliging A.refusals H.obliging H.refused_sign H.refused_verify H.refused_check
+        G.obliging G.refusals };
 
     ghost agreement_keeps = { KeepsAgreement A.lawful A.obliging A.offered A.refusals A.calls };
 

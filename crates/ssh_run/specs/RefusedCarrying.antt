@@ -30,13 +30,13 @@ pub record Telling : Type 1 where
   pub untrusted : ServerHost → Type 0
 
 -- from the members of their traits
-abbrev pub telling_of : {A H G : Type 0} (lawful obliging : A → Setup → Type 0) (offered : A → KexName → Bool)
+abbrev pub telling_of : {A H G : Type 0} (lawful : A → Setup → Type 0) (obliging : A → A → Setup → Type 0) (offered : A → KexName → Bool)
     (client_makes : KexName → Option DhGroup → List ℕ → List ℕ → Type 0) (server_makes : KexName → Option DhGroup
     → List ℕ → Type 0) (agrees : KexName → Option DhGroup → List ℕ → List ℕ → List ℕ → Type 0) (refusals : A → ℕ)
-    (lawful_hosts obliging_hosts : H → Setup → Type 0) (accepts : H → ServerHost → List ℕ → List ℕ → Bool)
+    (lawful_hosts : H → Setup → Type 0) (obliging_hosts : H → H → Setup → Type 0) (accepts : H → ServerHost → List ℕ → List ℕ → Bool)
     (trusts : H → ServerHost → Bool) (makes : Config → ServerHost → List ℕ → List ℕ → Type 0)
     (refused_sign refused_verify refused_check : H → ℕ)
-    (lawful_groups obliging_groups : G → Setup → Type 0) (group : G → GexParams → DhGroup) (refused_lookup : G → ℕ)
+    (lawful_groups : G → Setup → Type 0) (obliging_groups : G → G → Setup → Type 0) (group : G → GexParams → DhGroup) (refused_lookup : G → ℕ)
     → Config → A → A → H → H → G → G → Telling
 telling_of lawful obliging offered client_makes server_makes agrees refusals lawful_hosts obliging_hosts accepts trusts
     makes refused_sign refused_verify refused_check lawful_groups obliging_groups group refused_lookup

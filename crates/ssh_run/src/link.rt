@@ -21,8 +21,8 @@ use rand_core::Rng;
 use ssh_kex::{Agreement, Config, GroupLookup, Handed, HostKeys, Parts};
 use ssh_rules::Asked;
 use ssh_rules::link::{LinkReport, Mark, MarkList, Step};
-use ssh_transport::{Transport, config_fault};
-use ssh_wire::{ConfigFault, Error, Side, SshId};
+use ssh_transport::{Transport, first_config_fault};
+use ssh_wire::{Error, Side, SshId};
 use std::alloc::{AllocError, Global};
 
 /// Both sides, and how many exchanges may be begun.
@@ -72,20 +72,35 @@ pub fn run_link<A: Agreement, H: HostKeys, G: GroupLookup, R: Rng>(
         → H.lawful client_parts.old.hosts (record { client = client.now; server = server.now })
         → H.lawful server_parts.old.hosts (record { client = client.now; server = server.now })
         → G.lawful server_parts.old.groups (record { client = client.now; server = server.now })
-        → IfErr result (IsRunCause (rises_by (⟦<Parts<A, H, G, R> as Asked>⟧.rises client_parts.old client_parts.new)
-        (⟦<Parts<A, H, G, R> as Asked>⟧.rises server_parts.old server_parts.new))
+        → IfErr result (IsRunCause (rises_by
+        (⟦<Parts<A, H, G, R> as Asked>⟧.unobliged (record { client = client.now; server = server.now })
+        server_parts.old client_parts.old client_parts.new)
+        (⟦<Parts<A, H, G, R> as Asked>⟧.unobliged (record { client = client.now; server = server.now })
+        server_parts.old server_parts.old server_parts.new))
         (config_of (record { client = client.now; server = server.now }))
         (offered_by (A.offered client_parts.old.agreement) (A.offered server_parts.old.agreement))
         (G.group server_parts.old.groups client.now.gex) steps.now) }
     ensures complete { IsValidRun (config_of (record { client = client.now; server = server.now }))
         (offered_by (A.offered client_parts.old.agreement) (A.offered server_parts.old.agreement)) steps.now
-        → A.obliging client_parts.old.agreement (record { client = client.now; server = server.now })
-        → A.obliging server_parts.old.agreement (record { client = client.now; server = server.now })
-        → H.obliging client_parts.old.hosts (record { client = client.now; server = server.now })
-        → H.obliging server_parts.old.hosts (record { client = client.now; server = server.now })
+        → A.obliging client_parts.old.agreement client_parts.new.agreement (record {
+          client = client.now;
+          server =
+              server.now;
+        })
+        → A.obliging server_parts.old.agreement server_parts.new.agreement (record {
+          client = client.now;
+          server =
+              server.now;
+        })
+        → H.obliging client_parts.old.hosts client_parts.new.hosts (record { client = client.now; server = server.now })
+        → H.obliging server_parts.old.hosts server_parts.new.hosts (record { client = client.now; server = server.now })
         → G.lawful server_parts.old.groups (record { client = client.now; server = server.now })
         → (kind_by (chosen_by client.now server.now) ≡ true
-        → G.obliging server_parts.old.groups (record { client = client.now; server = server.now }))
+        → G.obliging server_parts.old.groups server_parts.new.groups (record {
+          client = client.now;
+          server =
+              server.now;
+        }))
         → IfErr result (λ e. e ≡ Memory) }
     ensures read { IfOk result (IsReadLink (H.accepts client_parts.old.hosts) (H.trusts client_parts.old.hosts)
         client.now server.now) }
@@ -124,17 +139,6 @@ fn id_text(id: &SshId) -> &str
     }
 }
 
-/// The first test that refuses one of two configurations, the client's tested first, if one does.
-fn first_fault(client: &Config, server: &Config) -> Option<ConfigFault>
-    ensures { result ≡ first_config_fault (valid.config_fault client_side client.now)
-        (valid.config_fault server_side server.now) }
-{
-    match config_fault(Side::Client, client) {
-        Some(fault) => Some(fault),
-        None => config_fault(Side::Server, server),
-    }
-}
-
 /// Runs both sides by the steps. Both configurations are tested before anything takes memory.
 #[tactic(auto, using(ssh_transport::proofs::Lemmas::parts_same))]
 fn carry_steps<A: Agreement, H: HostKeys, G: GroupLookup, R: Rng>(
@@ -163,7 +167,7 @@ fn carry_steps<A: Agreement, H: HostKeys, G: GroupLookup, R: Rng>(
     ensures client_keeps { ⟦<Parts<A, H, G, R> as Handed>⟧.keeps client_parts.old client_parts.new }
     ensures server_keeps { ⟦<Parts<A, H, G, R> as Handed>⟧.keeps server_parts.old server_parts.new }
 {
-    if let Some(fault) = first_fault(client, server) {
+    if let Some(fault) = first_config_fault(client, server) {
         return Err(Error::InvalidConfig(fault));
     }
     let mut link = Link::new(alloc, client, server)?;

@@ -176,12 +176,12 @@ hashes Made config n x y k p v copy c a s e h host b =
 
 -- ---- the answer to a value
 
-pub signs_it : (Makes : Config → ServerHost → List ℕ → List ℕ → Type 0) (Obliging : Setup → Type 0) (config : Config) (n : Names) (p : Presented) (hash signature : List ℕ)
-    → ((s : Setup) (host : ServerHost) → Obliging s → Presents s.server host p.signer n.key → Makes s.server host hash signature) → Some p ≡ presented config.host n.host_key_is_certificate n.key
-    → (s : Setup) → s.server ≡ config → Obliging s → Makes config (host_with n p.blob) hash signature
-signs_it Makes Obliging config n p hash signature made shown s e o =
+pub signs_it : {H : Type 0} (Makes : Config → ServerHost → List ℕ → List ℕ → Type 0) (Obliging : H → Setup → Type 0) (config : Config) (n : Names) (p : Presented) (hash signature : List ℕ)
+    → ((later : H) (s : Setup) (host : ServerHost) → Obliging later s → Presents s.server host p.signer n.key → Makes s.server host hash signature) → Some p ≡ presented config.host n.host_key_is_certificate n.key
+    → (later : H) (s : Setup) → s.server ≡ config → Obliging later s → Makes config (host_with n p.blob) hash signature
+signs_it Makes Obliging config n p hash signature made shown later s e o =
     subst (λ z. Makes z (host_with n p.blob) hash signature) e
-    (made s (host_with n p.blob) o (record { shown = ap (λ (z : Config). presented z.host n.host_key_is_certificate n.key) e ∙ sym shown; same = refl }))
+    (made later s (host_with n p.blob) o (record { shown = ap (λ (z : Config). presented z.host n.host_key_is_certificate n.key) e ∙ sym shown; same = refl }))
 
 pub value_done : (Made : List ℕ → List ℕ → Type 0) (Makes : List ℕ → Type 0) (Agrees : List ℕ → List ℕ → List ℕ → Type 0) (Signs : ServerHost → List ℕ → List ℕ → Type 0) (config : Config) (cause : KexCause) (n : Names) (x y : Exchange) (payload : List ℕ) (old new : Writer) (f : FinishedExchange × Box CipherPair)
     (k : Agreeing) (p : Presented) (value copy host hash signature shown own sent reply : List ℕ) (gex : Bool)

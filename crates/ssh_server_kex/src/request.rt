@@ -68,7 +68,7 @@ pub(crate) fn answer_request<G: GroupLookup, R: Rng>(
         → (q ≡ G.group groups.old sizes) × IsCanonical q) payload.now output.old output.new) }
     ensures causes { IfErr result (RefusesRequest (λ sizes q. (s : Setup) → G.lawful groups.old s
         → (q ≡ G.group groups.old sizes) × IsCanonical q) (λ sizes. Rose (G.refusals groups.old) (G.refusals groups.new)
-        × ((s : Setup) → G.obliging groups.old s → ⊥)) payload.now) }
+        × ((s : Setup) → G.obliging groups.old groups.new s → ⊥)) payload.now) }
     ensures unchanged { OnErr result (SameButRoom output.old output.new) }
     ensures unasked { IfErr result (λ e. is_early false e ≡ true → groups.new ≡ groups.old) }
 {

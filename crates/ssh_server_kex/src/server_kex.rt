@@ -3,6 +3,7 @@
 ghost use Rattle.std.specs.Prelude.{◌≡◌, ◌≤◌, ◌+◌, ◌<◌, ◌^◌, ◌||◌, true, false, List, [], ℕ, length, is_some, Option, Some, None, Ok, Err, IfOk, IfErr, OnOk, OnErr, IfSome};
 ghost use Rattle.ssh_negotiate.specs.Causes.{was_strict};
 ghost use Rattle.ssh_negotiate.specs.Tables.{shape_of};
+ghost use Rattle.ssh_kex.specs.Drawing.{AnswersFrom, DrawnByServer};
 ghost use Rattle.ssh_kex.specs.Messages.{IsCanonical, is_gex};
 ghost use Rattle.ssh_negotiate.specs.Laws.{AreShort};
 ghost use Rattle.ssh_negotiate.specs.Reading.{behind_cookie, cookie_from, kexinit_drawn};
@@ -192,6 +193,7 @@ impl<'c> ServerKex<'c> {
         ensures goes { IfOk result (λ p. Progresses (⟦<Parts<A, H, G, R> as Handed>⟧.says self.entry.setting.config
             parts.old)
             self.entry input.entry output.old p output.new) }
+        ensures drawn { DrawnByServer A.server_draws (R.stream parts.old.rng) self.entry.stage (next_of result) }
         ensures causes { IfErr result (λ e. RefusesStep (⟦<Parts<A, H, G, R> as Handed>⟧.says self.entry.setting.config
             parts.old)
             (⟦<Parts<A, H, G, R> as Handed>⟧.denies parts.old parts.new) self.entry input.entry e) }
@@ -360,7 +362,7 @@ fn take_request<'c, G: GroupLookup, R: Rng>(
         output.new) }
     ensures causes { IfErr result (RefusesRequest (λ sizes q. (s : Setup) → G.lawful groups.old s
         → (q ≡ G.group groups.old sizes) × IsCanonical q) (λ sizes. Rose (G.refusals groups.old) (G.refusals groups.new)
-        × ((s : Setup) → G.obliging groups.old s → ⊥)) payload.now) }
+        × ((s : Setup) → G.obliging groups.old groups.new s → ⊥)) payload.now) }
     ensures unchanged { OnErr result (SameButRoom output.old output.new) }
     ensures unasked { asks_nobody false result ≡ true → groups.new ≡ groups.old }
 {
@@ -399,20 +401,21 @@ fn take_value<'c, A: Agreement, H: HostKeys, G, R: Rng>(
         (λ v. (s : Setup) → A.lawful parts.old.agreement s → A.server_makes names.kex (group_of exchange.gex) v)
         (λ c v x. (s : Setup) → A.lawful parts.old.agreement s
         → A.agrees names.kex (group_of exchange.gex) c v x)
-        (λ host hash signature. (s : Setup) → s.server ≡ config.now → H.obliging parts.old.hosts s
+        (λ host hash signature. (later : H) (s : Setup) → s.server ≡ config.now → H.obliging parts.old.hosts later s
         → H.makes config.now host hash signature)
         config.now cause exchange names payload.now p output.old output.new) }
     ensures causes { IfErr result (RefusesValue (is_gex names.kex)
         (λ c. Rose (A.refusals parts.old.agreement) (A.refusals parts.new.agreement) × ((s : Setup) (l : List ℕ)
-        → A.obliging parts.old.agreement s → A.offered parts.old.agreement names.kex ≡ true
+        → A.obliging parts.old.agreement parts.new.agreement s → A.offered parts.old.agreement names.kex ≡ true
         → A.client_makes names.kex (group_of exchange.gex) l c → ⊥))
         (Rose (H.refused_sign parts.old.hosts) (H.refused_sign parts.new.hosts) × ((s : Setup)
-        → H.obliging parts.old.hosts s → ⊥))
+        → H.obliging parts.old.hosts parts.new.hosts s → ⊥))
         (IsLongAnswer
         (λ v. (s : Setup) → A.lawful parts.old.agreement s → A.server_makes names.kex (group_of exchange.gex) v)
         (λ v. (s : Setup) → A.lawful parts.old.agreement s → IsSmall v)
         (λ v. (s : Setup) → H.lawful parts.old.hosts s → IsSmall v) config.now names payload.now)
         payload.now) }
+    ensures drawn { IfSome (next_of result) (AnswersFrom A.server_draws (R.stream parts.old.rng)) }
     ensures unchanged { OnErr result (SameButRoom output.old output.new) }
     ensures unasked_agreement { asks_nobody false result ≡ true → parts.new.agreement ≡ parts.old.agreement }
     ensures unasked_hosts { asks_nobody false result ≡ true → parts.new.hosts ≡ parts.old.hosts }

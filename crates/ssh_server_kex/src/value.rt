@@ -7,6 +7,7 @@ ghost use Rattle.ssh_packet.specs.Stream.{message_type};
 ghost use Rattle.ssh_packet.specs.Writing.{SameButRoom};
 ghost use Rattle.ssh_wire.specs.Outside.{Rose};
 ghost use Rattle.ssh_wire.specs.declared.error.Error.TheVariants.{Kex, Memory};
+ghost use Rattle.ssh_kex.specs.Drawing.{AnswerDrawn, SecretDrawn};
 ghost use Rattle.ssh_kex.specs.Messages.{is_gex, newkeys, reply_message, value_message};
 ghost use Rattle.ssh_kex.specs.Parts.{IsSmall, KeepsAgreement, KeepsHosts, Setup};
 ghost use Rattle.ssh_kex.specs.Fields.{value_in};
@@ -106,9 +107,11 @@ fn agree<A: Agreement, R: Rng>(
         → A.server_makes name (group_of exchange.old.gex) v
         × A.agrees name (group_of exchange.old.gex) exchange.old.client_ephemeral v x
         × IsSmall v) name exchange.old exchange.new) }
+    ensures drawn { IfOk result (λ k. SecretDrawn (A.server_draws name (group_of exchange.old.gex)
+        exchange.old.client_ephemeral) (R.stream rng.old) k.secret exchange.new.server_ephemeral) }
     ensures causes { IfErr result (λ e. (e ≡ Kex) ⊎ (e ≡ Memory)) }
     ensures rose { IfErr result (λ e. e ≡ Kex → Rose (A.refusals agreement.old) (A.refusals agreement.new)) }
-    ensures owed { IfErr result (λ e. e ≡ Kex → (s : Setup) (local : List ℕ) → A.obliging agreement.old s
+    ensures owed { IfErr result (λ e. e ≡ Kex → (s : Setup) (local : List ℕ) → A.obliging agreement.old agreement.new s
         → A.offered agreement.old name ≡ true → A.client_makes name
         (group_of exchange.old.gex) local exchange.old.client_ephemeral → ⊥) }
 {
@@ -174,20 +177,22 @@ pub(crate) fn answer_value<A: Agreement, H: HostKeys, G, R: Rng>(
         (λ v. (s : Setup) → A.lawful parts.old.agreement s → A.server_makes names.now.kex (group_of exchange.old.gex) v)
         (λ c v x. (s : Setup) → A.lawful parts.old.agreement s → A.agrees names.now.kex
         (group_of exchange.old.gex) c v x)
-        (λ host hash signature. (s : Setup) → s.server ≡ config.now → H.obliging parts.old.hosts s
+        (λ host hash signature. (later : H) (s : Setup) → s.server ≡ config.now → H.obliging parts.old.hosts later s
         → H.makes config.now host hash signature)
         config.now cause.now names.now exchange.old exchange.new payload.now output.old output.new) }
     ensures causes { IfErr result (RefusesValue (is_gex names.now.kex)
         (λ c. Rose (A.refusals parts.old.agreement) (A.refusals parts.new.agreement) × ((s : Setup) (l : List ℕ)
-        → A.obliging parts.old.agreement s → A.offered parts.old.agreement names.now.kex ≡ true
+        → A.obliging parts.old.agreement parts.new.agreement s → A.offered parts.old.agreement names.now.kex ≡ true
         → A.client_makes names.now.kex (group_of exchange.old.gex) l c → ⊥))
         (Rose (H.refused_sign parts.old.hosts) (H.refused_sign parts.new.hosts) × ((s : Setup)
-        → H.obliging parts.old.hosts s → ⊥))
+        → H.obliging parts.old.hosts parts.new.hosts s → ⊥))
         (IsLongAnswer
         (λ v. (s : Setup) → A.lawful parts.old.agreement s → A.server_makes names.now.kex (group_of exchange.old.gex) v)
         (λ v. (s : Setup) → A.lawful parts.old.agreement s → IsSmall v)
         (λ v. (s : Setup) → H.lawful parts.old.hosts s → IsSmall v) config.now names.now payload.now)
         payload.now) }
+    ensures drawn { IfOk result (λ f. AnswerDrawn (A.server_draws names.now.kex (group_of exchange.old.gex))
+        (R.stream parts.old.rng) exchange.new f.0) }
     ensures unchanged { OnErr result (SameButRoom output.old output.new) }
     ensures unasked { IfErr result (λ e. is_early false e ≡ true → (parts.new.agreement ≡ parts.old.agreement)
         × (parts.new.hosts ≡ parts.old.hosts)) }

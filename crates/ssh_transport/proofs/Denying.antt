@@ -41,11 +41,11 @@ rose_later a b c h r = omega (arith, h, r)
 pub kept_denying : {A H G : Type 0} (lawful : A → Setup → Type 0) (offered : A → kexes.Name → Bool)
     (client_makes : kexes.Name → Option DhGroup → List ℕ → List ℕ → Type 0) (server_makes : kexes.Name → Option DhGroup → List ℕ → Type 0)
     (agrees : kexes.Name → Option DhGroup → List ℕ → List ℕ → List ℕ → Type 0)
-    (lawful_hosts obliging : H → Setup → Type 0) (accepts : H → ServerHost → List ℕ → List ℕ → Bool) (trusts : H → ServerHost → Bool)
+    (lawful_hosts : H → Setup → Type 0) (obliging : H → H → Setup → Type 0) (accepts : H → ServerHost → List ℕ → List ℕ → Bool) (trusts : H → ServerHost → Bool)
     (makes : Config → ServerHost → List ℕ → List ℕ → Type 0) (lawful_groups : G → Setup → Type 0) (group : G → GexParams → DhGroup)
     (config : Config) (a a' a'' : A) (h h' h'' : H) (g g' g'' : G)
-    (obliging_agreement : A → Setup → Type 0) (refusals calls : A → ℕ) (refused_sign refused_verify refused_check calls_hosts : H → ℕ)
-    (obliging_groups : G → Setup → Type 0) (refusals_groups calls_groups : G → ℕ)
+    (obliging_agreement : A → A → Setup → Type 0) (refusals calls : A → ℕ) (refused_sign refused_verify refused_check calls_hosts : H → ℕ)
+    (obliging_groups : G → G → Setup → Type 0) (refusals_groups calls_groups : G → ℕ)
     → KeepsAgreement lawful obliging_agreement offered refusals calls a a'
     → KeepsHosts lawful_hosts obliging accepts trusts refused_sign refused_verify refused_check calls_hosts h h'
     → KeepsGroups lawful_groups obliging_groups group refusals_groups calls_groups g g'
@@ -58,20 +58,20 @@ kept_denying lawful offered client_makes server_makes agrees lawful_hosts obligi
   offers = λ n k. offers_later n k;
   value_small = λ v k s w. k s (ka.lawful_kept s w);
   signature_small = λ v k s w. k s (kh.lawful_kept s w);
-  start = λ n q k. (rose_later (r a) (r a') (r a'') ka.refusals_later k.0, λ s o e. k.1 s (ka.obliging_kept s o) (offers_later n e));
-  value = λ n q v k. (rose_later (r a) (r a') (r a'') ka.refusals_later k.0, λ s l o e m. k.1 s l (ka.obliging_kept s o) (offers_later n e) m);
-  reply = λ n q l v k. (rose_later (r a) (r a') (r a'') ka.refusals_later k.0, λ s x o e m w. k.1 s x (ka.obliging_kept s o) (offers_later n e) m w);
-  lookup = λ sizes k. (rose_later (rg g) (rg g') (rg g'') kg.refusals_later k.0, λ s o. k.1 s (kg.obliging_kept s o));
-  sign = λ k. (rose_later (rs h) (rs h') (rs h'') kh.sign_later k.0, λ s o. k.1 s (kh.obliging_kept s o));
-  verify = λ host hash signature k. (rose_later (rv h) (rv h') (rv h'') kh.verify_later k.0, λ s o e. k.1 s (kh.obliging_kept s o) (ap (λ (f : ServerHost → List ℕ → List ℕ → Bool). f host hash signature) kh.accepts_kept ∙ e));
+  start = λ n q k. (rose_later (r a) (r a') (r a'') ka.refusals_later k.0, λ s o e. k.1 s (ka.obliging_kept a'' s o) (offers_later n e));
+  value = λ n q v k. (rose_later (r a) (r a') (r a'') ka.refusals_later k.0, λ s l o e m. k.1 s l (ka.obliging_kept a'' s o) (offers_later n e) m);
+  reply = λ n q l v k. (rose_later (r a) (r a') (r a'') ka.refusals_later k.0, λ s x o e m w. k.1 s x (ka.obliging_kept a'' s o) (offers_later n e) m w);
+  lookup = λ sizes k. (rose_later (rg g) (rg g') (rg g'') kg.refusals_later k.0, λ s o. k.1 s (kg.obliging_kept g'' s o));
+  sign = λ k. (rose_later (rs h) (rs h') (rs h'') kh.sign_later k.0, λ s o. k.1 s (kh.obliging_kept h'' s o));
+  verify = λ host hash signature k. (rose_later (rv h) (rv h') (rv h'') kh.verify_later k.0, λ s o e. k.1 s (kh.obliging_kept h'' s o) (ap (λ (f : ServerHost → List ℕ → List ℕ → Bool). f host hash signature) kh.accepts_kept ∙ e));
 } where
   offers_later : (n : kexes.Name) → offered a n ≡ true → offered a' n ≡ true
   offers_later n e = ap (λ (f : kexes.Name → Bool). f n) ka.offered_kept ∙ e
 
-pub kept_untrusting : {H : Type 0} (lawful obliging : H → Setup → Type 0) (accepts : H → ServerHost → List ℕ → List ℕ → Bool) (trusts : H → ServerHost → Bool) (refused_sign refused_verify refused_check calls : H → ℕ) (h h' h'' : H) (host : ServerHost)
+pub kept_untrusting : {H : Type 0} (lawful : H → Setup → Type 0) (obliging : H → H → Setup → Type 0) (accepts : H → ServerHost → List ℕ → List ℕ → Bool) (trusts : H → ServerHost → Bool) (refused_sign refused_verify refused_check calls : H → ℕ) (h h' h'' : H) (host : ServerHost)
     → KeepsHosts lawful obliging accepts trusts refused_sign refused_verify refused_check calls h h'
     → untrusted_of obliging trusts refused_check h' h'' host → untrusted_of obliging trusts refused_check h h'' host
-kept_untrusting lawful obliging accepts trusts rs rv rc ch h h' h'' host k u = (rose_later (rc h) (rc h') (rc h'') k.check_later u.0, λ s o e. u.1 s (k.obliging_kept s o) (ap (λ (f : ServerHost → Bool). f host) k.trusts_kept ∙ e))
+kept_untrusting lawful obliging accepts trusts rs rv rc ch h h' h'' host k u = (rose_later (rc h) (rc h') (rc h'') k.check_later u.0, λ s o e. u.1 s (k.obliging_kept h'' s o) (ap (λ (f : ServerHost → Bool). f host) k.trusts_kept ∙ e))
 
 -- ---- messages
 

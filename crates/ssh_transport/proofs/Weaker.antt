@@ -29,11 +29,11 @@ pub record Weaker (a b : Says) : Type 0 where
 pub kept_weaker : {A H G : Type 0} (lawful : A → Setup → Type 0) (offered : A → kexes.Name → Bool)
     (client_makes : kexes.Name → Option DhGroup → List ℕ → List ℕ → Type 0) (server_makes : kexes.Name → Option DhGroup → List ℕ → Type 0)
     (agrees : kexes.Name → Option DhGroup → List ℕ → List ℕ → List ℕ → Type 0)
-    (lawful_hosts obliging : H → Setup → Type 0) (accepts : H → ServerHost → List ℕ → List ℕ → Bool) (trusts : H → ServerHost → Bool)
+    (lawful_hosts : H → Setup → Type 0) (obliging : H → H → Setup → Type 0) (accepts : H → ServerHost → List ℕ → List ℕ → Bool) (trusts : H → ServerHost → Bool)
     (makes : Config → ServerHost → List ℕ → List ℕ → Type 0) (lawful_groups : G → Setup → Type 0) (group : G → GexParams → DhGroup)
     (config : Config) (a a' : A) (h h' : H) (g g' : G)
-    (obliging_agreement : A → Setup → Type 0) (refusals calls : A → ℕ) (refused_sign refused_verify refused_check calls_hosts : H → ℕ)
-    (obliging_groups : G → Setup → Type 0) (refusals_groups calls_groups : G → ℕ)
+    (obliging_agreement : A → A → Setup → Type 0) (refusals calls : A → ℕ) (refused_sign refused_verify refused_check calls_hosts : H → ℕ)
+    (obliging_groups : G → G → Setup → Type 0) (refusals_groups calls_groups : G → ℕ)
     → KeepsAgreement lawful obliging_agreement offered refusals calls a a'
     → KeepsHosts lawful_hosts obliging accepts trusts refused_sign refused_verify refused_check calls_hosts h h'
     → KeepsGroups lawful_groups obliging_groups group refusals_groups calls_groups g g'
@@ -45,7 +45,7 @@ kept_weaker lawful offered client_makes server_makes agrees lawful_hosts obligin
   server_makes = λ n q v k s w. k s (ka.lawful_kept s w);
   reply = λ n q l c v x k m s w. k (λ t u. m s w) s (ka.lawful_kept s w);
   finds = λ sizes q k s w. (let p = k s (kg.lawful_kept s w) in (p.0 ∙ ap (λ (f : GexParams → DhGroup). f sizes) kg.group_kept, p.1));
-  signs = λ host hash signature k s e o. k s e (kh.obliging_kept s o);
+  signs = λ host hash signature k later s e o. k later s e (kh.obliging_kept later s o);
   accepts = λ host hash signature k. sym (ap (λ (f : ServerHost → List ℕ → List ℕ → Bool). f host hash signature) kh.accepts_kept) ∙ k;
   trusts = λ host k. sym (ap (λ (f : ServerHost → Bool). f host) kh.trusts_kept) ∙ k;
   offers = λ n k. sym (ap (λ (f : kexes.Name → Bool). f n) ka.offered_kept) ∙ k;

@@ -8,6 +8,7 @@ ghost use Rattle.ssh_negotiate.specs.declared.preferred.HostKey.{HostKey};
 ghost use Rattle.ssh_rules.specs.Valid as valid;
 ghost use Rattle.ssh_rules.specs.Valid.{is_good_limit as good_limit, is_id_line_text, is_no_kex, longest_blob, some_blob_long, some_list_long};
 ghost use Rattle.ssh_wire.specs.Lines.{is_line_end};
+ghost use Rattle.ssh_wire.specs.declared.side.Side.TheVariants.{Client as client_side, Server as server_side};
 
 use ssh_kex::{Config, GexParams};
 use ssh_negotiate::{HostCertificate, HostKey, Preferred, can_be_advertised, kex};
@@ -47,6 +48,18 @@ pub fn config_fault(side: Side, config: &Config) -> Option<ConfigFault>
         return Some(ConfigFault::HostBlob);
     }
     None
+}
+
+/// The first test that refuses one of two sides' configurations, the client's tested first, if one does. It takes no
+/// memory.
+pub fn first_config_fault(client: &Config, server: &Config) -> Option<ConfigFault>
+    ensures { result ≡ valid.first_config_fault (valid.config_fault client_side client.now)
+        (valid.config_fault server_side server.now) }
+{
+    match config_fault(Side::Client, client) {
+        Some(fault) => Some(fault),
+        None => config_fault(Side::Server, server),
+    }
 }
 
 /// Whether a version line begins as one does, ends no line within, and has at most 255 bytes as it is written.

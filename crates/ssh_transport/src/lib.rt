@@ -8,7 +8,7 @@ mod message;
 mod session;
 mod transport;
 
-pub use crate::config::config_fault;
+pub use crate::config::{config_fault, first_config_fault};
 pub use crate::transport::Transport;
 pub use ssh_kex::{Config, FinishedExchange};
 pub use ssh_rules::link::ExchangeList;

@@ -1,5 +1,5 @@
 -- What is counted of parts, and a part that refuses one of its calls.
-use Rattle.std.specs.Prelude.{◌≡◌, ℕ, ◌+◌, ◌==◌, Bool, true, false, slice_index, Result, Ok, Err}
+use Rattle.std.specs.Prelude.{◌≡◌, ℕ, ◌+◌, ◌<◌, ◌≤◌, ◌==◌, Bool, true, false, slice_index, Result, Ok, Err}
 use Rattle.ssh_wire.specs.Outside.{next_count}
 use Rattle.ssh_kex.specs.Parts.{Setup}
 use Rattle.ssh_kex.specs.declared.parts.Refusal.{Refusal}
@@ -47,6 +47,10 @@ refusals_at place inner v = slice_index v.refusals place + inner v.inner
 abbrev pub Within : {T : Type 0} → (T → Setup → Type 0) → Refusing T → Setup → Type 0
 Within inner v s = inner v.inner s
 
--- and obliges as its inner part does, where it refuses no call
-abbrev pub Obliges : {T : Type 0} → (T → Setup → Type 0) → Refusing T → Setup → Type 0
-Obliges inner v s = (v.refuse_at ≡ 0) × inner v.inner s
+-- the call that it refuses is one of those between two of its states
+abbrev pub RefusesBetween : {T : Type 0} → Refusing T → Refusing T → Type 0
+RefusesBetween v later = (v.calls < v.refuse_at) × (v.refuse_at ≤ later.calls)
+
+-- and obliges as its inner part does, where it refuses no call between them
+abbrev pub Obliges : {T : Type 0} → (T → T → Setup → Type 0) → Refusing T → Refusing T → Setup → Type 0
+Obliges inner v later s = inner v.inner later.inner s × (RefusesBetween v later → ⊥)

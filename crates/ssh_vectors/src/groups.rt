@@ -25,7 +25,7 @@ impl GroupLookup for TestGroups {
 
     ghost lawful = { λ v s. IsLawful v.bits s.client.gex };
 
-    ghost obliging = { λ v s. IsObliging v.bits s.client.gex };
+    ghost obliging = { λ v later s. IsObliging v.bits s.client.gex };
 
     ghost refusals = { λ v. 0 };
 
@@ -35,9 +35,9 @@ impl GroupLookup for TestGroups {
 
     ghost small = { λ v s l. lawful_small v.bits s.client.gex l };
 
-    ghost fitting = { λ v s o. obliging_fits v.bits s.client.gex o };
+    ghost fitting = { λ v later s o. obliging_fits v.bits s.client.gex o };
 
-    ghost obliging_lawful = { λ v s o. o.lawful };
+    ghost obliging_lawful = { λ v later s o. o.lawful };
 
     fn lookup_dh_gex_group(
         &mut self,

@@ -1,6 +1,6 @@
 //! A part that refuses one of its calls.
 
-ghost use Rattle.std.specs.Prelude.{◌≡◌, ℕ, List, true, false, Err, IfOk, OnOk};
+ghost use Rattle.std.specs.Prelude.{◌≡◌, ◌<◌, ◌≤◌, ℕ, List, true, false, Err, IfOk, OnOk};
 ghost use Rattle.std.specs.Option.{option_copied};
 ghost use Rattle.ssh_kex.specs.Parts.{Counted, IsRefused, IsSmall, IsValue, Presents, Setup};
 ghost use Rattle.ssh_kex.specs.Parts.{KeepsAgreement, KeepsGroups, KeepsHosts};
@@ -36,6 +36,7 @@ pub struct Refusing<T> {
 /// Counts a call, and tells whether it is to be refused; it then counts the refusal at its place.
 fn refuses(refuse_at: u64, calls: &mut u64, count: &mut u64) -> bool
     ensures refused { result ≡ is_due refuse_at calls.old }
+    ensures between { result ≡ true → (calls.old < refuse_at) × (refuse_at ≤ calls.new) }
     ensures calls { calls.new ≡ next_count calls.old }
     ensures count { count.new ≡ raised result count.old }
 {
@@ -72,7 +73,7 @@ impl<A: Agreement> Agreement for Refusing<A> {
 
     ghost one_secret = { λ v s. A.one_secret v.inner s };
 
-    ghost obliging_lawful = { λ v s o. A.obliging_lawful v.inner s o.1 };
+    ghost obliging_lawful = { λ v later s o. A.obliging_lawful v.inner later.inner s o.0 };
 
     fn offers(&self, name: kex::Name) -> bool {
         self.inner.offers(name)
@@ -100,8 +101,10 @@ impl<A: Agreement> Agreement for Refusing<A> {
             v.public (R.stream rng.new)) }
         ensures made { (s : Setup) → A.lawful self.old.inner s → IfOk result (λ v.
             A.client_makes name (option_copied group.entry) v.local v.public × IsSmall v.public × IsSmall v.local) }
-        ensures never { (s : Setup) → A.obliging self.old.inner s → A.offered self.old.inner name ≡ true
+        ensures only { (s : Setup) → A.obliging self.old.inner self.new.inner s → A.offered self.old.inner name ≡ true
             → IsRefused result → refuses_next self.old ≡ true }
+        ensures never { (s : Setup) → Obliges A.obliging self.old self.new s → A.offered self.old.inner name ≡ true
+            → IsRefused result → ⊥ }
     {
         if refuses(self.refuse_at, &mut self.calls, &mut self.refusals[0]) {
             return Err(Refusal::Refused);
@@ -134,10 +137,14 @@ impl<A: Agreement> Agreement for Refusing<A> {
             A.server_makes name (option_copied group.entry) v.public
             × A.agrees name (option_copied group.entry) client_public.now v.public v.secret
             × IsSmall v.public × IsSmall v.secret) }
-        ensures never { (s : Setup) (local : List ℕ) → A.obliging self.old.inner s
+        ensures only { (s : Setup) (local : List ℕ) → A.obliging self.old.inner self.new.inner s
             → A.offered self.old.inner name ≡ true
             → A.client_makes name (option_copied group.entry) local client_public.now
             → IsRefused result → refuses_next self.old ≡ true }
+        ensures never { (s : Setup) (local : List ℕ) → Obliges A.obliging self.old self.new s
+            → A.offered self.old.inner name ≡ true
+            → A.client_makes name (option_copied group.entry) local client_public.now
+            → IsRefused result → ⊥ }
     {
         if refuses(self.refuse_at, &mut self.calls, &mut self.refusals[1]) {
             return Err(Refusal::Refused);
@@ -167,11 +174,16 @@ impl<A: Agreement> Agreement for Refusing<A> {
         ensures made { (s : Setup) (public : List ℕ) → A.lawful self.old.inner s
             → A.client_makes name (option_copied group.entry) local.now public → IfOk result (λ v.
             A.agrees name (option_copied group.entry) public server_public.now v × IsSmall v) }
-        ensures never { (s : Setup) (public : List ℕ) → A.obliging self.old.inner s
+        ensures only { (s : Setup) (public : List ℕ) → A.obliging self.old.inner self.new.inner s
             → A.offered self.old.inner name ≡ true
             → A.client_makes name (option_copied group.entry) local.now public
             → A.server_makes name (option_copied group.entry) server_public.now
             → IsRefused result → refuses_next self.old ≡ true }
+        ensures never { (s : Setup) (public : List ℕ) → Obliges A.obliging self.old self.new s
+            → A.offered self.old.inner name ≡ true
+            → A.client_makes name (option_copied group.entry) local.now public
+            → A.server_makes name (option_copied group.entry) server_public.now
+            → IsRefused result → ⊥ }
     {
         if refuses(self.refuse_at, &mut self.calls, &mut self.refusals[2]) {
             return Err(Refusal::Refused);
@@ -202,11 +214,12 @@ impl<H: HostKeys> HostKeys for Refusing<H> {
 
     ghost calls = { λ v. v.calls };
 
-    ghost obliging_lawful = { λ v s o. H.obliging_lawful v.inner s o.1 };
+    ghost obliging_lawful = { λ v later s o. H.obliging_lawful v.inner later.inner s o.0 };
 
-    ghost obliging_trusts = { λ v s host key o. H.obliging_trusts v.inner s host key o.1 };
+    ghost obliging_trusts = { λ v later s host key o. H.obliging_trusts v.inner later.inner s host key o.0 };
 
-    ghost obliging_accepts = { λ v s host hash signature o. H.obliging_accepts v.inner s host hash signature o.1 };
+    ghost obliging_accepts = { λ v later s host hash signature o.
+        H.obliging_accepts v.inner later.inner s host hash signature o.0 };
 
     fn sign(
         &mut self,
@@ -229,9 +242,11 @@ impl<H: HostKeys> HostKeys for Refusing<H> {
         ensures check { refusals_at 2 H.refused_check self.new ≡ refusals_at 2 H.refused_check self.old }
         ensures values { IfOk result (λ v. IsValue v) }
         ensures small { (s : Setup) → H.lawful self.old.inner s → IfOk result (λ v. IsSmall v) }
-        ensures made { (s : Setup) (host : ServerHost) → H.obliging self.old.inner s
+        ensures made { (later : Refusing H) (s : Setup) (host : ServerHost) → Obliges H.obliging self.old later s
             → Presents s.server host key.now algorithm → IfOk result (λ v. H.makes s.server host hash.now (judged v)) }
-        ensures never { (s : Setup) → H.obliging self.old.inner s → IsRefused result → refuses_next self.old ≡ true }
+        ensures only { (s : Setup) → H.obliging self.old.inner self.new.inner s → IsRefused result
+            → refuses_next self.old ≡ true }
+        ensures never { (s : Setup) → Obliges H.obliging self.old self.new s → IsRefused result → ⊥ }
     {
         if refuses(self.refuse_at, &mut self.calls, &mut self.refusals[0]) {
             return Err(Refusal::Refused);
@@ -259,9 +274,12 @@ impl<H: HostKeys> HostKeys for Refusing<H> {
         ensures sign { refusals_at 0 H.refused_sign self.new ≡ refusals_at 0 H.refused_sign self.old }
         ensures check { refusals_at 2 H.refused_check self.new ≡ refusals_at 2 H.refused_check self.old }
         ensures ok { OnOk result (H.accepts self.old.inner host.now hash.now signature.now ≡ true) }
-        ensures never { (s : Setup) → H.obliging self.old.inner s
+        ensures only { (s : Setup) → H.obliging self.old.inner self.new.inner s
             → H.accepts self.old.inner host.now hash.now signature.now ≡ true
             → IsRefused result → refuses_next self.old ≡ true }
+        ensures never { (s : Setup) → Obliges H.obliging self.old self.new s
+            → H.accepts self.old.inner host.now hash.now signature.now ≡ true
+            → IsRefused result → ⊥ }
     {
         if refuses(self.refuse_at, &mut self.calls, &mut self.refusals[1]) {
             return Err(Refusal::Refused);
@@ -283,8 +301,11 @@ impl<H: HostKeys> HostKeys for Refusing<H> {
         ensures sign { refusals_at 0 H.refused_sign self.new ≡ refusals_at 0 H.refused_sign self.old }
         ensures verify { refusals_at 1 H.refused_verify self.new ≡ refusals_at 1 H.refused_verify self.old }
         ensures ok { OnOk result (H.trusts self.old.inner host.now ≡ true) }
-        ensures never { (s : Setup) → H.obliging self.old.inner s → H.trusts self.old.inner host.now ≡ true
+        ensures only { (s : Setup) → H.obliging self.old.inner self.new.inner s
+            → H.trusts self.old.inner host.now ≡ true
             → IsRefused result → refuses_next self.old ≡ true }
+        ensures never { (s : Setup) → Obliges H.obliging self.old self.new s → H.trusts self.old.inner host.now ≡ true
+            → IsRefused result → ⊥ }
     {
         if refuses(self.refuse_at, &mut self.calls, &mut self.refusals[2]) {
             return Err(Refusal::Refused);
@@ -310,9 +331,9 @@ impl<G: GroupLookup> GroupLookup for Refusing<G> {
 
     ghost small = { λ v s. G.small v.inner s };
 
-    ghost fitting = { λ v s o. G.fitting v.inner s o.1 };
+    ghost fitting = { λ v later s o. G.fitting v.inner later.inner s o.0 };
 
-    ghost obliging_lawful = { λ v s o. G.obliging_lawful v.inner s o.1 };
+    ghost obliging_lawful = { λ v later s o. G.obliging_lawful v.inner later.inner s o.0 };
 
     fn lookup_dh_gex_group(
         &mut self,
@@ -331,7 +352,9 @@ impl<G: GroupLookup> GroupLookup for Refusing<G> {
         ensures values { IfOk result (λ g. IsValue g.prime × IsValue g.generator) }
         ensures found { (s : Setup) → G.lawful self.old.inner s
             → IfOk result (λ g. g ≡ G.group self.old.inner gex_params.now) }
-        ensures never { (s : Setup) → G.obliging self.old.inner s → IsRefused result → refuses_next self.old ≡ true }
+        ensures only { (s : Setup) → G.obliging self.old.inner self.new.inner s → IsRefused result
+            → refuses_next self.old ≡ true }
+        ensures never { (s : Setup) → Obliges G.obliging self.old self.new s → IsRefused result → ⊥ }
     {
         if refuses(self.refuse_at, &mut self.calls, &mut self.refusals[0]) {
             return Err(Refusal::Refused);

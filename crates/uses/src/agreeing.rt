@@ -31,7 +31,7 @@ pub fn agree<A: Agreement, R: Rng>(
 ) -> Result<Secrets, Refusal>
     ensures one { (s : Setup) → A.lawful client.old s → A.lawful server.old s
         → IfOk result (λ v. v.client ≡ v.server) }
-    ensures never { (s : Setup) → A.obliging client.old s → A.obliging server.old s
+    ensures never { (s : Setup) → A.obliging client.old client.new s → A.obliging server.old server.new s
         → A.offered client.old name ≡ true → A.offered server.old name ≡ true → IsRefused result → ⊥ }
 {
     let started = client.client_start(alloc, name, group, client_rng)?;
@@ -63,12 +63,13 @@ pub fn agree_in_group<A: Agreement, H: HostKeys, G: GroupLookup, R: Rng>(
     ensures one { (s : Setup) → A.lawful client.old.agreement s → A.lawful server.old.agreement s
         → IfOk result (λ v. v.1.client ≡ v.1.server) }
     ensures trusted { OnOk result (H.trusts client.old.hosts host.now ≡ true) }
-    ensures fitting { (s : Setup) → G.obliging server.old.groups s → s.client.gex ≡ sizes.now
+    ensures fitting { (later : G) (s : Setup) → G.obliging server.old.groups later s → s.client.gex ≡ sizes.now
         → IfOk result (λ v. (sizes.now.min_group_size ≤ bit_size v.0.prime)
         × (bit_size v.0.prime ≤ sizes.now.max_group_size)) }
     ensures never { (s : Setup) (key : HostKey)
-        → A.obliging client.old.agreement s → A.obliging server.old.agreement s
-        → H.obliging client.old.hosts s → G.obliging server.old.groups s
+        → A.obliging client.old.agreement client.new.agreement s
+        → A.obliging server.old.agreement server.new.agreement s
+        → H.obliging client.old.hosts client.new.hosts s → G.obliging server.old.groups server.new.groups s
         → A.offered client.old.agreement name ≡ true → A.offered server.old.agreement name ≡ true
         → Presents s.server host.now key host.now.algorithm → IsRefused result → ⊥ }
 {

@@ -90,7 +90,7 @@ impl Agreement for GivenAgreement {
 
     ghost lawful = { λ given setup. ⊥ };
 
-    ghost obliging = { λ given setup. ⊥ };
+    ghost obliging = { λ given later setup. ⊥ };
 
     ghost refusals = { λ given. 0 };
 
@@ -153,7 +153,7 @@ impl Agreement for GivenAgreement {
 
     ghost one_secret = { λ v s name group local client server x y lawful. absurd lawful };
 
-    ghost obliging_lawful = { λ v s obliging. obliging };
+    ghost obliging_lawful = { λ v later s obliging. obliging };
 }
 
 /// Signs by the signatures of exchanges, one after the other, whatever it is asked, the last one again and again;
@@ -198,7 +198,7 @@ impl HostKeys for GivenHosts {
 
     ghost lawful = { λ given setup. ⊥ };
 
-    ghost obliging = { λ given setup. ⊥ };
+    ghost obliging = { λ given later setup. ⊥ };
 
     ghost refused_sign = { λ given. 0 };
 
@@ -241,11 +241,11 @@ impl HostKeys for GivenHosts {
         Ok(())
     }
 
-    ghost obliging_lawful = { λ v s obliging. obliging };
+    ghost obliging_lawful = { λ v later s obliging. obliging };
 
-    ghost obliging_trusts = { λ v s host key obliging. absurd obliging };
+    ghost obliging_trusts = { λ v later s host key obliging. absurd obliging };
 
-    ghost obliging_accepts = { λ v s host hash signature obliging. absurd obliging };
+    ghost obliging_accepts = { λ v later s host hash signature obliging. absurd obliging };
 }
 
 /// Answers the groups of exchanges, one after the other, whatever sizes are asked; the last one stays. No value of it
@@ -279,7 +279,7 @@ impl GroupLookup for GivenGroups {
 
     ghost lawful = { λ given setup. ⊥ };
 
-    ghost obliging = { λ given setup. ⊥ };
+    ghost obliging = { λ given later setup. ⊥ };
 
     ghost refusals = { λ given. 0 };
 
@@ -308,7 +308,7 @@ impl GroupLookup for GivenGroups {
 
     ghost small = { λ v s lawful. absurd lawful };
 
-    ghost fitting = { λ v s obliging. absurd obliging };
+    ghost fitting = { λ v later s obliging. absurd obliging };
 
-    ghost obliging_lawful = { λ v s obliging. obliging };
+    ghost obliging_lawful = { λ v later s obliging. obliging };
 }

@@ -56,7 +56,7 @@ impl GroupLookup for OneGroup {
     ghost lawful = { λ v s. Unit {0} };
 
     // It serves the clients for whose sizes the group is good.
-    ghost obliging = { λ v s. Admits s.client.gex };
+    ghost obliging = { λ v later s. Admits s.client.gex };
 
     // It never refuses, so the count stands.
     ghost refusals = { λ v. 0 };
@@ -67,9 +67,9 @@ impl GroupLookup for OneGroup {
 
     ghost small = { λ v s l. few_bytes };
 
-    ghost fitting = { λ v s o. within s.client.gex o };
+    ghost fitting = { λ v later s o. within s.client.gex o };
 
-    ghost obliging_lawful = { λ v s o. tt };
+    ghost obliging_lawful = { λ v later s o. tt };
 
     fn lookup_dh_gex_group(
         &mut self,

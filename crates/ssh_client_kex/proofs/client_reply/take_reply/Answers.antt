@@ -18,7 +18,7 @@ accept_reply-requires-clause-signature g c = (reply_short _ _ _ _ _ _ _ c.requir
 
 pub returns-clause-err : goal.returns-clause-err
 returns-clause-err g c = refuses_signature _ _ _
-    (λ host hash signature. Rose (g.H.HostKeys.refused_verify c.args.hosts.now) (g.H.HostKeys.refused_verify c.accept_reply.new.hosts) × ((s : Setup) → g.H.HostKeys.obliging c.args.hosts.now s → g.H.HostKeys.accepts c.args.hosts.now host hash signature ≡ true → ⊥))
+    (λ host hash signature. Rose (g.H.HostKeys.refused_verify c.args.hosts.now) (g.H.HostKeys.refused_verify c.accept_reply.new.hosts) × ((s : Setup) → g.H.HostKeys.obliging c.args.hosts.now c.accept_reply.new.hosts s → g.H.HostKeys.accepts c.args.hosts.now host hash signature ≡ true → ⊥))
     c.args.cause c.args.exchange c.args.names _ _ _ _ _ _ c.in-Ok.ensures.ok c.accept_reply.ensures.err
 
 pub returns-clause-agreed : goal.returns-clause-agreed

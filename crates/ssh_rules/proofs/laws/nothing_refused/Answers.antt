@@ -3,12 +3,12 @@ use Rattle.ssh_rules.proofs.Owed.{duties_of, small_of}
 use Rattle.ssh_rules.proofs.laws.nothing_refused.Goals as goal
 
 pub returns : goal.returns
-returns g c = λ t a b h i gr j names w cl sl side stage item v v' x x' y y' error oa ob oh oi oj valid offers ka kh kg next refuses.
-    let la = g.met.A.Agreement.obliging_lawful a t oa in
-    let lb = g.met.A.Agreement.obliging_lawful b t ob in
-    let lh = g.met.H.HostKeys.obliging_lawful h t oh in
-    let li = g.met.H.HostKeys.obliging_lawful i t oi in
-    let lj = g.met.G.GroupLookup.obliging_lawful j t oj in
+returns g c = λ t a a' b b' h h' i i' gr gr' j j' names w cl sl side stage item v x y error oa ob oh oi oj valid offers ka kh kg next refuses.
+    let la = g.met.A.Agreement.obliging_lawful a a' t oa in
+    let lb = g.met.A.Agreement.obliging_lawful b b' t ob in
+    let lh = g.met.H.HostKeys.obliging_lawful h h' t oh in
+    let li = g.met.H.HostKeys.obliging_lawful i i' t oi in
+    let lj = g.met.G.GroupLookup.obliging_lawful j j' t oj in
     nothing_refused _ _ _ names w cl sl side stage item error
     (record {
       valid = valid.valid;
@@ -18,7 +18,7 @@ returns g c = λ t a b h i gr j names w cl sl side stage item v v' x x' y y' err
       canonical = λ sizes group f. (f t lj).1;
     })
     (duties_of _ _ _ _ _ _ _ _ _ _ _ _ _ _ _ _ _ _ _ _ _ _
-    (record { agreement = g.met.A.Agreement.obliging_lawful; lookup = g.met.G.GroupLookup.obliging_lawful; fits = g.met.G.GroupLookup.fitting; accepted = g.met.H.HostKeys.obliging_accepts })
-    t a b h i gr j names.kex side v v' x x' y y' oa ob oh oi lj (λ k. oj) offers ka kh kg)
+    (record { agreement = g.met.A.Agreement.obliging_lawful; lookup = g.met.G.GroupLookup.obliging_lawful; fits = g.met.G.GroupLookup.fitting; accepted = g.met.H.HostKeys.obliging_accepts; trusted = g.met.H.HostKeys.obliging_trusts })
+    t a a' b b' h h' i i' gr gr' j j' names.kex side v x y oa ob oh oi lj (λ k. oj) offers ka kh kg)
     (small_of g.A.Agreement.lawful g.A.Agreement.offered g.A.Agreement.client_makes g.A.Agreement.server_makes g.A.Agreement.agrees g.H.HostKeys.lawful g.H.HostKeys.obliging g.H.HostKeys.accepts g.H.HostKeys.trusts g.H.HostKeys.makes g.G.GroupLookup.lawful g.G.GroupLookup.group g.met.G.GroupLookup.small t a b h i gr j side la lb lh li lj)
     next refuses

@@ -1,11 +1,11 @@
 use Rattle.ssh_kex.specs.Stepping.{says_of}
 use Rattle.ssh_rules.proofs.LinkCauses.{link_cause, offers_by}
-use Rattle.ssh_rules.proofs.Owed.{small_of}
+use Rattle.ssh_rules.proofs.Owed.{owes_of, small_of}
 use Rattle.ssh_rules.proofs.RefusedTurns.{AreLawful, refused_turn}
 use Rattle.ssh_rules.proofs.laws.refusals_have_causes.Goals as goal
 
 pub returns : goal.returns
-returns g c = λ t a b h i gr j w cl sl side took piece old new v v' x x' y y' error la lb lh li lj valid sizes r.
+returns g c = λ t a b h i gr j w cl sl side took piece old new v v' x x' y y' error la lb lh li lj keeps valid sizes r.
     let lawful : AreLawful _ _ = record {
       valid = valid;
       sizes = sizes;
@@ -16,15 +16,10 @@ returns g c = λ t a b h i gr j w cl sl side took piece old new v v' x x' y y' e
     (record {
       lawful = lawful;
       small = (small_of g.A.Agreement.lawful g.A.Agreement.offered g.A.Agreement.client_makes g.A.Agreement.server_makes g.A.Agreement.agrees g.H.HostKeys.lawful g.H.HostKeys.obliging g.H.HostKeys.accepts g.H.HostKeys.trusts g.H.HostKeys.makes g.G.GroupLookup.lawful g.G.GroupLookup.group g.met.G.GroupLookup.small t a b h i gr j side la lb lh li lj);
-      tells = record {
-        start = λ name group d. d.0;
-        value = λ name group public d. d.0;
-        reply = λ name group local value d. d.0;
-        lookup = λ sizes d. d.0;
-        sign = λ d. d.0;
-        verify = λ host hash signature d. d.0;
-        check = λ host d. d.0;
-      };
+      owes = λ kex. owes_of g.A.Agreement.lawful g.A.Agreement.obliging g.A.Agreement.offered g.A.Agreement.client_makes g.A.Agreement.server_makes g.A.Agreement.agrees g.A.Agreement.refusals g.H.HostKeys.lawful g.H.HostKeys.obliging g.H.HostKeys.accepts g.H.HostKeys.trusts g.H.HostKeys.makes g.H.HostKeys.refused_sign g.H.HostKeys.refused_verify g.H.HostKeys.refused_check g.G.GroupLookup.lawful g.G.GroupLookup.obliging g.G.GroupLookup.group g.G.GroupLookup.refusals
+          (record { agreement = g.met.A.Agreement.obliging_lawful; lookup = g.met.G.GroupLookup.obliging_lawful; fits = g.met.G.GroupLookup.fitting; accepted = g.met.H.HostKeys.obliging_accepts; trusted = g.met.H.HostKeys.obliging_trusts })
+          t a b h i gr j kex side v v' x x' y y' la lb keeps.offered_kept;
+      checks = λ host key client p d. (d.0, λ o. d.1 t o (g.met.H.HostKeys.obliging_trusts x x' t host key o p));
       offers = offers_by (says_of g.A.Agreement.lawful g.A.Agreement.offered g.A.Agreement.client_makes g.A.Agreement.server_makes g.A.Agreement.agrees g.H.HostKeys.lawful g.H.HostKeys.obliging g.H.HostKeys.accepts g.H.HostKeys.trusts g.H.HostKeys.makes g.G.GroupLookup.lawful g.G.GroupLookup.group) g.A.Agreement.offered (λ config v x y name o. o) t a b h i gr j side;
       finds = λ q f. (f t lj).0;
     })

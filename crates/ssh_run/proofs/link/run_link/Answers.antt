@@ -8,7 +8,7 @@ use Rattle.ssh_rules.specs.Headline.{IsInGroup, IsLink}
 use Rattle.ssh_rules.specs.RunLaws.{config_of, says_by}
 use Rattle.ssh_rules.specs.Snapshots.{IsWholeId}
 use Rattle.ssh_rules.specs.Valid.{HasSizes, config_fault}
-use Rattle.ssh_rules.specs.LinkCauses.{Rises, rises_of}
+use Rattle.ssh_rules.specs.LinkCauses.{Rises, rises_of, unobliged_of}
 use Rattle.ssh_rules.proofs.Lemmas.{AreLawful, Tells}
 use Rattle.ssh_run.specs.Reports.{IsWholeReport}
 use Rattle.ssh_run.specs.RefusedCarrying.{Telling, telling_of}
@@ -78,7 +78,8 @@ pub returns-clause-causes : goal.returns-clause-causes
 returns-clause-causes g c = λ la lb lh li lg.
     let t : Setup = record { client = c.args.client.now; server = c.args.server.now } in
     let tell : Side → Telling = tells_by (telling_of g.A.Agreement.lawful g.A.Agreement.obliging g.A.Agreement.offered g.A.Agreement.client_makes g.A.Agreement.server_makes g.A.Agreement.agrees g.A.Agreement.refusals g.H.HostKeys.lawful g.H.HostKeys.obliging g.H.HostKeys.accepts g.H.HostKeys.trusts g.H.HostKeys.makes g.H.HostKeys.refused_sign g.H.HostKeys.refused_verify g.H.HostKeys.refused_check g.G.GroupLookup.lawful g.G.GroupLookup.obliging g.G.GroupLookup.group g.G.GroupLookup.refusals c.args.client.now c.args.client_parts.now.agreement c.carry_steps.new.client_parts.agreement c.args.client_parts.now.hosts c.carry_steps.new.client_parts.hosts c.args.client_parts.now.groups c.carry_steps.new.client_parts.groups) (telling_of g.A.Agreement.lawful g.A.Agreement.obliging g.A.Agreement.offered g.A.Agreement.client_makes g.A.Agreement.server_makes g.A.Agreement.agrees g.A.Agreement.refusals g.H.HostKeys.lawful g.H.HostKeys.obliging g.H.HostKeys.accepts g.H.HostKeys.trusts g.H.HostKeys.makes g.H.HostKeys.refused_sign g.H.HostKeys.refused_verify g.H.HostKeys.refused_check g.G.GroupLookup.lawful g.G.GroupLookup.obliging g.G.GroupLookup.group g.G.GroupLookup.refusals c.args.server.now c.args.server_parts.now.agreement c.carry_steps.new.server_parts.agreement c.args.server_parts.now.hosts c.carry_steps.new.server_parts.hosts c.args.server_parts.now.groups c.carry_steps.new.server_parts.groups) in
-    let rises : Side → Rises = rises_by (rises_of g.A.Agreement.refusals g.H.HostKeys.refused_sign g.H.HostKeys.refused_verify g.H.HostKeys.refused_check g.G.GroupLookup.refusals c.args.client_parts.now.agreement c.carry_steps.new.client_parts.agreement c.args.client_parts.now.hosts c.carry_steps.new.client_parts.hosts c.args.client_parts.now.groups c.carry_steps.new.client_parts.groups) (rises_of g.A.Agreement.refusals g.H.HostKeys.refused_sign g.H.HostKeys.refused_verify g.H.HostKeys.refused_check g.G.GroupLookup.refusals c.args.server_parts.now.agreement c.carry_steps.new.server_parts.agreement c.args.server_parts.now.hosts c.carry_steps.new.server_parts.hosts c.args.server_parts.now.groups c.carry_steps.new.server_parts.groups) in
+    let un = unobliged_of g.A.Agreement.obliging g.A.Agreement.refusals g.H.HostKeys.obliging g.H.HostKeys.refused_sign g.H.HostKeys.refused_verify g.H.HostKeys.refused_check g.G.GroupLookup.obliging g.G.GroupLookup.refusals t c.args.server_parts.now.hosts in
+    let rises : Side → Rises = rises_by (un c.args.client_parts.now.agreement c.carry_steps.new.client_parts.agreement c.args.client_parts.now.hosts c.carry_steps.new.client_parts.hosts c.args.client_parts.now.groups c.carry_steps.new.client_parts.groups) (un c.args.server_parts.now.agreement c.carry_steps.new.server_parts.agreement c.args.server_parts.now.hosts c.carry_steps.new.server_parts.hosts c.args.server_parts.now.groups c.carry_steps.new.server_parts.groups) in
     let sizes = of_sides (λ s. HasSizes (config_of t s)) c.see_types.ensures.sizes c.see_types-2.ensures.sizes in
     let a = c.args.client_parts.now.agreement in
     let lawful = λ (v : (s : Side) → config_fault s (config_of t s) ≡ None). (let m : AreLawful (says_in tell) (config_of t) = record {
@@ -89,7 +90,7 @@ returns-clause-causes g c = λ la lb lh li lg.
     } in m) in
     if_refused c.carry_steps.result c.carry_steps.ensures.refused
     (λ e r. run_cause tell (config_of t) rises (offered_by (g.A.Agreement.offered c.args.client_parts.now.agreement) (g.A.Agreement.offered c.args.server_parts.now.agreement)) (g.G.GroupLookup.group c.args.server_parts.now.groups c.args.client.now.gex) c.args.steps.now e lawful
-    (λ v. lawful_causes g.A.Agreement.lawful g.A.Agreement.obliging g.A.Agreement.offered g.A.Agreement.client_makes g.A.Agreement.server_makes g.A.Agreement.agrees g.A.Agreement.refusals g.H.HostKeys.lawful g.H.HostKeys.obliging g.H.HostKeys.accepts g.H.HostKeys.trusts g.H.HostKeys.makes g.H.HostKeys.refused_sign g.H.HostKeys.refused_verify g.H.HostKeys.refused_check g.G.GroupLookup.lawful g.G.GroupLookup.obliging g.G.GroupLookup.group g.G.GroupLookup.refusals g.met.G.GroupLookup.small t c.args.client_parts.now.agreement c.carry_steps.new.client_parts.agreement c.args.server_parts.now.agreement c.carry_steps.new.server_parts.agreement c.args.client_parts.now.hosts c.carry_steps.new.client_parts.hosts c.args.server_parts.now.hosts c.carry_steps.new.server_parts.hosts c.args.client_parts.now.groups c.carry_steps.new.client_parts.groups c.args.server_parts.now.groups c.carry_steps.new.server_parts.groups la lb lh li lg (lawful v))
+    (λ v. lawful_causes g.A.Agreement.lawful g.A.Agreement.obliging g.A.Agreement.offered g.A.Agreement.client_makes g.A.Agreement.server_makes g.A.Agreement.agrees g.A.Agreement.refusals g.H.HostKeys.lawful g.H.HostKeys.obliging g.H.HostKeys.accepts g.H.HostKeys.trusts g.H.HostKeys.makes g.H.HostKeys.refused_sign g.H.HostKeys.refused_verify g.H.HostKeys.refused_check g.G.GroupLookup.lawful g.G.GroupLookup.obliging g.G.GroupLookup.group g.G.GroupLookup.refusals (record { agreement = g.met.A.Agreement.obliging_lawful; lookup = g.met.G.GroupLookup.obliging_lawful; fits = g.met.G.GroupLookup.fitting; accepted = g.met.H.HostKeys.obliging_accepts; trusted = g.met.H.HostKeys.obliging_trusts }) g.met.G.GroupLookup.small t c.args.client_parts.now.agreement c.carry_steps.new.client_parts.agreement c.args.server_parts.now.agreement c.carry_steps.new.server_parts.agreement c.args.client_parts.now.hosts c.carry_steps.new.client_parts.hosts c.args.server_parts.now.hosts c.carry_steps.new.server_parts.hosts c.args.client_parts.now.groups c.carry_steps.new.client_parts.groups c.args.server_parts.now.groups c.carry_steps.new.server_parts.groups la lb lh li lg (lawful v))
     (λ v. of_sides (λ s. IsWholeId (config_of t s)) (whole_id Client c.args.client.now (v Client) c.see_types.ensures.text) (whole_id Server c.args.server.now (v Server) c.see_types-2.ensures.text)) r)
 
 pub returns-clause-good : goal.returns-clause-good
@@ -100,8 +101,8 @@ returns-clause-complete g c = λ v oa ob oh oi lg oj.
     let t : Setup = record { client = c.args.client.now; server = c.args.server.now } in
     if_refused c.carry_steps.result c.carry_steps.ensures.refused
     (λ e r. obliging_complete g.A.Agreement.lawful g.A.Agreement.obliging g.A.Agreement.offered g.A.Agreement.client_makes g.A.Agreement.server_makes g.A.Agreement.agrees g.A.Agreement.refusals g.H.HostKeys.lawful g.H.HostKeys.obliging g.H.HostKeys.accepts g.H.HostKeys.trusts g.H.HostKeys.makes g.H.HostKeys.refused_sign g.H.HostKeys.refused_verify g.H.HostKeys.refused_check g.G.GroupLookup.lawful g.G.GroupLookup.obliging g.G.GroupLookup.group g.G.GroupLookup.refusals g.met.A.Agreement.one_secret
-    (record { agreement = g.met.A.Agreement.obliging_lawful; lookup = g.met.G.GroupLookup.obliging_lawful; fits = g.met.G.GroupLookup.fitting; accepted = g.met.H.HostKeys.obliging_accepts })
-    g.met.H.HostKeys.obliging_lawful g.met.G.GroupLookup.small g.met.H.HostKeys.obliging_trusts
+    (record { agreement = g.met.A.Agreement.obliging_lawful; lookup = g.met.G.GroupLookup.obliging_lawful; fits = g.met.G.GroupLookup.fitting; accepted = g.met.H.HostKeys.obliging_accepts; trusted = g.met.H.HostKeys.obliging_trusts })
+    g.met.H.HostKeys.obliging_lawful g.met.G.GroupLookup.small
     t c.args.client_parts.now.agreement c.carry_steps.new.client_parts.agreement c.args.server_parts.now.agreement c.carry_steps.new.server_parts.agreement c.args.client_parts.now.hosts c.carry_steps.new.client_parts.hosts c.args.server_parts.now.hosts c.carry_steps.new.server_parts.hosts c.args.client_parts.now.groups c.carry_steps.new.client_parts.groups c.args.server_parts.now.groups c.carry_steps.new.server_parts.groups c.args.steps.now e v (of_sides (λ s. HasSizes (config_of t s)) c.see_types.ensures.sizes c.see_types-2.ensures.sizes) oa ob oh oi lg oj
     (of_sides (λ s. IsWholeId (config_of t s)) (whole_id Client c.args.client.now (v.valid Client) c.see_types.ensures.text) (whole_id Server c.args.server.now (v.valid Server) c.see_types-2.ensures.text)) r)
 
