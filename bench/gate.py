@@ -75,6 +75,8 @@ def main():
         print(__doc__)
         return 0 if sys.argv[1:] == ["--help"] else 2
     with tempfile.TemporaryDirectory(prefix="gate-") as room:
+        # rt ci runs the programs and the tests as nobody, where it runs as root
+        os.chmod(room, 0o755)
         subprocess.run(["git", "clone", "-q", str(TOP), f"{room}/clone"], check=True)
         with open(f"{room}/log", "w+", errors="replace") as log:
             start = time.monotonic()
