@@ -111,7 +111,7 @@ impl Setup<'_> {
 
     /// Lets both machines speak.
     fn play(&self, given: &[Given], found: &mut String) -> Result<(), Fault> {
-        let mut client = Machine::new();
+        let mut client = Machine::new(*found.allocator());
         self.play_client(&mut client, given, found)
     }
 
@@ -126,7 +126,7 @@ impl Setup<'_> {
         let trusted = self.trusted(alloc)?;
         let mut parts = self.settings.handed(&self.settings.client, trusted);
         let mut client = Seat::new(alloc, "client", machine, &mut parts);
-        client.begin(alloc, Side::Client, self.client, SERVER_ID, self.cause)?;
+        client.begin(Side::Client, self.client, SERVER_ID, self.cause)?;
         self.play_against(&mut client, given, found)
     }
 
@@ -137,7 +137,7 @@ impl Setup<'_> {
         given: &[Given],
         found: &mut String,
     ) -> Result<(), Fault> {
-        let mut server = Machine::new();
+        let mut server = Machine::new(*found.allocator());
         self.play_server(client, &mut server, given, found)
     }
 
@@ -152,7 +152,7 @@ impl Setup<'_> {
         let alloc = *found.allocator();
         let mut parts = self.settings.handed(&self.settings.server, Vec::new(alloc));
         let mut server = Seat::new(alloc, "server", machine, &mut parts);
-        server.begin(alloc, Side::Server, self.server, CLIENT_ID, self.cause)?;
+        server.begin(Side::Server, self.server, CLIENT_ID, self.cause)?;
         spoken(client, &mut server, given, found)
     }
 }
@@ -399,14 +399,12 @@ impl<'s, 'c> Seat<'s, 'c> {
     /// Sends its KEXINIT.
     fn begin(
         &mut self,
-        alloc: Global,
         side: Side,
         config: &'c Config,
         peer_id: &str,
         cause: KexCause,
     ) -> Result<(), Fault> {
         self.machine.begin(
-            alloc,
             side,
             config,
             peer_id.as_bytes(),

@@ -21,6 +21,7 @@ use vector_rows::Fault;
 /// It stays where it is made, and its calls lend it: a check lists all that it holds anew wherever a function moves it.
 #[derive(Drop)]
 pub struct Machine<'c> {
+    alloc: Global,
     client: Option<ClientKex<'c>>,
     server: Option<ServerKex<'c>>,
     keys: Option<NewKeys>,
@@ -48,8 +49,9 @@ impl Progress {
 
 impl<'c> Machine<'c> {
     /// One that doesn't run yet.
-    pub fn new() -> Machine<'c> {
+    pub fn new(alloc: Global) -> Machine<'c> {
         Machine {
+            alloc,
             client: None,
             server: None,
             keys: None,
@@ -59,7 +61,6 @@ impl<'c> Machine<'c> {
     /// Begins as a side that sends its KEXINIT, with this text of the peer's version line.
     pub fn begin<R: Rng>(
         &mut self,
-        alloc: Global,
         side: Side,
         config: &'c Config,
         peer_id: &[u8],
@@ -69,12 +70,12 @@ impl<'c> Machine<'c> {
     ) -> Result<(), Fault> {
         match side {
             Side::Client => {
-                let mut kex = client_of(alloc, config, peer_id, cause)?;
+                let mut kex = client_of(self.alloc, config, peer_id, cause)?;
                 kex.kexinit(rng, output)?;
                 self.client = Some(kex);
             }
             Side::Server => {
-                let mut kex = server_of(alloc, config, peer_id, cause)?;
+                let mut kex = server_of(self.alloc, config, peer_id, cause)?;
                 kex.kexinit(rng, output)?;
                 self.server = Some(kex);
             }

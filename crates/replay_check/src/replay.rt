@@ -103,7 +103,7 @@ fn replayed_under(
     parts: &mut Given<'_>,
     found: &mut String,
 ) -> Result<Option<Made>, Fault> {
-    let mut machine = Machine::new();
+    let mut machine = Machine::new(*found.allocator());
     replayed_through(talk, side, config, &mut machine, parts, found)
 }
 
@@ -120,7 +120,6 @@ fn replayed_through<'c>(
     let (_, peer) = talk.sides(side);
     let mut output = PacketWriter::clear(alloc);
     machine.begin(
-        alloc,
         side,
         config,
         peer.id.as_slice(),

@@ -1,5 +1,4 @@
 pub mod Lifting
-pub mod Stored
 pub mod Feeding
 pub mod Running
 pub mod Starting

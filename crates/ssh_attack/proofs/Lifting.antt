@@ -23,16 +23,16 @@ by_denying t u d w = record {
 
 -- from the states behind some calls to those before them
 pub earlier_lifts : {A H G : Type 0} (lawful : A → Setup → Type 0) (obliging : A → A → Setup → Type 0) (offered : A → KexName → Bool) (client_makes : KexName → Option DhGroup → List ℕ → List ℕ → Type 0) (server_makes : KexName → Option DhGroup → List ℕ → Type 0) (agrees : KexName → Option DhGroup → List ℕ → List ℕ → List ℕ → Type 0) (refusals calls : A → ℕ)
-    (lawful_hosts : H → Setup → Type 0) (obliging_hosts : H → H → Setup → Type 0) (accepts : H → ServerHost → List ℕ → List ℕ → Bool) (trusts : H → ServerHost → Bool) (makes : Config → ServerHost → List ℕ → List ℕ → Type 0) (refused_sign refused_verify refused_check asked : H → ℕ)
+    (lawful_hosts : H → Setup → Type 0) (signs judges : H → H → Setup → Type 0) (accepts : H → ServerHost → List ℕ → List ℕ → Bool) (trusts : H → ServerHost → Bool) (makes : Config → ServerHost → List ℕ → List ℕ → Type 0) (refused_sign refused_verify refused_check asked : H → ℕ)
     (lawful_groups : G → Setup → Type 0) (obliging_groups : G → G → Setup → Type 0) (group : G → GexParams → DhGroup) (refused_lookup looked : G → ℕ)
     → (config : Config) (a a' a'' : A) (h h' h'' : H) (g g' g'' : G)
-    → KeepsAgreement lawful obliging offered refusals calls a a' → KeepsHosts lawful_hosts obliging_hosts accepts trusts refused_sign refused_verify refused_check asked h h' → KeepsGroups lawful_groups obliging_groups group refused_lookup looked g g'
-    → Lifts (tells_by lawful obliging offered client_makes server_makes agrees refusals calls lawful_hosts obliging_hosts accepts trusts makes refused_sign refused_verify refused_check asked lawful_groups obliging_groups group refused_lookup looked config a' a'' h' h'' g' g'')
-    (tells_by lawful obliging offered client_makes server_makes agrees refusals calls lawful_hosts obliging_hosts accepts trusts makes refused_sign refused_verify refused_check asked lawful_groups obliging_groups group refused_lookup looked config a a'' h h'' g g'')
-earlier_lifts lawful obliging offered cm sm ag refusals calls lh oh accepts trusts makes rs rv rc asked lg og group rl looked config a a' a'' h h' h'' g g' g'' ka kh kg =
+    → KeepsAgreement lawful obliging offered refusals calls a a' → KeepsHosts lawful_hosts signs judges accepts trusts refused_sign refused_verify refused_check asked h h' → KeepsGroups lawful_groups obliging_groups group refused_lookup looked g g'
+    → Lifts (tells_by lawful obliging offered client_makes server_makes agrees refusals calls lawful_hosts signs judges accepts trusts makes refused_sign refused_verify refused_check asked lawful_groups obliging_groups group refused_lookup looked config a' a'' h' h'' g' g'')
+    (tells_by lawful obliging offered client_makes server_makes agrees refusals calls lawful_hosts signs judges accepts trusts makes refused_sign refused_verify refused_check asked lawful_groups obliging_groups group refused_lookup looked config a a'' h h'' g g'')
+earlier_lifts lawful obliging offered cm sm ag refusals calls lh sg jd accepts trusts makes rs rv rc asked lg og group rl looked config a a' a'' h h' h'' g g' g'' ka kh kg =
     by_denying _ _
-    (kept_denying lawful offered cm sm ag lh oh accepts trusts makes lg group config a a' a'' h h' h'' g g' g'' obliging refusals calls rs rv rc asked og rl looked ka kh kg)
-    (λ host u. kept_untrusting lh oh accepts trusts rs rv rc asked h h' h'' host kh u)
+    (kept_denying lawful offered cm sm ag lh sg jd accepts trusts makes lg group config a a' a'' h h' h'' g g' g'' obliging refusals calls rs rv rc asked og rl looked ka kh kg)
+    (λ host u. kept_untrusting lh sg jd accepts trusts rs rv rc asked h h' h'' host kh u)
 
 same_weaker : (a : Says) → Weaker a a
 same_weaker a = record {
@@ -52,13 +52,13 @@ rose_more x y z r h = omega (arith, h, r)
 
 -- and what was denied behind some calls was denied behind more
 pub later_lifts : {A H G : Type 0} (lawful : A → Setup → Type 0) (obliging : A → A → Setup → Type 0) (offered : A → KexName → Bool) (client_makes : KexName → Option DhGroup → List ℕ → List ℕ → Type 0) (server_makes : KexName → Option DhGroup → List ℕ → Type 0) (agrees : KexName → Option DhGroup → List ℕ → List ℕ → List ℕ → Type 0) (refusals calls : A → ℕ)
-    (lawful_hosts : H → Setup → Type 0) (obliging_hosts : H → H → Setup → Type 0) (accepts : H → ServerHost → List ℕ → List ℕ → Bool) (trusts : H → ServerHost → Bool) (makes : Config → ServerHost → List ℕ → List ℕ → Type 0) (refused_sign refused_verify refused_check asked : H → ℕ)
+    (lawful_hosts : H → Setup → Type 0) (signs judges : H → H → Setup → Type 0) (accepts : H → ServerHost → List ℕ → List ℕ → Bool) (trusts : H → ServerHost → Bool) (makes : Config → ServerHost → List ℕ → List ℕ → Type 0) (refused_sign refused_verify refused_check asked : H → ℕ)
     (lawful_groups : G → Setup → Type 0) (obliging_groups : G → G → Setup → Type 0) (group : G → GexParams → DhGroup) (refused_lookup looked : G → ℕ)
     → (config : Config) (a a' a'' : A) (h h' h'' : H) (g g' g'' : G)
-    → KeepsAgreement lawful obliging offered refusals calls a' a'' → KeepsHosts lawful_hosts obliging_hosts accepts trusts refused_sign refused_verify refused_check asked h' h'' → KeepsGroups lawful_groups obliging_groups group refused_lookup looked g' g''
-    → Lifts (tells_by lawful obliging offered client_makes server_makes agrees refusals calls lawful_hosts obliging_hosts accepts trusts makes refused_sign refused_verify refused_check asked lawful_groups obliging_groups group refused_lookup looked config a a' h h' g g')
-    (tells_by lawful obliging offered client_makes server_makes agrees refusals calls lawful_hosts obliging_hosts accepts trusts makes refused_sign refused_verify refused_check asked lawful_groups obliging_groups group refused_lookup looked config a a'' h h'' g g'')
-later_lifts lawful obliging offered cm sm ag refusals calls lh oh accepts trusts makes rs rv rc asked lg og group rl looked config a a' a'' h h' h'' g g' g'' ka kh kg =
+    → KeepsAgreement lawful obliging offered refusals calls a' a'' → KeepsHosts lawful_hosts signs judges accepts trusts refused_sign refused_verify refused_check asked h' h'' → KeepsGroups lawful_groups obliging_groups group refused_lookup looked g' g''
+    → Lifts (tells_by lawful obliging offered client_makes server_makes agrees refusals calls lawful_hosts signs judges accepts trusts makes refused_sign refused_verify refused_check asked lawful_groups obliging_groups group refused_lookup looked config a a' h h' g g')
+    (tells_by lawful obliging offered client_makes server_makes agrees refusals calls lawful_hosts signs judges accepts trusts makes refused_sign refused_verify refused_check asked lawful_groups obliging_groups group refused_lookup looked config a a'' h h'' g g'')
+later_lifts lawful obliging offered cm sm ag refusals calls lh sg jd accepts trusts makes rs rv rc asked lg og group rl looked config a a' a'' h h' h'' g g' g'' ka kh kg =
     by_denying _ _
     (record {
       weaker = same_weaker _;
@@ -69,7 +69,7 @@ later_lifts lawful obliging offered cm sm ag refusals calls lh oh accepts trusts
       value = λ n q v k. (rose_more (refusals a) (refusals a') (refusals a'') k.0 ka.refusals_later, λ s l o. k.1 s l (ka.obliging_sooner a s o));
       reply = λ n q l v k. (rose_more (refusals a) (refusals a') (refusals a'') k.0 ka.refusals_later, λ s c o. k.1 s c (ka.obliging_sooner a s o));
       lookup = λ sizes k. (rose_more (rl g) (rl g') (rl g'') k.0 kg.refusals_later, λ s o. k.1 s (kg.obliging_sooner g s o));
-      sign = λ k. (rose_more (rs h) (rs h') (rs h'') k.0 kh.sign_later, λ s o. k.1 s (kh.obliging_sooner h s o));
-      verify = λ host hash signature k. (rose_more (rv h) (rv h') (rv h'') k.0 kh.verify_later, λ s o. k.1 s (kh.obliging_sooner h s o));
+      sign = λ config k. (rose_more (rs h) (rs h') (rs h'') k.0 kh.sign_later, λ s e o. k.1 s e (kh.signs_sooner h s o));
+      verify = λ host hash signature k. (rose_more (rv h) (rv h') (rv h'') k.0 kh.verify_later, λ s o. k.1 s (kh.judges_sooner h s o));
     })
-    (λ host u. (rose_more (rc h) (rc h') (rc h'') u.0 kh.check_later, λ s o. u.1 s (kh.obliging_sooner h s o)))
+    (λ host u. (rose_more (rc h) (rc h') (rc h'') u.0 kh.check_later, λ s o. u.1 s (kh.judges_sooner h s o)))

@@ -2,6 +2,7 @@
 
 ghost use Rattle.std.specs.Prelude.{◌≡◌, ◌⊎◌, Err, IfErr, IfOk, IfSome, Some};
 ghost use Rattle.ssh_wire.specs.declared.error.ConfigFault.{ConfigFault};
+ghost use Rattle.ssh_kex.specs.Parts.{between};
 ghost use Rattle.ssh_rules.specs.AttackCauses.{IsAttackedRun};
 ghost use Rattle.ssh_rules.specs.Attacking.{AttacksEnd, AttacksSide, attacked_report};
 ghost use Rattle.ssh_rules.specs.Valid as valid;
@@ -45,8 +46,8 @@ pub fn run_attacked<A: Agreement, H: HostKeys, G: GroupLookup, R: Rng>(
         × (first_config_fault (valid.config_fault Client client.now) (valid.config_fault Server server.now) ≡ Some f)
         × (e ≡ InvalidConfig f))) }
     ensures run { IfOk result (IsAttackedRun (⟦<Parts<A, H, G, R> as Attacked>⟧.does
-        (record { client = client.now; server = server.now }) client_parts.old client_parts.new)
-        (⟦<Parts<A, H, G, R> as Attacked>⟧.does (record { client = client.now; server = server.now }) server_parts.old
+        (between client.now server.now) client_parts.old client_parts.new)
+        (⟦<Parts<A, H, G, R> as Attacked>⟧.does (between client.now server.now) server_parts.old
         server_parts.new) client.now server.now steps.now) }
     ensures client_keeps { ⟦<Parts<A, H, G, R> as Handed>⟧.keeps client_parts.old client_parts.new }
     ensures server_keeps { ⟦<Parts<A, H, G, R> as Handed>⟧.keeps server_parts.old server_parts.new }
@@ -61,16 +62,12 @@ pub fn run_attacked<A: Agreement, H: HostKeys, G: GroupLookup, R: Rng>(
         server: AttackEnd::new(alloc, Transport::server(alloc, server)?),
     };
     let answers = attack.run(alloc, client_parts, server_parts, steps)?;
-    Ok(attack.report(alloc, answers)?)
+    Ok(attack.report(answers)?)
 }
 
 impl<'c> Attack<'c> {
     /// What both sides did, with these answers. Memory.
-    fn report(
-        self,
-        alloc: Global,
-        answers: Vec<Result<(), Error>>,
-    ) -> Result<AttackReport, AllocError>
+    fn report(self, answers: Vec<Result<(), Error>>) -> Result<AttackReport, AllocError>
         ensures { IfOk result (λ report. report ≡ record {
           client = attacked_report
               (end_of self.entry.client none_asked);
@@ -79,8 +76,8 @@ impl<'c> Attack<'c> {
         }) }
     {
         Ok(AttackReport {
-            client: self.client.report(alloc)?,
-            server: self.server.report(alloc)?,
+            client: self.client.report()?,
+            server: self.server.report()?,
             answers: AnswerList::new(answers),
         })
     }

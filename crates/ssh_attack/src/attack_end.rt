@@ -7,7 +7,7 @@ use crate::attacked::Attacked;
 use rand_core::Rng;
 use ssh_kex::{Agreement, GroupLookup, Handed, HostKeys, Parts};
 use ssh_rules::Asked;
-use ssh_rules::link::{ExchangeList, SideReport};
+use ssh_rules::link::SideReport;
 use ssh_transport::Transport;
 use ssh_wire::{Blob, Error, Payload, PayloadList};
 use std::alloc::{AllocError, Global};
@@ -88,14 +88,14 @@ impl<'c> AttackEnd<'c> {
         let answer = self.transport.feed(parts, bytes);
         self.taken = taken;
         if !failed {
-            let delivered = self.transport.take_delivered();
-            keep(&mut self.delivered, delivered.into_vec())?;
+            let mut delivered = self.transport.take_delivered().into_vec();
+            self.delivered.append(&mut delivered)?;
         }
         answer
     }
 
     /// What it did. Memory.
-    pub(crate) fn report(self, alloc: Global) -> Result<SideReport, AllocError>
+    pub(crate) fn report(self) -> Result<SideReport, AllocError>
         ensures { IfOk result (λ r. r ≡ record {
           wire = self.entry.transport.output;
           taken = self.entry.taken;
@@ -104,7 +104,7 @@ impl<'c> AttackEnd<'c> {
           exchanges = self.entry.transport.state.records;
         }) }
     {
-        let exchanges = exchanges(alloc, &self.transport)?;
+        let exchanges = self.transport.exchanges()?;
         Ok(SideReport {
             wire: Blob::new(self.transport.into_output()),
             taken: self.taken,
@@ -119,26 +119,4 @@ fn see_bytes(bytes: &[u8])
     ensures { AreBytes bytes.now }
 {
     let _length = bytes.len();
-}
-
-/// Keeps more payloads behind those that are kept. Memory.
-fn keep(kept: &mut Vec<Payload>, more: Vec<Payload>) -> Result<(), AllocError>
-    ensures { OnOk result (kept.new.items ≡ kept.old.items ++ more.items) }
-{
-    for payload in more {
-        kept.push(payload)?;
-    }
-    Ok(())
-}
-
-/// All finished exchanges, the first one first. Memory.
-#[tactic(auto, using(crate::proofs::Stored::one_stored))]
-fn exchanges(alloc: Global, transport: &Transport<'_>) -> Result<ExchangeList, AllocError>
-    ensures { IfOk result (λ list. list ≡ transport.now.state.records) }
-{
-    let mut exchanges = Vec::new(alloc);
-    for k in 0..transport.finished() {
-        exchanges.push(*transport.exchange(k + 1))?;
-    }
-    Ok(ExchangeList::new(exchanges))
 }

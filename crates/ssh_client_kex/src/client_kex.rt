@@ -36,7 +36,7 @@ use ssh_kex::last_message::{end_at_once, last};
 use ssh_kex::message::{has_type, put_message};
 use ssh_kex::{
     Agreement, Config, DhGroup, Exchange, FinishedExchange, GexChosen, GexParams, GroupLookup,
-    Handed, HostKeys, KexAlgorithm, KexProgress, Parts, ServerHost, copy_of_group,
+    Handed, HostKeys, KexAlgorithm, KexBase, KexProgress, Parts, ServerHost, copy_of_group,
 };
 use ssh_negotiate::{KexCause, Names, kex};
 use ssh_packet::{CipherPair, Incoming, PacketWriter};
@@ -64,10 +64,7 @@ pub(crate) enum ClientState {
 /// A client's side of an exchange.
 #[derive(Drop)]
 pub struct ClientKex<'c> {
-    alloc: Global,
-    config: &'c Config,
-    cause: KexCause,
-    exchange: Exchange,
+    base: KexBase<'c>,
     state: ClientState,
 }
 
@@ -77,9 +74,9 @@ impl<'c> Model for ClientKex<'c> {
 
     ghost Value = { Machine };
 
-    ghost view = { λ k. client_machine k.config.now k.cause k.exchange k.state };
+    ghost view = { λ k. client_machine k.base.config.now k.base.cause k.base.exchange k.state };
 
-    ghost invariant = { λ k. ClientHolds k.config.now k.exchange k.state };
+    ghost invariant = { λ k. ClientHolds k.base.config.now k.base.exchange k.state };
 }
 
 impl<'c> ClientKex<'c> {
@@ -108,10 +105,12 @@ impl<'c> ClientKex<'c> {
     {
         let exchange = Exchange::new(alloc, client_sshid.as_kex_hash_bytes(), server_sshid)?;
         Ok(ClientKex {
-            alloc,
-            config,
-            cause,
-            exchange,
+            base: KexBase {
+                alloc,
+                config,
+                cause,
+                exchange,
+            },
             state: ClientState::Created,
         })
     }
@@ -149,55 +148,33 @@ impl<'c> ClientKex<'c> {
         let Some(incoming) = input else {
             return Err(Error::KexInit);
         };
-        let ClientKex {
-            alloc,
-            config,
-            cause,
-            exchange,
-            state,
-        } = self;
+        let ClientKex { base, state } = self;
         if drops_guess(&state) {
             let state = behind_guess(state);
-            return Ok(waits(alloc, config, cause, exchange, state, false));
+            return Ok(waits(base, state, false));
         }
         let payload = incoming.payload;
         match state {
             ClientState::Created => take_kexinit(
-                alloc,
-                config,
-                cause,
-                exchange,
+                base,
                 &mut parts.agreement,
                 &mut parts.rng,
                 incoming,
                 output,
             ),
             ClientState::AwaitsGroup { names } => take_group(
-                alloc,
-                config,
-                cause,
-                exchange,
+                base,
                 names,
                 &mut parts.agreement,
                 &mut parts.rng,
                 payload,
                 output,
             ),
-            ClientState::AwaitsReply { names, algorithm } => take_reply(
-                alloc,
-                config,
-                cause,
-                exchange,
-                names,
-                algorithm,
-                &mut parts.agreement,
-                &mut parts.hosts,
-                &mut parts.rng,
-                payload,
-                output,
-            ),
+            ClientState::AwaitsReply { names, algorithm } => {
+                take_reply(base, names, algorithm, parts, payload, output)
+            }
             ClientState::AwaitsNewkeys { host, made, cipher } => {
-                last(exchange, Some(host), made, cipher, payload)
+                last(base.exchange, Some(host), made, cipher, payload)
             }
         }
     }
@@ -227,8 +204,9 @@ impl<'c> ClientKex<'c> {
         ensures unchanged { OnErr result ((self.new ≡ self.old) × SameButRoom output.old output.new) }
         ensures err { IfErr result (λ e. e ≡ Memory) }
     {
-        let kexinit = send_kexinit(self.alloc, &self.config.preferred, None, rng, output)?;
-        self.exchange.client_kex_init = kexinit;
+        let preferred = &self.base.config.preferred;
+        let kexinit = send_kexinit(self.base.alloc, preferred, None, rng, output)?;
+        self.base.exchange.client_kex_init = kexinit;
         Ok(())
     }
 
@@ -301,24 +279,16 @@ fn behind_guess(state: ClientState) -> ClientState
 
 /// A machine that awaits the peer's next message.
 pub(crate) fn waits<'c>(
-    alloc: Global,
-    config: &'c Config,
-    cause: KexCause,
-    exchange: Exchange,
+    base: KexBase<'c>,
     state: ClientState,
     reset_seqn: bool,
 ) -> KexProgress<ClientKex<'c>>
-    requires { ClientHolds config.now exchange state }
-    ensures { result ≡ NeedsReply (client_machine config.now cause exchange state) reset_seqn }
+    requires { ClientHolds base.config.now base.exchange state }
+    ensures { result ≡ NeedsReply (client_machine base.entry.config.now base.entry.cause base.entry.exchange state)
+        reset_seqn }
 {
     KexProgress::NeedsReply {
-        kex: ClientKex {
-            alloc,
-            config,
-            cause,
-            exchange,
-            state,
-        },
+        kex: ClientKex { base, state },
         reset_seqn,
     }
 }
@@ -368,36 +338,27 @@ fn is_inside(sizes: GexParams, group: &DhGroup) -> bool
 
 /// Asks for a group of the own sizes. Memory leaves the output as it was.
 fn ask_group<'c, R: Rng>(
-    alloc: Global,
-    config: &'c Config,
-    cause: KexCause,
-    exchange: Exchange,
+    base: KexBase<'c>,
     names: Names,
     rng: &mut R,
     output: &mut PacketWriter,
 ) -> Result<KexProgress<ClientKex<'c>>, Error>
-    requires sides { HasShortSides exchange }
+    requires sides { HasShortSides base.exchange }
     requires exchanges { (shape_of names.kex).skip ≡ false }
     requires gex { is_gex names.kex ≡ true }
-    ensures ok { IfOk result (λ p. (p ≡ NeedsReply (client_machine config.now cause exchange
-        (awaits_group names)) false) × Puts output.old (request_message config.now.gex) output.new) }
+    ensures ok { IfOk result (λ p. (p ≡ NeedsReply (client_machine base.entry.config.now base.entry.cause
+        base.entry.exchange
+        (awaits_group names)) false) × Puts output.old (request_message base.entry.config.now.gex) output.new) }
     ensures err { IfErr result (λ e. e ≡ Memory) }
     ensures unchanged { OnErr result (SameButRoom output.old output.new) }
 {
-    let mut message = Vec::new(alloc);
-    let algorithm = KexAlgorithm::new(alloc, names.kex);
-    if let Err(error) = algorithm.client_dh_gex_init(&config.gex, &mut message) {
+    let mut message = Vec::new(base.alloc);
+    let algorithm = KexAlgorithm::new(base.alloc, names.kex);
+    if let Err(error) = algorithm.client_dh_gex_init(&base.config.gex, &mut message) {
         return Err(error);
     }
     match put_message(output, rng, message.as_slice()) {
-        Ok(()) => Ok(waits(
-            alloc,
-            config,
-            cause,
-            exchange,
-            ClientState::AwaitsGroup { names },
-            false,
-        )),
+        Ok(()) => Ok(waits(base, ClientState::AwaitsGroup { names }, false)),
         Err(error) => Err(error),
     }
 }
@@ -405,23 +366,21 @@ fn ask_group<'c, R: Rng>(
 /// Sends the client's value, of no group. Kex where the agreement refused; PacketSize; Memory. A refusal leaves the
 /// output as it was.
 fn open_with_value<'c, A: Agreement, R: Rng>(
-    alloc: Global,
-    config: &'c Config,
-    cause: KexCause,
-    mut exchange: Exchange,
+    mut base: KexBase<'c>,
     names: Names,
     agreement: &mut A,
     rng: &mut R,
     output: &mut PacketWriter,
 ) -> Result<KexProgress<ClientKex<'c>>, Error>
-    requires sides { HasShortSides exchange }
-    requires none { HasNoValues exchange }
+    requires sides { HasShortSides base.exchange }
+    requires none { HasNoValues base.exchange }
     requires exchanges { (shape_of names.kex).skip ≡ false }
     requires gex { is_gex names.kex ≡ false }
     ensures keeps { KeepsAgreement A.lawful A.obliging A.offered A.refusals A.calls agreement.old agreement.new }
     ensures calls { A.calls agreement.new ≤ A.calls agreement.old + 1 }
     ensures ok { IfOk result (λ p. OpensWithValue (λ l v. (s : Setup) → A.lawful agreement.old s
-        → A.client_makes names.kex None l v) config.now cause exchange names p output.old output.new) }
+        → A.client_makes names.kex None l v) base.entry.config.now base.entry.cause base.entry.exchange names p
+        output.old output.new) }
     ensures err { IfErr result (RefusesValue (λ l v. (s : Setup) → A.lawful agreement.old s
         → A.client_makes names.kex None l v) (λ v. (s : Setup) → A.lawful agreement.old s
         → IsSmall v) (Rose (A.refusals agreement.old) (A.refusals agreement.new)
@@ -430,10 +389,10 @@ fn open_with_value<'c, A: Agreement, R: Rng>(
     ensures unchanged { OnErr result (SameButRoom output.old output.new) }
     ensures late { asks_nobody false result ≡ false }
 {
-    let mut algorithm = KexAlgorithm::new(alloc, names.kex);
-    let mut client_ephemeral = Blob::new(Vec::new(alloc));
+    let mut algorithm = KexAlgorithm::new(base.alloc, names.kex);
+    let mut client_ephemeral = Blob::new(Vec::new(base.alloc));
     let sent = send_value(
-        alloc,
+        base.alloc,
         &mut algorithm,
         agreement,
         rng,
@@ -442,15 +401,9 @@ fn open_with_value<'c, A: Agreement, R: Rng>(
     );
     match sent {
         Ok(()) => {
+            let exchange = &mut base.exchange;
             exchange.client_ephemeral = client_ephemeral;
-            Ok(waits(
-                alloc,
-                config,
-                cause,
-                exchange,
-                ClientState::AwaitsReply { names, algorithm },
-                false,
-            ))
+            Ok(waits(base, ClientState::AwaitsReply { names, algorithm }, false))
         }
         Err(error) => Err(error),
     }
@@ -459,52 +412,48 @@ fn open_with_value<'c, A: Agreement, R: Rng>(
 /// The peer's KEXINIT: the client asks for a group, or sends its value; where no values are exchanged, all is at its
 /// end.
 fn take_kexinit<'c, A: Agreement, R: Rng>(
-    alloc: Global,
-    config: &'c Config,
-    cause: KexCause,
-    mut exchange: Exchange,
+    mut base: KexBase<'c>,
     agreement: &mut A,
     rng: &mut R,
     incoming: Incoming<'_>,
     output: &mut PacketWriter,
 ) -> Result<KexProgress<ClientKex<'c>>, Error>
     requires short { length incoming.payload.now < 2 ^ 31 }
-    requires sides { HasShortSides exchange }
-    requires none { HasNoValues exchange }
+    requires sides { HasShortSides base.exchange }
+    requires none { HasNoValues base.exchange }
     ensures keeps { KeepsAgreement A.lawful A.obliging A.offered A.refusals A.calls agreement.old agreement.new }
     ensures calls { A.calls agreement.new ≤ A.calls agreement.old + at_kexinit client_side (next_of result) }
     ensures ok { IfOk result (λ p. AnswersKexinit (λ n. A.offered agreement.old n ≡ true) (λ n l v. (s : Setup)
-        → A.lawful agreement.old s → A.client_makes n None l v) config.now cause exchange incoming.entry p output.old
+        → A.lawful agreement.old s → A.client_makes n None l v) base.entry.config.now base.entry.cause
+        base.entry.exchange incoming.entry p output.old
         output.new) }
     ensures err { IfErr result (RefusesKexinit (λ n. A.offered agreement.old n ≡ true) (λ n l v. (s : Setup)
         → A.lawful agreement.old s → A.client_makes n None l v) (λ v. (s : Setup) → A.lawful agreement.old s
         → IsSmall v) (λ n. Rose (A.refusals agreement.old) (A.refusals agreement.new)
         × ((s : Setup) → A.obliging agreement.old agreement.new s → A.offered agreement.old n ≡ true
-        → ⊥)) config.now cause incoming.entry) }
+        → ⊥)) base.entry.config.now base.entry.cause incoming.entry) }
     ensures drawn { IfSome (next_of result) (StartsFrom A.client_draws (R.stream rng.old)) }
     ensures unchanged { OnErr result (SameButRoom output.old output.new) }
     ensures unasked { asks_nobody false result ≡ true → agreement.new ≡ agreement.old }
 {
-    let names = match client_names(alloc, config, &cause, &incoming) {
+    let names = match client_names(base.alloc, base.config, &base.cause, &incoming) {
         Ok(names) => names,
         Err(error) => return Err(error),
     };
-    exchange.server_kex_init = Blob::copy_of(alloc, incoming.payload)?;
-    let algorithm = KexAlgorithm::new(alloc, names.kex);
+    let kexinit = Blob::copy_of(base.alloc, incoming.payload)?;
+    let exchange = &mut base.exchange;
+    exchange.server_kex_init = kexinit;
+    let algorithm = KexAlgorithm::new(base.alloc, names.kex);
     if algorithm.skip_exchange() {
-        return end_at_once(
-            alloc, &algorithm, &cause, exchange, names, false, rng, output,
-        );
+        return end_at_once(base, &algorithm, names, false, rng, output);
     }
     if !agreement.offers(names.kex) {
         return Err(Error::UnknownAlgo);
     }
     if algorithm.is_dh_gex() {
-        return ask_group(alloc, config, cause, exchange, names, rng, output);
+        return ask_group(base, names, rng, output);
     }
-    open_with_value(
-        alloc, config, cause, exchange, names, agreement, rng, output,
-    )
+    open_with_value(base, names, agreement, rng, output)
 }
 
 /// A key exchange that has a group. Memory.
@@ -523,17 +472,14 @@ fn algorithm_of(alloc: Global, name: kex::Name, group: &DhGroup) -> Result<KexAl
 /// The client's value of a group within its sizes. Kex where the agreement refused; PacketSize; Memory. A refusal
 /// leaves the output as it was.
 fn answer_group<'c, A: Agreement, R: Rng>(
-    alloc: Global,
-    config: &'c Config,
-    cause: KexCause,
-    mut exchange: Exchange,
+    mut base: KexBase<'c>,
     names: Names,
     group: DhGroup,
     agreement: &mut A,
     rng: &mut R,
     output: &mut PacketWriter,
 ) -> Result<KexProgress<ClientKex<'c>>, Error>
-    requires sides { HasShortSides exchange }
+    requires sides { HasShortSides base.exchange }
     requires prime { length group.prime < 2 ^ 31 }
     requires generator { length group.generator < 2 ^ 31 }
     requires exchanges { (shape_of names.kex).skip ≡ false }
@@ -541,7 +487,8 @@ fn answer_group<'c, A: Agreement, R: Rng>(
     ensures keeps { KeepsAgreement A.lawful A.obliging A.offered A.refusals A.calls agreement.old agreement.new }
     ensures calls { A.calls agreement.new ≤ A.calls agreement.old + 1 }
     ensures ok { IfOk result (λ p. SendsOfGroup (λ l v. (s : Setup) → A.lawful agreement.old s
-        → A.client_makes names.kex (Some group) l v) config.now cause exchange names group p output.old output.new) }
+        → A.client_makes names.kex (Some group) l v) base.entry.config.now base.entry.cause base.entry.exchange names
+        group p output.old output.new) }
     ensures err { IfErr result (RefusesValue (λ l v. (s : Setup) → A.lawful agreement.old s
         → A.client_makes names.kex (Some group) l v) (λ v. (s : Setup) → A.lawful agreement.old s
         → IsSmall v) (Rose (A.refusals agreement.old) (A.refusals agreement.new)
@@ -550,32 +497,26 @@ fn answer_group<'c, A: Agreement, R: Rng>(
     ensures unchanged { OnErr result (SameButRoom output.old output.new) }
     ensures late { asks_nobody false result ≡ false }
 {
-    let mut algorithm = match algorithm_of(alloc, names.kex, &group) {
+    let mut algorithm = match algorithm_of(base.alloc, names.kex, &group) {
         Ok(algorithm) => algorithm,
         Err(error) => return Err(error),
     };
-    let mut client_ephemeral = Blob::new(Vec::new(alloc));
+    let mut client_ephemeral = Blob::new(Vec::new(base.alloc));
     let sent = send_value(
-        alloc,
+        base.alloc,
         &mut algorithm,
         agreement,
         rng,
         &mut client_ephemeral,
         output,
     );
-    let params = config.gex;
+    let params = base.config.gex;
     match sent {
         Ok(()) => {
+            let exchange = &mut base.exchange;
             exchange.client_ephemeral = client_ephemeral;
             exchange.gex = Some(GexChosen { params, group });
-            Ok(waits(
-                alloc,
-                config,
-                cause,
-                exchange,
-                ClientState::AwaitsReply { names, algorithm },
-                false,
-            ))
+            Ok(waits(base, ClientState::AwaitsReply { names, algorithm }, false))
         }
         Err(error) => Err(error),
     }
@@ -584,10 +525,7 @@ fn answer_group<'c, A: Agreement, R: Rng>(
 /// The server's group: the client sends its value of it. KexInit where it is another message or not within the own
 /// sizes; SshEncoding; Kex where the agreement refused; PacketSize; Memory. A refusal leaves the output as it was.
 fn take_group<'c, A: Agreement, R: Rng>(
-    alloc: Global,
-    config: &'c Config,
-    cause: KexCause,
-    exchange: Exchange,
+    base: KexBase<'c>,
     names: Names,
     agreement: &mut A,
     rng: &mut R,
@@ -595,18 +533,19 @@ fn take_group<'c, A: Agreement, R: Rng>(
     output: &mut PacketWriter,
 ) -> Result<KexProgress<ClientKex<'c>>, Error>
     requires short { length payload.now < 2 ^ 31 }
-    requires sides { HasShortSides exchange }
+    requires sides { HasShortSides base.exchange }
     requires exchanges { (shape_of names.kex).skip ≡ false }
     requires gex { is_gex names.kex ≡ true }
     ensures keeps { KeepsAgreement A.lawful A.obliging A.offered A.refusals A.calls agreement.old agreement.new }
     ensures calls { A.calls agreement.new ≤ A.calls agreement.old + 1 }
     ensures ok { IfOk result (λ p. AnswersGroup (λ g l v. (s : Setup) → A.lawful agreement.old s
-        → A.client_makes names.kex (Some g) l v) config.now cause exchange names payload.now p output.old output.new) }
+        → A.client_makes names.kex (Some g) l v) base.entry.config.now base.entry.cause base.entry.exchange names
+        payload.now p output.old output.new) }
     ensures err { IfErr result (RefusesGroup (λ g l v. (s : Setup) → A.lawful agreement.old s
         → A.client_makes names.kex (Some g) l v) (λ v. (s : Setup) → A.lawful agreement.old s
         → IsSmall v) (λ g. Rose (A.refusals agreement.old) (A.refusals agreement.new)
         × ((s : Setup) → A.obliging agreement.old agreement.new s → A.offered agreement.old names.kex ≡ true
-        → ⊥)) config.now payload.now) }
+        → ⊥)) base.entry.config.now payload.now) }
     ensures drawn { IfSome (next_of result) (StartsFrom A.client_draws (R.stream rng.old)) }
     ensures unchanged { OnErr result (SameButRoom output.old output.new) }
     ensures unasked { asks_nobody false result ≡ true → agreement.new ≡ agreement.old }
@@ -614,14 +553,12 @@ fn take_group<'c, A: Agreement, R: Rng>(
     if !has_type(payload, msg::KEX_DH_GEX_GROUP) {
         return Err(Error::KexInit);
     }
-    let group = match group_of(alloc, fields_of(payload)) {
+    let group = match group_of(base.alloc, fields_of(payload)) {
         Ok(group) => group,
         Err(error) => return Err(error),
     };
-    if !is_inside(config.gex, &group) {
+    if !is_inside(base.config.gex, &group) {
         return Err(Error::KexInit);
     }
-    answer_group(
-        alloc, config, cause, exchange, names, group, agreement, rng, output,
-    )
+    answer_group(base, names, group, agreement, rng, output)
 }

@@ -23,11 +23,11 @@ use rand_core::Rng;
 use ssh_kex::last_message::finish;
 use ssh_kex::message::{has_type, put_message};
 use ssh_kex::{
-    Agreement, Config, Exchange, HostKeys, KexAlgorithm, KexProgress, Refusal, ServerHost,
+    Agreement, HostKeys, KexAlgorithm, KexBase, KexProgress, Parts, Refusal, ServerHost,
     canonicalize_ecdsa_signature,
 };
 use ssh_mac::HashValue;
-use ssh_negotiate::{KexCause, Names};
+use ssh_negotiate::Names;
 use ssh_packet::PacketWriter;
 use ssh_wire::{Blob, Error, Reader, msg};
 use std::alloc::Global;
@@ -119,13 +119,14 @@ fn verify_signature<H: HostKeys>(
     signature: &[u8],
 ) -> Result<(), Error>
     requires { length signature.now < 2 ^ 31 }
-    ensures keeps { KeepsHosts H.lawful H.obliging H.accepts H.trusts H.refused_sign H.refused_verify H.refused_check
+    ensures keeps { KeepsHosts H.lawful H.signs H.judges H.accepts H.trusts H.refused_sign H.refused_verify
+        H.refused_check
         H.calls hosts.old hosts.new }
     ensures calls { H.calls hosts.new ≤ H.calls hosts.old + 1 }
     ensures ok { OnOk result (H.accepts hosts.old host.now hash.now (judged signature.now) ≡ true) }
     ensures err { IfErr result (λ e. (e ≡ Memory) ⊎ ((e ≡ WrongServerSig)
         × (Rose (H.refused_verify hosts.old) (H.refused_verify hosts.new)
-        × ((s : Setup) → H.obliging hosts.old hosts.new s
+        × ((s : Setup) → H.judges hosts.old hosts.new s
         → H.accepts hosts.old host.now hash.now (judged signature.now) ≡ true
         → ⊥)))) }
 {
@@ -143,10 +144,7 @@ fn verify_signature<H: HostKeys>(
 /// A reply on whose value is agreed: its signature is verified, and NEWKEYS sent. WrongServerSig where the signature
 /// was refused; Memory. A refusal leaves the output as it was.
 fn accept_reply<'c, H: HostKeys, R: Rng>(
-    alloc: Global,
-    config: &'c Config,
-    cause: KexCause,
-    mut exchange: Exchange,
+    mut base: KexBase<'c>,
     names: Names,
     algorithm: KexAlgorithm,
     hosts: &mut H,
@@ -155,98 +153,99 @@ fn accept_reply<'c, H: HostKeys, R: Rng>(
     output: &mut PacketWriter,
 ) -> Result<KexProgress<ClientKex<'c>>, Error>
     requires name { algorithm.name ≡ names.kex }
-    requires whole { IsWhole algorithm.name reply.host.now (record exchange { server_ephemeral = reply.value.now }) }
+    requires whole { IsWhole algorithm.name reply.host.now (record base.exchange
+        { server_ephemeral = reply.value.now }) }
     requires signature { length reply.signature.now < 2 ^ 31 }
-    ensures keeps { KeepsHosts H.lawful H.obliging H.accepts H.trusts H.refused_sign H.refused_verify H.refused_check
+    ensures keeps { KeepsHosts H.lawful H.signs H.judges H.accepts H.trusts H.refused_sign H.refused_verify
+        H.refused_check
         H.calls hosts.old hosts.new }
     ensures calls { H.calls hosts.new ≤ H.calls hosts.old + 1 }
-    ensures ok { IfOk result (λ p. AcceptsReply (λ h d g. H.accepts hosts.old h d g ≡ true) config.now cause exchange
+    ensures ok { IfOk result (λ p. AcceptsReply (λ h d g. H.accepts hosts.old h d g ≡ true) base.entry.config.now
+        base.entry.cause base.entry.exchange
         names algorithm.secret reply.entry.host.now reply.entry.value.now reply.entry.signature.now p output.old
         output.new) }
     ensures err { IfErr result (λ e. (e ≡ Memory) ⊎ ((e ≡ WrongServerSig)
         × (Rose (H.refused_verify hosts.old) (H.refused_verify hosts.new)
-        × ((s : Setup) → H.obliging hosts.old hosts.new s → H.accepts hosts.old (host_with names reply.entry.host.now)
-        (made_with cause names exchange algorithm.secret reply.entry.host.now reply.entry.value.now).hash
+        × ((s : Setup) → H.judges hosts.old hosts.new s → H.accepts hosts.old (host_with names reply.entry.host.now)
+        (made_with base.entry.cause names base.entry.exchange algorithm.secret reply.entry.host.now
+        reply.entry.value.now).hash
         (judged reply.entry.signature.now) ≡ true → ⊥)))) }
     ensures unchanged { OnErr result (SameButRoom output.old output.new) }
     ensures late { asks_nobody false result ≡ false }
 {
-    exchange.server_ephemeral = Blob::copy_of(alloc, reply.value)?;
+    let value = Blob::copy_of(base.alloc, reply.value)?;
+    let exchange = &mut base.exchange;
+    exchange.server_ephemeral = value;
     let host = ServerHost {
         algorithm: names.key,
         is_certificate: names.host_key_is_certificate,
-        blob: Blob::copy_of(alloc, reply.host)?,
+        blob: Blob::copy_of(base.alloc, reply.host)?,
     };
-    let hash = algorithm.compute_exchange_hash(reply.host, &exchange);
-    if let Err(error) = verify_signature(alloc, hosts, &host, &hash, reply.signature) {
+    let hash = algorithm.compute_exchange_hash(reply.host, &base.exchange);
+    if let Err(error) = verify_signature(base.alloc, hosts, &host, &hash, reply.signature) {
         return Err(error);
     }
-    let (made, cipher) = finish(alloc, &algorithm, &cause, names, hash, false)?;
-    let reset_seqn = names.strict_kex || cause.is_strict_rekey();
+    let (made, cipher) = finish(base.alloc, &algorithm, &base.cause, names, hash, false)?;
+    let reset_seqn = names.strict_kex || base.cause.is_strict_rekey();
     match put_message(output, rng, &[msg::NEWKEYS]) {
-        Ok(()) => Ok(waits(
-            alloc,
-            config,
-            cause,
-            exchange,
-            ClientState::AwaitsNewkeys { host, made, cipher },
-            reset_seqn,
-        )),
+        Ok(()) => {
+            let state = ClientState::AwaitsNewkeys { host, made, cipher };
+            Ok(waits(base, state, reset_seqn))
+        }
         Err(error) => Err(error),
     }
 }
 
 /// The server's reply. KexInit where it is another message; SshEncoding; Kex where the agreement refused;
 /// WrongServerSig; Memory. A refusal leaves the output as it was.
-pub(crate) fn take_reply<'c, A: Agreement, H: HostKeys, R: Rng>(
-    alloc: Global,
-    config: &'c Config,
-    cause: KexCause,
-    exchange: Exchange,
+pub(crate) fn take_reply<'c, A: Agreement, H: HostKeys, G, R: Rng>(
+    base: KexBase<'c>,
     names: Names,
     algorithm: KexAlgorithm,
-    agreement: &mut A,
-    hosts: &mut H,
-    rng: &mut R,
+    parts: &mut Parts<A, H, G, R>,
     payload: &[u8],
     output: &mut PacketWriter,
 ) -> Result<KexProgress<ClientKex<'c>>, Error>
     requires short { length payload.now < 2 ^ 31 }
-    requires sides { HasShortSides exchange }
-    requires value { HasValue exchange names algorithm }
-    ensures agreement { KeepsAgreement A.lawful A.obliging A.offered A.refusals A.calls agreement.old agreement.new }
-    ensures agreement_calls { A.calls agreement.new ≤ A.calls agreement.old + 1 }
-    ensures hosts { KeepsHosts H.lawful H.obliging H.accepts H.trusts H.refused_sign H.refused_verify H.refused_check
-        H.calls hosts.old hosts.new }
-    ensures hosts_calls { H.calls hosts.new ≤ H.calls hosts.old + 1 }
+    requires sides { HasShortSides base.exchange }
+    requires value { HasValue base.exchange names algorithm }
+    ensures agreement { KeepsAgreement A.lawful A.obliging A.offered A.refusals A.calls parts.old.agreement
+        parts.new.agreement }
+    ensures agreement_calls { A.calls parts.new.agreement ≤ A.calls parts.old.agreement + 1 }
+    ensures hosts { KeepsHosts H.lawful H.signs H.judges H.accepts H.trusts H.refused_sign H.refused_verify
+        H.refused_check
+        H.calls parts.old.hosts parts.new.hosts }
+    ensures groups { parts.new.groups ≡ parts.old.groups }
+    ensures hosts_calls { H.calls parts.new.hosts ≤ H.calls parts.old.hosts + 1 }
     ensures ok { IfOk result (λ p. AnswersReply (λ l v x. (s : Setup) (public : List ℕ)
-        → A.lawful agreement.old s → A.client_makes algorithm.name algorithm.group l public
+        → A.lawful parts.old.agreement s → A.client_makes algorithm.name algorithm.group l public
         → A.agrees algorithm.name algorithm.group public v x)
-        (λ h d g. H.accepts hosts.old h d g ≡ true) config.now cause exchange names algorithm payload.now p output.old
+        (λ h d g. H.accepts parts.old.hosts h d g ≡ true) base.entry.config.now base.entry.cause base.entry.exchange
+        names algorithm payload.now p output.old
         output.new) }
-    ensures err { IfErr result (RefusesReply (λ l v. Rose (A.refusals agreement.old)
-        (A.refusals agreement.new) × ((s : Setup) (public : List ℕ) → A.obliging agreement.old agreement.new s
-        → A.offered agreement.old algorithm.name ≡ true → A.client_makes algorithm.name algorithm.group l public
+    ensures err { IfErr result (RefusesReply (λ l v. Rose (A.refusals parts.old.agreement)
+        (A.refusals parts.new.agreement) × ((s : Setup) (public : List ℕ) → A.obliging parts.old.agreement
+        parts.new.agreement s
+        → A.offered parts.old.agreement algorithm.name ≡ true → A.client_makes algorithm.name algorithm.group l public
         → A.server_makes algorithm.name algorithm.group v → ⊥)) (λ l v x. (s : Setup) (public : List ℕ)
-        → A.lawful agreement.old s → A.client_makes algorithm.name algorithm.group l public
-        → A.agrees algorithm.name algorithm.group public v x) (λ h d g. Rose (H.refused_verify hosts.old)
-        (H.refused_verify hosts.new) × ((s : Setup) → H.obliging hosts.old hosts.new s
-        → H.accepts hosts.old h d g ≡ true
-        → ⊥)) cause exchange names algorithm payload.now) }
+        → A.lawful parts.old.agreement s → A.client_makes algorithm.name algorithm.group l public
+        → A.agrees algorithm.name algorithm.group public v x) (λ h d g. Rose (H.refused_verify parts.old.hosts)
+        (H.refused_verify parts.new.hosts) × ((s : Setup) → H.judges parts.old.hosts parts.new.hosts s
+        → H.accepts parts.old.hosts h d g ≡ true
+        → ⊥)) base.entry.cause base.entry.exchange names algorithm payload.now) }
     ensures unchanged { OnErr result (SameButRoom output.old output.new) }
     ensures unasked_agreement { asks_nobody (is_ok (reply_front (fields payload.now))) result ≡ true
-        → agreement.new ≡ agreement.old }
-    ensures unasked_hosts { asks_nobody false result ≡ true → hosts.new ≡ hosts.old }
-    ensures agreed { IfErr result (MakesFirst (λ v x. (s : Setup) (public : List ℕ) → A.lawful agreement.old s
+        → parts.new.agreement ≡ parts.old.agreement }
+    ensures unasked_hosts { asks_nobody false result ≡ true → parts.new.hosts ≡ parts.old.hosts }
+    ensures agreed { IfErr result (MakesFirst (λ v x. (s : Setup) (public : List ℕ) → A.lawful parts.old.agreement s
         → A.client_makes algorithm.name algorithm.group (local_of algorithm.local) public
         → A.agrees algorithm.name algorithm.group public v x) payload.now) }
 {
     let mut algorithm = algorithm;
-    let reply = match agree_on_reply(&mut algorithm, agreement, payload) {
+    let reply = match agree_on_reply(&mut algorithm, &mut parts.agreement, payload) {
         Ok(reply) => reply,
         Err(error) => return Err(error),
     };
-    accept_reply(
-        alloc, config, cause, exchange, names, algorithm, hosts, rng, reply, output,
-    )
+    let Parts { hosts, rng, .. } = parts;
+    accept_reply(base, names, algorithm, hosts, rng, reply, output)
 }

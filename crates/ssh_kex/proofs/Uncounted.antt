@@ -12,6 +12,7 @@ use Rattle.ssh_kex.specs.Laws.{CarriesSmall, PartsAnswer}
 use Rattle.ssh_kex.specs.Messages.{group_message, is_gex, reply_message}
 use Rattle.ssh_kex.specs.Parts.{IsSmall}
 use Rattle.ssh_kex.specs.Refusals.{Denies, IsTooLong, PartDenies, SignatureDenied, SigningDenied}
+use Rattle.ssh_kex.specs.declared.config.Config.{Config}
 use Rattle.ssh_kex.specs.Setting.{Says, Setting}
 use Rattle.ssh_kex.specs.Stages.{Stage, Created, AwaitsGroup, AwaitsReply, AwaitsRequest, AwaitsValue, AwaitsNewkeys, Machine}
 use Rattle.ssh_kex.specs.Stepping.{Progresses, RefusesStep}
@@ -32,7 +33,7 @@ pub record DeniesNone (denies : Denies) : Type 0 where
   pub value : (name : kexes.Name) (group : Option DhGroup) (v : List ℕ) → denies.value name group v → ⊥
   pub reply : (name : kexes.Name) (group : Option DhGroup) (l v : List ℕ) → denies.reply name group l v → ⊥
   pub lookup : (sizes : GexParams) → denies.lookup sizes → ⊥
-  pub sign : denies.sign → ⊥
+  pub sign : (config : Config) → denies.sign config → ⊥
   pub verify : (host : ServerHost) (hash signature : List ℕ) → denies.verify host hash signature → ⊥
 
 -- ---- lengths
@@ -85,13 +86,13 @@ is_verified says denies s (AwaitsRequest o) payload d h = h
 is_verified says denies s (AwaitsValue o gex) payload d h = h
 is_verified says denies s (AwaitsNewkeys exchange made host) payload d h = h
 
-is_signed : (denies : Denies) (stage : Stage) (payload : List ℕ) → DeniesNone denies → SigningDenied denies stage payload → ⊥
-is_signed denies (Created own) payload d h = h
-is_signed denies (AwaitsGroup o) payload d h = h
-is_signed denies (AwaitsReply o gex local public) payload d h = h
-is_signed denies (AwaitsRequest o) payload d h = h
-is_signed denies (AwaitsValue o gex) payload d h = d.sign h.1
-is_signed denies (AwaitsNewkeys exchange made host) payload d h = h
+is_signed : (denies : Denies) (s : Setting) (stage : Stage) (payload : List ℕ) → DeniesNone denies → SigningDenied s denies stage payload → ⊥
+is_signed denies s (Created own) payload d h = h
+is_signed denies s (AwaitsGroup o) payload d h = h
+is_signed denies s (AwaitsReply o gex local public) payload d h = h
+is_signed denies s (AwaitsRequest o) payload d h = h
+is_signed denies s (AwaitsValue o gex) payload d h = d.sign s.config h.1
+is_signed denies s (AwaitsNewkeys exchange made host) payload d h = h
 
 not_long : (says : Says) (s : Setting) (stage : Stage) (seqn : ℕ) (payload : List ℕ) (n : ℕ) → AnswersSmall says → CarriesSmall says s stage payload → longest_payload < n → IsTooLong says s stage seqn payload n → ⊥
 not_long says s (Created own) seqn payload n a c l h =
@@ -135,7 +136,7 @@ memory_left says denies s stage seqn payload errors.Disconnect a d c h = absurd 
 memory_left says denies s stage seqn payload errors.DecryptionError a d c h = absurd h
 memory_left says denies s stage seqn payload errors.IO a d c h = absurd h
 memory_left says denies s stage seqn payload (errors.StrictKeyExchangeViolation type place) a d c h = absurd h
-memory_left says denies s stage seqn payload errors.Signature a d c h = absurd (is_signed denies stage payload d h)
+memory_left says denies s stage seqn payload errors.Signature a d c h = absurd (is_signed denies s stage payload d h)
 memory_left says denies s stage seqn payload (errors.SshEncoding fault) a d c h = absurd h
 memory_left says denies s stage seqn payload (errors.InvalidConfig fault) a d c h = absurd h
 memory_left says denies s stage seqn payload errors.Memory a d c h = refl

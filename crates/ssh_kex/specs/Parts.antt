@@ -17,6 +17,9 @@ pub record Setup : Type 0 where
   pub client : Config
   pub server : Config
 
+abbrev pub between : (client server : Config) → Setup
+between client server = record { client = client; server = server }
+
 -- the answer is a refusal
 abbrev pub IsRefused : {T : Type 0} → Result T Refusal → Type 0
 IsRefused (Ok x) = ⊥
@@ -48,7 +51,7 @@ pub record KeepsAgreement {A : Type 0} (lawful : A → Setup → Type 0) (obligi
   pub offered_kept : offered new ≡ offered old
 
 -- what each call of host keys keeps
-pub record KeepsHosts {H : Type 0} (lawful : H → Setup → Type 0) (obliging : H → H → Setup → Type 0)
+pub record KeepsHosts {H : Type 0} (lawful : H → Setup → Type 0) (signs judges : H → H → Setup → Type 0)
     (accepts : H → ServerHost → List ℕ → List ℕ → Bool) (trusts : H → ServerHost → Bool)
     (refused_sign refused_verify refused_check calls : H → ℕ) (old new : H) : Type 0 where
   pub sign_later : refused_sign old ≤ refused_sign new
@@ -56,8 +59,10 @@ pub record KeepsHosts {H : Type 0} (lawful : H → Setup → Type 0) (obliging :
   pub check_later : refused_check old ≤ refused_check new
   pub calls_later : calls old ≤ calls new
   pub lawful_kept : (s : Setup) → lawful old s → lawful new s
-  pub obliging_kept : (later : H) (s : Setup) → obliging old later s → obliging new later s
-  pub obliging_sooner : (before : H) (s : Setup) → obliging before new s → obliging before old s
+  pub signs_kept : (later : H) (s : Setup) → signs old later s → signs new later s
+  pub signs_sooner : (before : H) (s : Setup) → signs before new s → signs before old s
+  pub judges_kept : (later : H) (s : Setup) → judges old later s → judges new later s
+  pub judges_sooner : (before : H) (s : Setup) → judges before new s → judges before old s
   pub accepts_kept : accepts new ≡ accepts old
   pub trusts_kept : trusts new ≡ trusts old
 

@@ -18,6 +18,7 @@ use Rattle.ssh_kex.specs.Messages.{Presented, presented}
 use Rattle.ssh_kex.specs.Setting.{Says, Setting, Opened, offers_of, group_of, exchange_of, made_of}
 use Rattle.ssh_kex.specs.Signature.{judged}
 use Rattle.ssh_kex.specs.Stages.{Stage, Created, AwaitsGroup, AwaitsReply, AwaitsRequest, AwaitsValue, AwaitsNewkeys, IsFirst, drops_guess}
+use Rattle.ssh_kex.specs.declared.config.Config.{Config}
 use Rattle.ssh_kex.specs.declared.exchange.GexChosen.{GexChosen}
 use Rattle.ssh_kex.specs.declared.exchange.ServerHost.{ServerHost}
 use Rattle.ssh_kex.specs.declared.group.DhGroup.{DhGroup}
@@ -33,7 +34,8 @@ pub record Denies : Type 1 where
   -- name, group, the local value, the server's value
   pub reply : kexes.Name → Option DhGroup → List ℕ → List ℕ → Type 0
   pub lookup : GexParams → Type 0
-  pub sign : Type 0
+  -- the server's configuration
+  pub sign : Config → Type 0
   -- host, hash, signature in its canonical form
   pub verify : ServerHost → List ℕ → List ℕ → Type 0
 
@@ -149,14 +151,14 @@ SignatureDenied says denies s (AwaitsValue o gex) payload = ⊥
 SignatureDenied says denies s (AwaitsNewkeys exchange made host) payload = ⊥
 
 -- signing is refused
-abbrev pub SigningDenied : Denies → Stage → List ℕ → Type 0
-SigningDenied denies (Created own) payload = ⊥
-SigningDenied denies (AwaitsGroup o) payload = ⊥
-SigningDenied denies (AwaitsReply o gex local public) payload = ⊥
-SigningDenied denies (AwaitsRequest o) payload = ⊥
-SigningDenied denies (AwaitsValue o gex) payload = ((value : List ℕ) × (value_in (fields payload) ≡ Ok value))
-    × denies.sign
-SigningDenied denies (AwaitsNewkeys exchange made host) payload = ⊥
+abbrev pub SigningDenied : Setting → Denies → Stage → List ℕ → Type 0
+SigningDenied s denies (Created own) payload = ⊥
+SigningDenied s denies (AwaitsGroup o) payload = ⊥
+SigningDenied s denies (AwaitsReply o gex local public) payload = ⊥
+SigningDenied s denies (AwaitsRequest o) payload = ⊥
+SigningDenied s denies (AwaitsValue o gex) payload = ((value : List ℕ) × (value_in (fields payload) ≡ Ok value))
+    × denies.sign s.config
+SigningDenied s denies (AwaitsNewkeys exchange made host) payload = ⊥
 
 -- a message made of a part's value that is too long to be sent: the client's value, a group, a reply
 pub record IsLongValue (says : Says) (o : Opened) (group : Option DhGroup) (n : ℕ) : Type 0 where
@@ -260,7 +262,7 @@ RefusesMessage says denies s stage seqn payload errors.IO = ⊥
 RefusesMessage says denies s stage seqn payload (errors.StrictKeyExchangeViolation type place) = IsDue stage payload
     × IsLate s stage seqn payload × (type ≡ 20) × (place ≡ (seqn + (2 ^ 32 - 1)) % 2 ^ 32)
 RefusesMessage says denies s stage seqn payload errors.Signature = IsDue stage payload
-    × SigningDenied denies stage payload
+    × SigningDenied s denies stage payload
 RefusesMessage says denies s stage seqn payload (errors.SshEncoding fault) = IsDue stage payload
     × IsBadlyEncoded s stage payload fault
 RefusesMessage says denies s stage seqn payload (errors.InvalidConfig fault) = ⊥

@@ -35,17 +35,17 @@ use Rattle.ssh_kex.specs.declared.progress.KexProgress.TheVariants.{NeedsReply, 
 abbrev pub says_of : {A H G : Type 0} (lawful : A → Setup → Type 0) (offered : A → kexes.Name → Bool)
     (client_makes : kexes.Name → Option DhGroup → List ℕ → List ℕ → Type 0) (server_makes : kexes.Name
     → Option DhGroup → List ℕ → Type 0) (agrees : kexes.Name → Option DhGroup → List ℕ → List ℕ → List ℕ → Type 0)
-    (lawful_hosts : H → Setup → Type 0) (obliging : H → H → Setup → Type 0)
+    (lawful_hosts : H → Setup → Type 0) (signs judges : H → H → Setup → Type 0)
     (accepts : H → ServerHost → List ℕ → List ℕ → Bool) (trusts : H → ServerHost → Bool) (makes : Config → ServerHost → List ℕ → List ℕ → Type 0)
     (lawful_groups : G → Setup → Type 0) (group : G → GexParams → DhGroup)
     → Config → A → H → G → Says
-says_of {A} {H} {G} lawful offered client_makes server_makes agrees lawful_hosts obliging accepts trusts makes
+says_of {A} {H} {G} lawful offered client_makes server_makes agrees lawful_hosts signs judges accepts trusts makes
     lawful_groups group config a h g = record {
       agrees = λ name q c v x. (s : Setup) → lawful a s → agrees name q c v x;
       client_makes = λ name q l c. (s : Setup) → lawful a s → client_makes name q l c;
       server_makes = λ name q v. (s : Setup) → lawful a s → server_makes name q v;
       finds = λ sizes q. (s : Setup) → lawful_groups g s → (q ≡ group g sizes) × IsCanonical q;
-      signs = λ host hash signature. (later : H) (s : Setup) → s.server ≡ config → obliging h later s
+      signs = λ host hash signature. (later : H) (s : Setup) → s.server ≡ config → signs h later s
           → makes config host hash signature;
       accepts = λ host hash signature. accepts h host hash signature ≡ true;
       trusts = λ host. trusts h host ≡ true;
@@ -58,11 +58,11 @@ says_of {A} {H} {G} lawful offered client_makes server_makes agrees lawful_hosts
 abbrev pub denies_of : {A H G : Type 0} (obliging : A → A → Setup → Type 0) (offered : A → kexes.Name → Bool)
     (client_makes : kexes.Name → Option DhGroup → List ℕ → List ℕ → Type 0) (server_makes : kexes.Name
     → Option DhGroup → List ℕ → Type 0) (refusals : A → ℕ)
-    (obliging_hosts : H → H → Setup → Type 0) (accepts : H → ServerHost → List ℕ → List ℕ
+    (signs judges : H → H → Setup → Type 0) (accepts : H → ServerHost → List ℕ → List ℕ
     → Bool) (refused_sign refused_verify : H → ℕ)
     (obliging_groups : G → G → Setup → Type 0) (refused_lookup : G → ℕ)
     → A → A → H → H → G → G → Denies
-denies_of obliging offered client_makes server_makes refusals obliging_hosts accepts refused_sign refused_verify
+denies_of obliging offered client_makes server_makes refusals signs judges accepts refused_sign refused_verify
     obliging_groups refused_lookup a a' h h' g g' = record {
       start = λ name q. Rose (refusals a) (refusals a') × ((s : Setup) → obliging a a' s → offered a name ≡ true → ⊥);
       value = λ name q c. Rose (refusals a) (refusals a')
@@ -71,9 +71,9 @@ denies_of obliging offered client_makes server_makes refusals obliging_hosts acc
           × ((s : Setup) (c : List ℕ) → obliging a a' s → offered a name ≡ true → client_makes name q l c
           → server_makes name q v → ⊥);
       lookup = λ sizes. Rose (refused_lookup g) (refused_lookup g') × ((s : Setup) → obliging_groups g g' s → ⊥);
-      sign = Rose (refused_sign h) (refused_sign h') × ((s : Setup) → obliging_hosts h h' s → ⊥);
+      sign = λ config. Rose (refused_sign h) (refused_sign h') × ((s : Setup) → s.server ≡ config → signs h h' s → ⊥);
       verify = λ host hash signature. Rose (refused_verify h) (refused_verify h')
-          × ((s : Setup) → obliging_hosts h h' s → accepts h host hash signature ≡ true → ⊥);
+          × ((s : Setup) → judges h h' s → accepts h host hash signature ≡ true → ⊥);
     }
 
 -- ---- how often they are asked

@@ -22,15 +22,15 @@ pub trait Handed {
 
 impl<A: Agreement, H: HostKeys, G: GroupLookup, R> Handed for Parts<A, H, G, R> {
     ghost says = { λ config p. says_of A.lawful A.offered A.client_makes A.server_makes A.agrees
-        H.lawful H.obliging H.accepts H.trusts H.makes G.lawful G.group config p.agreement p.hosts p.groups };
+        H.lawful H.signs H.judges H.accepts H.trusts H.makes G.lawful G.group config p.agreement p.hosts p.groups };
 
     ghost denies = { λ p q. denies_of A.obliging A.offered A.client_makes A.server_makes A.refusals
-        H.obliging H.accepts H.refused_sign H.refused_verify G.obliging G.refusals
+        H.signs H.judges H.accepts H.refused_sign H.refused_verify G.obliging G.refusals
         p.agreement q.agreement p.hosts q.hosts p.groups q.groups };
 
     ghost keeps = { λ p q. KeepsParts
         (KeepsAgreement A.lawful A.obliging A.offered A.refusals A.calls p.agreement q.agreement)
-        (KeepsHosts H.lawful H.obliging H.accepts H.trusts H.refused_sign H.refused_verify H.refused_check H.calls
+        (KeepsHosts H.lawful H.signs H.judges H.accepts H.trusts H.refused_sign H.refused_verify H.refused_check H.calls
         p.hosts q.hosts)
         (KeepsGroups G.lawful G.obliging G.group G.refusals G.calls p.groups q.groups) };
 }

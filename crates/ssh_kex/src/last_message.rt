@@ -8,6 +8,7 @@ ghost use Rattle.ssh_kex.specs.Setting.{kept_of};
 ghost use Rattle.ssh_kex.specs.Views.{EndsAtOnce, HasKeys, Lasts};
 
 use crate::algorithm::KexAlgorithm;
+use crate::base::KexBase;
 use crate::exchange::{Exchange, FinishedExchange, NewKeys, ServerHost};
 use crate::message::put_message;
 use crate::progress::KexProgress;
@@ -47,10 +48,8 @@ pub fn last<K>(
 
 /// The end of an exchange of no values: NEWKEYS is sent, and the hash is empty. Memory leaves the output as it was.
 pub fn end_at_once<K, R: Rng>(
-    alloc: Global,
+    base: KexBase<'_>,
     algorithm: &KexAlgorithm,
-    cause: &KexCause,
-    exchange: Exchange,
     names: Names,
     is_server: bool,
     rng: &mut R,
@@ -58,14 +57,21 @@ pub fn end_at_once<K, R: Rng>(
 ) -> Result<KexProgress<K>, Error>
     requires name { algorithm.now.name ≡ names.kex }
     requires secret { algorithm.now.secret ≡ None }
-    ensures ok { IfOk result (λ p. EndsAtOnce (side_if is_server) cause.now exchange names p output.old output.new) }
+    ensures ok { IfOk result (λ p. EndsAtOnce (side_if is_server) base.entry.cause base.entry.exchange names p
+        output.old output.new) }
     ensures err { IfErr result (λ e. e ≡ Memory) }
     ensures unchanged { OnErr result (SameButRoom output.old output.new) }
 {
+    let KexBase {
+        alloc,
+        cause,
+        exchange,
+        ..
+    } = base;
     let (made, cipher) = finish(
         alloc,
         algorithm,
-        cause,
+        &cause,
         names,
         HashValue::empty(),
         is_server,

@@ -1,9 +1,9 @@
 //! Laws of an exchange, for proofs above to cite.
 
 ghost use Rattle.ssh_kex.specs.Laws.{CanonicalOnce, CiphersMeet, KeysAreWell, MemoryAlone, NoneCounted, RowsExclude};
-ghost use Rattle.ssh_kex.specs.Stepping.{denies_of, says_of};
 
 use crate::parts::{Agreement, GroupLookup, HostKeys};
+use crate::spoken::Spoken;
 
 /// Under the same names and keys each side opens with what the other seals under.
 #[tactic(auto, using(crate::proofs::Lemmas::ciphers_meet))]
@@ -25,11 +25,7 @@ pub fn canonical_once()
 /// A row that takes a message and one that refuses it exclude each other, whatever the parts are, but where the parts
 /// decide or memory is wanting. That one of both holds is what the `step` of each machine answers.
 pub fn rows_exclude<A: Agreement, H: HostKeys, G: GroupLookup>()
-    ensures { RowsExclude
-        (says_of A.lawful A.offered A.client_makes A.server_makes A.agrees H.lawful H.obliging H.accepts H.trusts
-        H.makes G.lawful G.group)
-        (denies_of A.obliging A.offered A.client_makes A.server_makes A.refusals H.obliging H.accepts H.refused_sign
-        H.refused_verify G.obliging G.refusals) }
+    ensures { RowsExclude ⟦<(A, H, G) as Spoken>⟧.says ⟦<(A, H, G) as Spoken>⟧.denies }
 {}
 
 /// Where agreement and host keys are lawful, no part counted a refusal, and the group or the host's blob that the
@@ -38,8 +34,5 @@ pub fn rows_exclude<A: Agreement, H: HostKeys, G: GroupLookup>()
 pub fn memory_alone<A: Agreement, H: HostKeys, G: GroupLookup>()
     ensures { MemoryAlone A.lawful H.lawful
         (NoneCounted A.refusals H.refused_sign H.refused_verify G.refusals)
-        (says_of A.lawful A.offered A.client_makes A.server_makes A.agrees H.lawful H.obliging H.accepts H.trusts
-        H.makes G.lawful G.group)
-        (denies_of A.obliging A.offered A.client_makes A.server_makes A.refusals H.obliging H.accepts H.refused_sign
-        H.refused_verify G.obliging G.refusals) }
+        ⟦<(A, H, G) as Spoken>⟧.says ⟦<(A, H, G) as Spoken>⟧.denies }
 {}

@@ -4,6 +4,7 @@
 #![tactic(auto)]
 
 mod algorithm;
+mod base;
 mod config;
 mod exchange;
 pub mod first_message;
@@ -19,8 +20,10 @@ mod parts;
 mod progress;
 mod session_state;
 mod signature;
+mod spoken;
 
 pub use crate::algorithm::KexAlgorithm;
+pub use crate::base::KexBase;
 pub use crate::config::Config;
 pub use crate::exchange::{
     Exchange, FinishedExchange, GexChosen, Keys, NewCiphers, NewKeys, ServerHost, SharedSecret,
@@ -33,3 +36,4 @@ pub use crate::parts::{Agreed, Agreement, GroupLookup, HostKeys, Parts, Refusal,
 pub use crate::progress::KexProgress;
 pub use crate::session_state::SessionKexState;
 pub use crate::signature::canonicalize_ecdsa_signature;
+pub use crate::spoken::Spoken;

@@ -218,9 +218,14 @@ pub trait HostKeys {
     // The signatures that are made for a host that a server presents, each in its canonical form.
     ghost makes: { Config → ServerHost → List ℕ → List ℕ → Type 0 };
 
+    // What they keep under two sides' configurations. And that besides, from one state to a later one, a server's sign
+    // for each host that it presents, and a client's refuse no signature that such keys make and no host that is
+    // presented.
     ghost lawful: { Self → Setup → Type 0 };
 
-    ghost obliging: { Self → Self → Setup → Type 0 };
+    ghost signs: { Self → Self → Setup → Type 0 };
+
+    ghost judges: { Self → Self → Setup → Type 0 };
 
     ghost refused_sign: { Self → ℕ };
 
@@ -240,15 +245,16 @@ pub trait HostKeys {
     ) -> Result<Blob, Refusal>
         ensures counts { Counted (refused_sign self.old) (refused_sign self.new) (calls self.old) (calls self.new)
             result }
-        ensures keeps { KeepsHosts lawful obliging accepts trusts refused_sign refused_verify refused_check calls
+        ensures keeps { KeepsHosts lawful signs judges accepts trusts refused_sign refused_verify refused_check calls
             self.old self.new }
         ensures verify { refused_verify self.new ≡ refused_verify self.old }
         ensures check { refused_check self.new ≡ refused_check self.old }
         ensures values { IfOk result (λ v. IsValue v) }
         ensures small { (s : Setup) → lawful self.old s → IfOk result (λ v. IsSmall v) }
-        ensures made { (later : Self) (s : Setup) (host : ServerHost) → obliging self.old later s
+        ensures made { (later : Self) (s : Setup) (host : ServerHost) → signs self.old later s
             → Presents s.server host key.now algorithm → IfOk result (λ v. makes s.server host hash.now (judged v)) }
-        ensures never { (s : Setup) → obliging self.old self.new s → IsRefused result → ⊥ };
+        ensures never { (s : Setup) (host : ServerHost) → signs self.old self.new s
+            → Presents s.server host key.now algorithm → IsRefused result → ⊥ };
 
     /// Whether a signature of a host is right.
     fn verify(
@@ -260,32 +266,34 @@ pub trait HostKeys {
     ) -> Result<(), Refusal>
         ensures counts { Counted (refused_verify self.old) (refused_verify self.new) (calls self.old) (calls self.new)
             result }
-        ensures keeps { KeepsHosts lawful obliging accepts trusts refused_sign refused_verify refused_check calls
+        ensures keeps { KeepsHosts lawful signs judges accepts trusts refused_sign refused_verify refused_check calls
             self.old self.new }
         ensures sign { refused_sign self.new ≡ refused_sign self.old }
         ensures check { refused_check self.new ≡ refused_check self.old }
         ensures ok { OnOk result (accepts self.old host.now hash.now signature.now ≡ true) }
-        ensures never { (s : Setup) → obliging self.old self.new s
+        ensures never { (s : Setup) → judges self.old self.new s
             → accepts self.old host.now hash.now signature.now ≡ true → IsRefused result → ⊥ };
 
     /// Whether a host is trusted.
     fn check(&mut self, alloc: Global, host: &ServerHost) -> Result<(), Refusal>
         ensures counts { Counted (refused_check self.old) (refused_check self.new) (calls self.old) (calls self.new)
             result }
-        ensures keeps { KeepsHosts lawful obliging accepts trusts refused_sign refused_verify refused_check calls
+        ensures keeps { KeepsHosts lawful signs judges accepts trusts refused_sign refused_verify refused_check calls
             self.old self.new }
         ensures sign { refused_sign self.new ≡ refused_sign self.old }
         ensures verify { refused_verify self.new ≡ refused_verify self.old }
         ensures ok { OnOk result (trusts self.old host.now ≡ true) }
-        ensures never { (s : Setup) → obliging self.old self.new s → trusts self.old host.now ≡ true
+        ensures never { (s : Setup) → judges self.old self.new s → trusts self.old host.now ≡ true
             → IsRefused result → ⊥ };
 
-    ghost obliging_lawful: { (v w : Self) (s : Setup) → obliging v w s → lawful v s };
+    ghost signs_lawful: { (v w : Self) (s : Setup) → signs v w s → lawful v s };
 
-    ghost obliging_trusts: { (v w : Self) (s : Setup) (host : ServerHost) (key : HostKey) → obliging v w s
+    ghost judges_lawful: { (v w : Self) (s : Setup) → judges v w s → lawful v s };
+
+    ghost judges_trusts: { (v w : Self) (s : Setup) (host : ServerHost) (key : HostKey) → judges v w s
         → Presents s.server host key host.algorithm → trusts v host ≡ true };
 
-    ghost obliging_accepts: { (v w : Self) (s : Setup) (host : ServerHost) (hash signature : List ℕ) → obliging v w s
+    ghost judges_accepts: { (v w : Self) (s : Setup) (host : ServerHost) (hash signature : List ℕ) → judges v w s
         → makes s.server host hash signature → accepts v host hash signature ≡ true };
 }
 

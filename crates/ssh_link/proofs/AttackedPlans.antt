@@ -27,60 +27,60 @@ use Rattle.ssh_link.specs.PlanRun.{IsAttackedPlan}
 
 -- ---- which part refused isn't told
 
-abbrev untold : PartsDo → Type 0 → PartsDo
-untold p O = record p { rises = untold_rises; obliging = O }
+abbrev untold : PartsDo → (O S : Type 0) → PartsDo
+untold p O S = record p { rises = untold_rises; obliging = O; signs = S }
 
-denies_untold : (p : PartsDo) (O : Type 0) (f : O → p.obliging) (v : Seen) (items : List Item) (i : Item) (due : Due) → PartDeniesNow p v items i due → PartDeniesNow (untold p O) v items i due
-denies_untold p O f v items i KexinitDue (n, reads, plain, d) = (n, reads, plain, record { client = d.client; rose = tt; only = λ o. d.only (f o) })
-denies_untold p O f v items i GroupDue (g, read, inside, d) = (g, read, inside, record { client = d.client; rose = tt; only = λ o. d.only (f o) })
-denies_untold p O f v items i RequestDue (sizes, read, rose, only) = (sizes, read, tt, only)
-denies_untold p O f v items i ValueDue (n, names, d) = (n, names, record { exchange = d.exchange; host = d.host; signature = d.signature; speaks = d.speaks; value_is = d.value_is; rose = tt; only = λ o. d.only (f o) })
-denies_untold p O f v items i ReplyDue (n, names, d) = (n, names, record { front = d.front; read = d.read; exchange = d.exchange; host = d.host; signature = d.signature; speaks = d.speaks; value_is = d.value_is; rose = tt; only = λ o. d.only (f o) })
-denies_untold p O f v items i NewkeysDue d = d
+denies_untold : (p : PartsDo) (O S : Type 0) (f : O → p.obliging) (g : S → p.signs) (v : Seen) (items : List Item) (i : Item) (due : Due) → PartDeniesNow p v items i due → PartDeniesNow (untold p O S) v items i due
+denies_untold p O S f g v items i KexinitDue (n, reads, plain, d) = (n, reads, plain, record { client = d.client; rose = tt; only = λ o. d.only (f o) })
+denies_untold p O S f g v items i GroupDue (g, read, inside, d) = (g, read, inside, record { client = d.client; rose = tt; only = λ o. d.only (f o) })
+denies_untold p O S f g v items i RequestDue (sizes, read, rose, only) = (sizes, read, tt, only)
+denies_untold p O S f g v items i ValueDue (n, names, d) = (n, names, record { exchange = d.exchange; host = d.host; signature = d.signature; speaks = d.speaks; value_is = d.value_is; rose = tt; only = λ o. d.only (f o) })
+denies_untold p O S f g v items i ReplyDue (n, names, d) = (n, names, record { front = d.front; read = d.read; exchange = d.exchange; host = d.host; signature = d.signature; speaks = d.speaks; value_is = d.value_is; rose = tt; only = λ o. d.only (f o) })
+denies_untold p O S f g v items i NewkeysDue d = d
 
-long_untold : (p : PartsDo) (O : Type 0) (i : Item) (n : ℕ) (due : Due) → IsTooLongNow p i n due → IsTooLongNow (untold p O) i n due
-long_untold p O i n KexinitDue h = h
-long_untold p O i n GroupDue h = h
-long_untold p O i n RequestDue h = h
-long_untold p O i n ValueDue h = h
-long_untold p O i n ReplyDue h = h
-long_untold p O i n NewkeysDue h = h
+long_untold : (p : PartsDo) (O S : Type 0) (i : Item) (n : ℕ) (due : Due) → IsTooLongNow p i n due → IsTooLongNow (untold p O S) i n due
+long_untold p O S i n KexinitDue h = h
+long_untold p O S i n GroupDue h = h
+long_untold p O S i n RequestDue h = h
+long_untold p O S i n ValueDue h = h
+long_untold p O S i n ReplyDue h = h
+long_untold p O S i n NewkeysDue h = h
 
-refuses_untold : (p : PartsDo) (O : Type 0) (f : O → p.obliging) (v : Seen) (items : List Item) (i : Item) (e : Error) → RefusesNow p v items i e → RefusesNow (untold p O) v items i e
-refuses_untold p O f v items i errors.Disconnect h = h
-refuses_untold p O f v items i (errors.StrictKeyExchangeViolation type place) h = h
-refuses_untold p O f v items i errors.KexInit h = h
-refuses_untold p O f v items i errors.Kex (inl h) = inl h
-refuses_untold p O f v items i errors.Kex (inr h) = inr (h.0, denies_untold p O f v items i (due_in v items) h.1)
-refuses_untold p O f v items i errors.Inconsistent h = h
-refuses_untold p O f v items i (errors.SshEncoding fault) h = h
-refuses_untold p O f v items i (errors.NoCommonAlgo kind ours theirs) h = h
-refuses_untold p O f v items i errors.UnknownAlgo h = h
-refuses_untold p O f v items i (errors.PacketSize n) (due, long, h) = (due, long, long_untold p O i n (due_in v items) h)
-refuses_untold p O f v items i errors.Signature (due, value, rose, only) = (due, value, tt, only)
-refuses_untold p O f v items i errors.WrongServerSig (due, h) = (due, record { names = h.names; names_are = h.names_are; front = h.front; signature = h.signature; read = h.read; rest = h.rest; exchange = h.exchange; speaks = h.speaks; value_is = h.value_is; secret = h.secret; agree = h.agree; rose = tt; only = h.only })
-refuses_untold p O f v items i errors.UnknownKey (due, newkeys, h) = (due, newkeys, record { client = h.client; names = h.names; names_are = h.names_are; host = h.host; value = h.value; signature = h.signature; reply = h.reply; rose = tt; only = h.only })
-refuses_untold p O f v items i errors.Version h = h
-refuses_untold p O f v items i errors.PacketAuth h = h
-refuses_untold p O f v items i errors.DecryptionError h = h
-refuses_untold p O f v items i errors.IndexOutOfBounds h = h
-refuses_untold p O f v items i errors.IO h = h
-refuses_untold p O f v items i (errors.InvalidConfig fault) h = h
-refuses_untold p O f v items i errors.Memory h = h
+refuses_untold : (p : PartsDo) (O S : Type 0) (f : O → p.obliging) (g : S → p.signs) (v : Seen) (items : List Item) (i : Item) (e : Error) → RefusesNow p v items i e → RefusesNow (untold p O S) v items i e
+refuses_untold p O S f g v items i errors.Disconnect h = h
+refuses_untold p O S f g v items i (errors.StrictKeyExchangeViolation type place) h = h
+refuses_untold p O S f g v items i errors.KexInit h = h
+refuses_untold p O S f g v items i errors.Kex (inl h) = inl h
+refuses_untold p O S f g v items i errors.Kex (inr h) = inr (h.0, denies_untold p O S f g v items i (due_in v items) h.1)
+refuses_untold p O S f g v items i errors.Inconsistent h = h
+refuses_untold p O S f g v items i (errors.SshEncoding fault) h = h
+refuses_untold p O S f g v items i (errors.NoCommonAlgo kind ours theirs) h = h
+refuses_untold p O S f g v items i errors.UnknownAlgo h = h
+refuses_untold p O S f g v items i (errors.PacketSize n) (due, long, h) = (due, long, long_untold p O S i n (due_in v items) h)
+refuses_untold p O S f g v items i errors.Signature (due, value, rose, only) = (due, value, tt, λ o. only (g o))
+refuses_untold p O S f g v items i errors.WrongServerSig (due, h) = (due, record { names = h.names; names_are = h.names_are; front = h.front; signature = h.signature; read = h.read; rest = h.rest; exchange = h.exchange; speaks = h.speaks; value_is = h.value_is; secret = h.secret; agree = h.agree; rose = tt; only = h.only })
+refuses_untold p O S f g v items i errors.UnknownKey (due, newkeys, h) = (due, newkeys, record { client = h.client; names = h.names; names_are = h.names_are; host = h.host; value = h.value; signature = h.signature; reply = h.reply; rose = tt; only = h.only })
+refuses_untold p O S f g v items i errors.Version h = h
+refuses_untold p O S f g v items i errors.PacketAuth h = h
+refuses_untold p O S f g v items i errors.DecryptionError h = h
+refuses_untold p O S f g v items i errors.IndexOutOfBounds h = h
+refuses_untold p O S f g v items i errors.IO h = h
+refuses_untold p O S f g v items i (errors.InvalidConfig fault) h = h
+refuses_untold p O S f g v items i errors.Memory h = h
 
-answered_untold : (p : PartsDo) (O : Type 0) (f : O → p.obliging) (side : Side) (config : Config) (steps : List AttackStep) (answers : List (Result (Unit {0}) Error)) (xs : List FinishedExchange) (own handled : List Item) (ending : Ending)
-    → IsAnsweredSide p side config steps answers xs own handled ending → IsAnsweredSide (untold p O) side config steps answers xs own handled ending
-answered_untold p O f side config steps answers xs own handled ending h = record {
-  answered = answers_weaker _ _ side _ steps answers (λ items k. k) (λ items i e r. refuses_untold p O f (seen_in side config (fed_to side steps) xs own) items i e r) h.answered;
+answered_untold : (p : PartsDo) (O S : Type 0) (f : O → p.obliging) (g : S → p.signs) (side : Side) (config : Config) (steps : List AttackStep) (answers : List (Result (Unit {0}) Error)) (xs : List FinishedExchange) (own handled : List Item) (ending : Ending)
+    → IsAnsweredSide p side config steps answers xs own handled ending → IsAnsweredSide (untold p O S) side config steps answers xs own handled ending
+answered_untold p O S f g side config steps answers xs own handled ending h = record {
+  answered = answers_weaker _ _ side _ steps answers (λ items k. k) (λ items i e r. refuses_untold p O S f g (seen_in side config (fed_to side steps) xs own) items i e r) h.answered;
   accepted = h.accepted;
   asked = h.asked;
 }
 
-run_untold : (p q : PartsDo) (O P : Type 0) → (O → p.obliging) → (P → q.obliging) → (client server : Config) (steps : List AttackStep) (report : AttackReport) → IsAttackedRun p q client server steps report → IsAttackedRun (untold p O) (untold q P) client server steps report
-run_untold p q O P f g client server steps report h = record {
+run_untold : (p q : PartsDo) (O S P T : Type 0) → (O → p.obliging) → (S → p.signs) → (P → q.obliging) → (T → q.signs) → (client server : Config) (steps : List AttackStep) (report : AttackReport) → IsAttackedRun p q client server steps report → IsAttackedRun (untold p O S) (untold q P T) client server steps report
+run_untold p q O S P T f g k l client server steps report h = record {
   link = h.link;
-  client_answered = answered_untold p O f Client client steps report.answers report.client.exchanges _ _ _ h.client_answered;
-  server_answered = answered_untold q P g Server server steps report.answers report.server.exchanges _ _ _ h.server_answered;
+  client_answered = answered_untold p O S f g Client client steps report.answers report.client.exchanges _ _ _ h.client_answered;
+  server_answered = answered_untold q P T k l Server server steps report.answers report.server.exchanges _ _ _ h.server_answered;
 }
 
 -- ---- test parts with these values
@@ -104,7 +104,8 @@ parts_by plan b rises calls = record {
   lawful_hosts = Unit {0};
   lawful_lookup = IsLawful b.bits plan.client.config.gex;
   obliging = Unit {0} × (IsBetween b.calls.agreement calls.agreement b.agreement → ⊥);
-  obliging_hosts = TrustsAll b.trusted plan.server.config × (IsBetween b.calls.hosts calls.hosts b.hosts → ⊥);
+  signs = Unit {0} × (IsBetween b.calls.hosts calls.hosts b.hosts → ⊥);
+  judges = TrustsAll b.trusted plan.server.config × (IsBetween b.calls.hosts calls.hosts b.hosts → ⊥);
   obliging_lookup = IsObliging b.bits plan.client.config.gex × (IsBetween b.calls.lookups calls.lookups b.groups → ⊥);
   rises = rises;
   offers = λ name. offers_exchange name ≡ true;
@@ -135,7 +136,7 @@ pub attacked_plan : (plan : Plan) (steps : List AttackStep) (b d : Begins) (r s 
 attacked_plan plan steps b d r s cc sc report e f g h = record {
   client_calls = cc;
   server_calls = sc;
-  run = run_untold (parts_by plan (begins_of plan plan.client) r cc) (parts_by plan (begins_of plan plan.server) s sc) _ _ (λ o. (tt, o)) (λ o. (tt, o)) plan.client.config plan.server.config plan.attack report
+  run = run_untold (parts_by plan (begins_of plan plan.client) r cc) (parts_by plan (begins_of plan plan.server) s sc) _ _ _ _ (λ o. (tt, o)) (λ o. (tt, o)) (λ o. (tt, o)) (λ o. (tt, o)) plan.client.config plan.server.config plan.attack report
       (subst (λ x. IsAttackedRun (parts_by plan x r cc) (parts_by plan (begins_of plan plan.server) s sc) plan.client.config plan.server.config plan.attack report) f
       (subst (λ x. IsAttackedRun (parts_by plan b r cc) (parts_by plan x s sc) plan.client.config plan.server.config plan.attack report) g
       (subst (λ x. IsAttackedRun (parts_by plan b r cc) (parts_by plan d s sc) plan.client.config plan.server.config x report) e h)));

@@ -80,18 +80,18 @@ pub record AreOf (plan : Plan) (side : Side) (p : SideParts) : Type 0 where
   pub bits : p.bits ≡ (setup_of plan side).group_bits
   pub trusted : p.trusted ≡ trusted_of plan.server.config.host
 
--- its host keys oblige
-abbrev pub HostsOblige : Plan → SideParts → Type 0
-HostsOblige plan p = TrustsAll p.trusted plan.server.config × ((p.hosts < p.hosts_at) × (p.hosts_at ≤ p.hosts') → ⊥)
+-- its host keys judge
+abbrev pub HostsJudge : Plan → SideParts → Type 0
+HostsJudge plan p = TrustsAll p.trusted plan.server.config × ((p.hosts < p.hosts_at) × (p.hosts_at ≤ p.hosts') → ⊥)
 
 -- which counts rose of parts that don't oblige
 abbrev pub told_rises : (agreed looked signed judged checked unsigned : Type 0) → Plan → SideParts → Rises
 told_rises agreed looked signed judged checked unsigned plan p = record {
   agreement = agreed × (Unit {0} × ((p.agreement < p.agreement_at) × (p.agreement_at ≤ p.agreement') → ⊥) → ⊥);
   lookup = looked × (IsObliging p.bits plan.client.config.gex × ((p.groups < p.groups_at) × (p.groups_at ≤ p.groups') → ⊥) → ⊥);
-  signing = signed × (HostsOblige plan p → ⊥);
+  signing = signed × (Unit {0} × ((p.hosts < p.hosts_at) × (p.hosts_at ≤ p.hosts') → ⊥) → ⊥);
   verifying = judged × unsigned;
-  checking = checked × (HostsOblige plan p → ⊥);
+  checking = checked × (HostsJudge plan p → ⊥);
 }
 
 -- each tells of a part that the plan's script lets refuse
@@ -106,15 +106,15 @@ pub record Tell (r s : Rises) : Type 0 where
 pub all_trusted : (plan : Plan) (trusted : List TrustedHost) → trusted ≡ trusted_of plan.server.config.host → TrustsPlan plan → TrustsAll trusted plan.server.config
 all_trusted plan trusted same t = subst (λ z. TrustsAll z plan.server.config) (sym same) (hosts_trusted (trusted_of plan.server.config.host) plan.server.config t)
 
-pub side_tells : (agreed looked signed judged checked unsigned : Type 0) (plan : Plan) (side : Side) (p : SideParts) → AreOf plan side p → (unsigned → HostsOblige plan p → ⊥) → Tell (told_rises agreed looked signed judged checked unsigned plan p) (refuses_of plan side)
+pub side_tells : (agreed looked signed judged checked unsigned : Type 0) (plan : Plan) (side : Side) (p : SideParts) → AreOf plan side p → (unsigned → HostsJudge plan p → ⊥) → Tell (told_rises agreed looked signed judged checked unsigned plan p) (refuses_of plan side)
 side_tells agreed looked signed judged checked unsigned plan side p o v = record {
   agreement = λ d. only_called (most_calls plan side) _ (blamed (most_calls plan side) (setup_of plan side).refuse_agreement p.agreement_at p.agreement p.agreement' o.agreement_at o.agreement o.agreement' d.1);
   lookup = λ d. or_else (λ w. subst (λ n. IsObliging n plan.client.config.gex) (sym o.bits) w) (blamed (most_calls plan side) (setup_of plan side).refuse_groups p.groups_at p.groups p.groups' o.groups_at o.groups o.groups' d.1);
-  signing = λ d. hosts d.1;
+  signing = λ d. only_called (most_calls plan side) _ (blamed (most_calls plan side) (setup_of plan side).refuse_hosts p.hosts_at p.hosts p.hosts' o.hosts_at o.hosts o.hosts' d.1);
   verifying = λ d. hosts (v d.1);
   checking = λ d. hosts d.1;
 } where
-  hosts : (HostsOblige plan p → ⊥) → IsCallOf (most_calls plan side) (setup_of plan side).refuse_hosts ⊎ (TrustsPlan plan → ⊥)
+  hosts : (HostsJudge plan p → ⊥) → IsCallOf (most_calls plan side) (setup_of plan side).refuse_hosts ⊎ (TrustsPlan plan → ⊥)
   hosts h = or_else (all_trusted plan p.trusted o.trusted) (blamed (most_calls plan side) (setup_of plan side).refuse_hosts p.hosts_at p.hosts p.hosts' o.hosts_at o.hosts o.hosts' h)
 
 pub both_tell : (plan : Plan) (r s : Rises) → Tell r (refuses_of plan Client) → Tell s (refuses_of plan Server) → (side : Side) → Tell (rises_by r s side) (refuses_of plan side)

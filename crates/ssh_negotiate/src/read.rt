@@ -171,7 +171,7 @@ fn names_behind_host(
         r,
     )?;
     r.read_text()?;
-    names_behind_cipher(alloc, side, pref, kex, host, cipher.1, strict, r)
+    names_behind_cipher(alloc, side, pref, (kex, host), cipher.1, strict, r)
 }
 
 /// The names, from the lists of MACs on.
@@ -179,16 +179,16 @@ fn names_behind_cipher(
     alloc: Global,
     side: Side,
     pref: &Preferred,
-    kex: (bool, kex::Name),
-    host: (bool, HostName),
+    choices: ((bool, kex::Name), (bool, HostName)),
     cipher: cipher::Name,
     strict: bool,
     r: &mut Reader<'_>,
 ) -> Result<Names, Error>
-    ensures { AnswersReading (macs_part side pref.now kex host cipher strict r.old) result }
+    ensures { AnswersReading (macs_part side pref.now choices.0 choices.1 cipher strict r.old) result }
 {
     let client_mac = mac_at(alloc, side, cipher, pref.mac.as_slice(), r)?;
     let server_mac = mac_at(alloc, side, cipher, pref.mac.as_slice(), r)?;
+    let (kex, host) = choices;
     let names = names_of_choices(kex.1, host.1, cipher, client_mac, server_mac, strict);
     let both_first = are_both(kex.0, host.0);
     names_behind_macs(alloc, side, pref, names, both_first, r)

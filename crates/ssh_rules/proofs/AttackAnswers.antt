@@ -29,7 +29,7 @@ use Rattle.ssh_rules.proofs.SeenSides.{seen_of, shows_quiet}
 use Rattle.ssh_rules.proofs.Valid.{tests}
 
 -- a refusal by the rules is one by the table
-by_table : (t : Tells) (p : PartsDo) (side : Side) (config : Config) (log : List Event) (fed : List ℕ) (items : List Item) (i : Item) (e : Error) → TellsParts t.says t.denies t.untrusted p → some_blob_long config ≡ false → RefusesBehindLog t side config log (id_text_in (heard_in side fed)) items i e
+by_table : (t : Tells) (p : PartsDo) (side : Side) (config : Config) (log : List Event) (fed : List ℕ) (items : List Item) (i : Item) (e : Error) → TellsParts t.says t.denies t.untrusted p side config → some_blob_long config ≡ false → RefusesBehindLog t side config log (id_text_in (heard_in side fed)) items i e
     → RefusesNow p (seen_in side config fed (recorded log) (wrote log)) items i e
 by_table t p side config log fed items i e tells short r =
     let text : r.known.0 ≡ text_of (id_text_in (heard_in side fed)) = ap text_of (sym r.known.1 ∙ r.heard_is) in
@@ -49,7 +49,7 @@ ran t side config log fed accepted (Some error) asked e s = record { st = s.at; 
 
 -- All steps of a side are answered by the table, and all that it handled is taken by it.
 pub answered_side : (t : Tells) (p : PartsDo) (side : Side) (config : Config) (steps : List AttackStep) (answers : List (Result (Unit {0}) Error)) (first : Standing) (new : AttackedEnd)
-    → TellsParts t.says t.denies t.untrusted p → ((n : KexName) → t.says.offers n → p.offers n) → config_fault side config ≡ None → (n : IsNew side config first) → (h : AttacksSide t side steps answers (first_end t.calls first) new)
+    → TellsParts t.says t.denies t.untrusted p side config → ((n : KexName) → t.says.offers n → p.offers n) → config_fault side config ≡ None → (n : IsNew side config first) → (h : AttacksSide t side steps answers (first_end t.calls first) new)
     → (exchanges : List FinishedExchange) (own items : List Item) (ending : Ending) → t.calls ≡ p.before → new.calls ≡ p.after → exchanges ≡ recorded (run_ends t side config steps answers first new n h).more → own ≡ wrote (run_ends t side config steps answers first new n h).more → items ≡ handled (run_ends t side config steps answers first new n h).more → ending ≡ run_ending t side config steps answers new (run_ends t side config steps answers first new n h)
     → IsAnsweredSide p side config steps answers exchanges own items ending
 answered_side t p side config steps answers first new tells offered valid n h exchanges own items ending before after xs os is es =
@@ -80,13 +80,13 @@ answered_side t p side config steps answers first new tells offered valid n h ex
 -- ---- both sides
 
 -- what one side's parts are told to do
-pub record PartsTold (t : Tells) (p : PartsDo) : Type 0 where
-  pub tells : TellsParts t.says t.denies t.untrusted p
+pub record PartsTold (t : Tells) (p : PartsDo) (side : Side) (config : Config) : Type 0 where
+  pub tells : TellsParts t.says t.denies t.untrusted p side config
   pub offered : (n : KexName) → t.says.offers n → p.offers n
   pub before : t.calls ≡ p.before
 
 pub attacked_run : (client_tells server_tells : Tells) (client_parts server_parts : PartsDo) (client server : Config) (steps : List AttackStep) (answers : List (Result (Unit {0}) Error)) (c s : Standing) (cn sn : AttackedEnd)
-    → PartsTold client_tells client_parts → PartsTold server_tells server_parts → cn.calls ≡ client_parts.after → sn.calls ≡ server_parts.after
+    → PartsTold client_tells client_parts Client client → PartsTold server_tells server_parts Server server → cn.calls ≡ client_parts.after → sn.calls ≡ server_parts.after
     → Told client_tells.says client_parts.agrees client_parts.lawful client_parts.accepts client_parts.trusts Client client → Told server_tells.says client_parts.agrees server_parts.lawful client_parts.accepts client_parts.trusts Server server
     → IsNew Client client c → IsNew Server server s → AttacksSide client_tells Client steps answers (first_end client_tells.calls c) cn → AttacksSide server_tells Server steps answers (first_end server_tells.calls s) sn
     → IsAttackedRun client_parts server_parts client server steps (record { client = attacked_report cn; server = attacked_report sn; answers = answers })

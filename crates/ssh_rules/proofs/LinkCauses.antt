@@ -57,7 +57,7 @@ pub record Tells (denies : Denies) (untrusted : ServerHost → Type 0) (r : Rise
   pub value : (name : KexName) (group : Rattle.std.specs.Prelude.Option DhGroup) (public : List ℕ) → denies.value name group public → r.agreement
   pub reply : (name : KexName) (group : Rattle.std.specs.Prelude.Option DhGroup) (local value : List ℕ) → denies.reply name group local value → r.agreement
   pub lookup : (sizes : GexParams) → denies.lookup sizes → r.lookup
-  pub sign : denies.sign → r.signing
+  pub sign : (config : Config) → denies.sign config → r.signing
   pub verify : (host : ServerHost) (hash signature : List ℕ) → denies.verify host hash signature → r.verifying
   pub check : (host : ServerHost) → untrusted host → r.checking
 
@@ -85,13 +85,13 @@ missigned says denies untrusted r s (AwaitsRequest o) payload t f h = absurd h
 missigned says denies untrusted r s (AwaitsValue o gex) payload t f h = absurd h
 missigned says denies untrusted r s (AwaitsNewkeys exchange made host) payload t f h = absurd h
 
-pub unsigned : (says : Says) (denies : Denies) (untrusted : ServerHost → Type 0) (r : Rises) (s : Setting) (stage : Stage) (payload : List ℕ) → Tells denies untrusted r → StageIs says s stage → SigningDenied denies stage payload → (s.side ≡ Server) × r.signing
+pub unsigned : (says : Says) (denies : Denies) (untrusted : ServerHost → Type 0) (r : Rises) (s : Setting) (stage : Stage) (payload : List ℕ) → Tells denies untrusted r → StageIs says s stage → SigningDenied s denies stage payload → (s.side ≡ Server) × r.signing
 unsigned says denies untrusted r s (Created own) payload t f h = absurd h
 unsigned says denies untrusted r s (AwaitsGroup o) payload t f h = absurd h
 unsigned says denies untrusted r s (AwaitsReply o gex local public) payload t f h = absurd h
 unsigned says denies untrusted r s (AwaitsRequest o) payload t f h = absurd h
 unsigned says denies untrusted r s (AwaitsValue o gex) payload t (inl c) h = absurd (let q : AwaitsValue o gex ≡ Created c.0 = c.1 in cc)
-unsigned says denies untrusted r s (AwaitsValue o gex) payload t (inr f) h = ((f.2).server, t.sign h.1)
+unsigned says denies untrusted r s (AwaitsValue o gex) payload t (inr f) h = ((f.2).server, t.sign s.config h.1)
 unsigned says denies untrusted r s (AwaitsNewkeys exchange made host) payload t f h = absurd h
 
 -- the kind of a group that is read

@@ -49,8 +49,8 @@ pub record Owes (says : Side → Says) (config : Side → Config) (side : Side) 
   pub value : (name : kexes.Name) (group : Option DhGroup) (local public : List ℕ) → (says side).offers name → (says Client).client_makes name group local public → denies.value name group public → r.agreement
   pub reply : (name : kexes.Name) (group : Option DhGroup) (local public value : List ℕ) → (says side).offers name → (says Client).client_makes name group local public → (says Server).server_makes name group value → denies.reply name group local value → r.agreement
   pub lookup : side ≡ Server → is_gex kex ≡ true → (sizes : GexParams) → denies.lookup sizes → r.lookup
-  pub sign : denies.sign → r.signing
-  pub verify : (host : ServerHost) (hash signature : List ℕ) → (says Server).signs host hash signature → denies.verify host hash signature → r.verifying
+  pub sign : side ≡ Server → denies.sign (config Server) → r.signing
+  pub verify : side ≡ Client → (host : ServerHost) (hash signature : List ℕ) → (says Server).signs host hash signature → denies.verify host hash signature → r.verifying
 
 -- obliging parts of both sides refuse none
 abbrev pub none_rose : Rises
@@ -169,7 +169,7 @@ reply_read says config s p o gex local public m b f = record { made = r; names =
 faced_missigned : (says : Side → Says) (config : Side → Config) (s p : Setting) (stage : Stage) (m : List ℕ) (kex : kexes.Name) (denies : Denies) (rises : Rises) → Owes says config s.side kex denies rises → AreBoth says config s p → Faces says s p stage m → SignatureDenied (says s.side) denies s stage m → (s.side ≡ Client) × rises.verifying
 faced_missigned says config s p (Created own) m kex denies rises d b f h = absurd h
 faced_missigned says config s p (AwaitsGroup o) m kex denies rises d b f h = absurd h
-faced_missigned says config s p (AwaitsReply o gex local public) m kex denies rises d b f h = (f.here.client, d.verify (host_with r.knows.names r.knows.shown.blob) r.made.hash (judged r.knows.signature) signs denied) where
+faced_missigned says config s p (AwaitsReply o gex local public) m kex denies rises d b f h = (f.here.client, d.verify f.here.client (host_with r.knows.names r.knows.shown.blob) r.made.hash (judged r.knows.signature) signs denied) where
   q : ReplyRead says s p o gex public m
   q = reply_read says config s p o gex local public m b f
 
@@ -405,12 +405,12 @@ met_missigned says config s (AwaitsRequest o) m kex denies rises d f h = absurd 
 met_missigned says config s (AwaitsValue o gex) m kex denies rises d f h = absurd h
 met_missigned says config s (AwaitsNewkeys exchange made host) m kex denies rises d f h = absurd h
 
-pub met_unsigned : (says : Side → Says) (config : Side → Config) (s : Setting) (stage : Stage) (m : List ℕ) (kex : kexes.Name) (denies : Denies) (rises : Rises) → Owes says config s.side kex denies rises → IsMet says config s stage m → SigningDenied denies stage m → (s.side ≡ Server) × rises.signing
+pub met_unsigned : (says : Side → Says) (config : Side → Config) (s : Setting) (stage : Stage) (m : List ℕ) (kex : kexes.Name) (denies : Denies) (rises : Rises) → Owes says config s.side kex denies rises → IsMet says config s stage m → SigningDenied s denies stage m → (s.side ≡ Server) × rises.signing
 met_unsigned says config s (Created own) m kex denies rises d f h = absurd h
 met_unsigned says config s (AwaitsGroup o) m kex denies rises d f h = absurd h
 met_unsigned says config s (AwaitsReply o gex local public) m kex denies rises d f h = absurd h
 met_unsigned says config s (AwaitsRequest o) m kex denies rises d f h = absurd h
-met_unsigned says config s (AwaitsValue o gex) m kex denies rises d f h = (f.2.here.server, d.sign h.1)
+met_unsigned says config s (AwaitsValue o gex) m kex denies rises d f h = (f.2.here.server, d.sign f.2.here.server (subst denies.sign (f.1.config_is ∙ ap config f.2.here.server) h.1))
 met_unsigned says config s (AwaitsNewkeys exchange made host) m kex denies rises d f h = absurd h
 
 no_part : (P : Type 0) → ⊥ ⊎ (P × ⊥) → ⊥

@@ -44,14 +44,14 @@ use Rattle.ssh_rules.proofs.SeenSides.{NoneAtEnd, Shows, StageSeen, created_seen
 use Rattle.ssh_rules.proofs.StageFits.{FitsStage, FitsWhere, Holds}
 
 -- what the parts do over the whole run, by what they deny in a step
-pub record TellsParts (says : Says) (denies : Denies) (untrusted : ServerHost → Type 0) (p : PartsDo) : Type 0 where
+pub record TellsParts (says : Says) (denies : Denies) (untrusted : ServerHost → Type 0) (p : PartsDo) (side : Side) (config : Config) : Type 0 where
   pub start : (n : KexName) (q : Option DhGroup) → denies.start n q → p.rises.agreement × (p.obliging → says.offers n → ⊥)
   pub value : (n : KexName) (q : Option DhGroup) (c : List ℕ) → denies.value n q c → p.rises.agreement × (p.obliging → says.offers n → (local : List ℕ) → p.client_makes n q local c → ⊥)
   pub reply : (n : KexName) (q : Option DhGroup) (local v : List ℕ) → denies.reply n q local v → p.rises.agreement × (p.obliging → says.offers n → (c : List ℕ) → p.client_makes n q local c → p.server_makes n q v → ⊥)
   pub lookup : (sizes : GexParams) → denies.lookup sizes → p.rises.lookup × (p.obliging_lookup → ⊥)
-  pub sign : denies.sign → p.rises.signing × (p.obliging_hosts → ⊥)
-  pub verify : (host : ServerHost) (hash signature : List ℕ) → denies.verify host hash signature → p.rises.verifying × (p.obliging_hosts → p.accepts host hash signature ≡ true → ⊥)
-  pub check : (host : ServerHost) → untrusted host → p.rises.checking × (p.obliging_hosts → p.trusts host ≡ true → ⊥)
+  pub sign : side ≡ Server → denies.sign config → p.rises.signing × (p.signs → ⊥)
+  pub verify : (host : ServerHost) (hash signature : List ℕ) → denies.verify host hash signature → p.rises.verifying × (p.judges → p.accepts host hash signature ≡ true → ⊥)
+  pub check : (host : ServerHost) → untrusted host → p.rises.checking × (p.judges → p.trusts host ≡ true → ⊥)
   pub offers : (n : KexName) → p.offers n → says.offers n
   pub obliging_lawful : p.obliging → p.lawful
   pub makes : (n : KexName) (q : Option DhGroup) (local c : List ℕ) → p.lawful → says.client_makes n q local c → p.client_makes n q local c
@@ -312,21 +312,21 @@ fits_inside says side config heard log at stage s e = subst (λ x. FitsWhere say
 abbrev PartRow : PartsDo → Side → Config → List ℕ → List Event → Item → Due → Type 0
 PartRow p side config heard log i due = PartDeniesNow p (seen_of side config heard log) (handled log) i due
 
-part_created : (says : Says) (denies : Denies) (untrusted : ServerHost → Type 0) (p : PartsDo) (side : Side) (config : Config) (heard : List ℕ) (log : List Event) (at : SideState) (i : Item) (own : List ℕ) (seqn : ℕ) → TellsParts says denies untrusted p → (s : Shows says side config heard log at) → PartDenies says denies (setting side config (id_text config.id) at) (Created own) seqn i.payload → PartRow p side config heard log i KexinitDue
+part_created : (says : Says) (denies : Denies) (untrusted : ServerHost → Type 0) (p : PartsDo) (side : Side) (config : Config) (heard : List ℕ) (log : List Event) (at : SideState) (i : Item) (own : List ℕ) (seqn : ℕ) → TellsParts says denies untrusted p side config → (s : Shows says side config heard log at) → PartDenies says denies (setting side config (id_text config.id) at) (Created own) seqn i.payload → PartRow p side config heard log i KexinitDue
 part_created says denies untrusted p side config heard log at i own seqn tell s d =
     let t = tell.start d.names.kex None d.denied in
     (d.names, kexinit_as says side config heard log at i (Ok d.names) s d.reads.read, d.plain, record { client = sym (setting_side side config (id_text config.id) at) ∙ d.client; rose = t.0; only = λ o. t.1 o d.offered })
 
-part_group : (says : Says) (denies : Denies) (untrusted : ServerHost → Type 0) (p : PartsDo) (side : Side) (config : Config) (heard : List ℕ) (log : List Event) (at : SideState) (i : Item) (o : Opened) (seqn : ℕ) → TellsParts says denies untrusted p → (s : Shows says side config heard log at) → at.stands ≡ Inside (AwaitsGroup o) → PartDenies says denies (setting side config (id_text config.id) at) (AwaitsGroup o) seqn i.payload → PartRow p side config heard log i GroupDue
+part_group : (says : Says) (denies : Denies) (untrusted : ServerHost → Type 0) (p : PartsDo) (side : Side) (config : Config) (heard : List ℕ) (log : List Event) (at : SideState) (i : Item) (o : Opened) (seqn : ℕ) → TellsParts says denies untrusted p side config → (s : Shows says side config heard log at) → at.stands ≡ Inside (AwaitsGroup o) → PartDenies says denies (setting side config (id_text config.id) at) (AwaitsGroup o) seqn i.payload → PartRow p side config heard log i GroupDue
 part_group says denies untrusted p side config heard log at i o seqn tell s e d =
     let f = fits_inside says side config heard log at (AwaitsGroup o) s e in
     let t = tell.start o.names.kex (Some d.group) d.denied in
     (d.group, d.read, subst (λ c. Rattle.ssh_kex.specs.Fields.IsInside c.gex d.group) (setting_config side config (id_text config.id) at) d.inside, record { client = sym (setting_side side config (id_text config.id) at) ∙ f.client; rose = t.0; only = λ b. t.1 b f.opened.offered })
 
-part_request : (says : Says) (denies : Denies) (untrusted : ServerHost → Type 0) (p : PartsDo) (side : Side) (config : Config) (heard : List ℕ) (log : List Event) (at : SideState) (i : Item) (o : Opened) (seqn : ℕ) → TellsParts says denies untrusted p → PartDenies says denies (setting side config (id_text config.id) at) (AwaitsRequest o) seqn i.payload → PartRow p side config heard log i RequestDue
+part_request : (says : Says) (denies : Denies) (untrusted : ServerHost → Type 0) (p : PartsDo) (side : Side) (config : Config) (heard : List ℕ) (log : List Event) (at : SideState) (i : Item) (o : Opened) (seqn : ℕ) → TellsParts says denies untrusted p side config → PartDenies says denies (setting side config (id_text config.id) at) (AwaitsRequest o) seqn i.payload → PartRow p side config heard log i RequestDue
 part_request says denies untrusted p side config heard log at i o seqn tell d = (let t = tell.lookup d.sizes d.denied in (d.sizes, d.read, t.0, t.1))
 
-part_reply : (says : Says) (denies : Denies) (untrusted : ServerHost → Type 0) (p : PartsDo) (side : Side) (config : Config) (heard : List ℕ) (log : List Event) (at : SideState) (i : Item) (o : Opened) (gex : Option GexChosen) (local public : List ℕ) (seqn : ℕ) → TellsParts says denies untrusted p → (s : Shows says side config heard log at) → at.stands ≡ Inside (AwaitsReply o gex local public) → PartDenies says denies (setting side config (id_text config.id) at) (AwaitsReply o gex local public) seqn i.payload → PartRow p side config heard log i ReplyDue
+part_reply : (says : Says) (denies : Denies) (untrusted : ServerHost → Type 0) (p : PartsDo) (side : Side) (config : Config) (heard : List ℕ) (log : List Event) (at : SideState) (i : Item) (o : Opened) (gex : Option GexChosen) (local public : List ℕ) (seqn : ℕ) → TellsParts says denies untrusted p side config → (s : Shows says side config heard log at) → at.stands ≡ Inside (AwaitsReply o gex local public) → PartDenies says denies (setting side config (id_text config.id) at) (AwaitsReply o gex local public) seqn i.payload → PartRow p side config heard log i ReplyDue
 part_reply says denies untrusted p Client config heard log at i o gex local public seqn tell s e d =
     let f = fits_inside says Client config heard log at (AwaitsReply o gex local public) s e in
     let seen = seen_here says Client config heard log at (AwaitsReply o gex local public) s (inl e) in
@@ -348,7 +348,7 @@ part_reply says denies untrusted p Client config heard log at i o gex local publ
     )
 part_reply says denies untrusted p Server config heard log at i o gex local public seqn tell s e d = absurd (let f = (fits_inside says Server config heard log at (AwaitsReply o gex local public) s e).client in let z : Server ≡ Client = f in cc)
 
-part_value : (says : Says) (denies : Denies) (untrusted : ServerHost → Type 0) (p : PartsDo) (side : Side) (config : Config) (heard : List ℕ) (log : List Event) (at : SideState) (i : Item) (o : Opened) (gex : Option GexChosen) (seqn : ℕ) → TellsParts says denies untrusted p → (s : Shows says side config heard log at) → at.stands ≡ Inside (AwaitsValue o gex) → PartDenies says denies (setting side config (id_text config.id) at) (AwaitsValue o gex) seqn i.payload → PartRow p side config heard log i ValueDue
+part_value : (says : Says) (denies : Denies) (untrusted : ServerHost → Type 0) (p : PartsDo) (side : Side) (config : Config) (heard : List ℕ) (log : List Event) (at : SideState) (i : Item) (o : Opened) (gex : Option GexChosen) (seqn : ℕ) → TellsParts says denies untrusted p side config → (s : Shows says side config heard log at) → at.stands ≡ Inside (AwaitsValue o gex) → PartDenies says denies (setting side config (id_text config.id) at) (AwaitsValue o gex) seqn i.payload → PartRow p side config heard log i ValueDue
 part_value says denies untrusted p Server config heard log at i o gex seqn tell s e d =
     let f = fits_inside says Server config heard log at (AwaitsValue o gex) s e in
     let seen = seen_here says Server config heard log at (AwaitsValue o gex) s (inl e) in
@@ -368,7 +368,7 @@ part_value says denies untrusted p Server config heard log at i o gex seqn tell 
     )
 part_value says denies untrusted p Client config heard log at i o gex seqn tell s e d = absurd (let f = (fits_inside says Client config heard log at (AwaitsValue o gex) s e).server in let z : Client ≡ Server = f in cc)
 
-part_here : (says : Says) (denies : Denies) (untrusted : ServerHost → Type 0) (p : PartsDo) (side : Side) (config : Config) (heard : List ℕ) (log : List Event) (at : SideState) (i : Item) (stage : Stage) (seqn : ℕ) → TellsParts says denies untrusted p → (s : Shows says side config heard log at) → LooksIn at.stands stage → PartDenies says denies (setting side config (id_text config.id) at) stage seqn i.payload → PartRow p side config heard log i (due_of stage)
+part_here : (says : Says) (denies : Denies) (untrusted : ServerHost → Type 0) (p : PartsDo) (side : Side) (config : Config) (heard : List ℕ) (log : List Event) (at : SideState) (i : Item) (stage : Stage) (seqn : ℕ) → TellsParts says denies untrusted p side config → (s : Shows says side config heard log at) → LooksIn at.stands stage → PartDenies says denies (setting side config (id_text config.id) at) stage seqn i.payload → PartRow p side config heard log i (due_of stage)
 part_here says denies untrusted p side config heard log at i (Created own) seqn tell s l d = part_created says denies untrusted p side config heard log at i own seqn tell s d
 part_here says denies untrusted p side config heard log at i (AwaitsGroup o) seqn tell s l d = part_group says denies untrusted p side config heard log at i o seqn tell s (inside_at (AwaitsGroup o) at.stands o.names refl l) d
 part_here says denies untrusted p side config heard log at i (AwaitsReply o gex local public) seqn tell s l d = part_reply says denies untrusted p side config heard log at i o gex local public seqn tell s (inside_at (AwaitsReply o gex local public) at.stands o.names refl l) d
@@ -378,7 +378,7 @@ part_here says denies untrusted p side config heard log at i (AwaitsNewkeys e x 
 
 -- ---- the signature, and the host
 
-missigned_by : (says : Says) (denies : Denies) (untrusted : ServerHost → Type 0) (p : PartsDo) (side : Side) (config : Config) (heard : List ℕ) (log : List Event) (at : SideState) (i : Item) (o : Opened) (gex : Option GexChosen) (local public : List ℕ) → TellsParts says denies untrusted p → (s : Shows says side config heard log at) → at.stands ≡ Inside (AwaitsReply o gex local public) → SignatureDenied says denies (setting side config (id_text config.id) at) (AwaitsReply o gex local public) i.payload → IsMissignedNow p (seen_of side config heard log) (handled log) i
+missigned_by : (says : Says) (denies : Denies) (untrusted : ServerHost → Type 0) (p : PartsDo) (side : Side) (config : Config) (heard : List ℕ) (log : List Event) (at : SideState) (i : Item) (o : Opened) (gex : Option GexChosen) (local public : List ℕ) → TellsParts says denies untrusted p side config → (s : Shows says side config heard log at) → at.stands ≡ Inside (AwaitsReply o gex local public) → SignatureDenied says denies (setting side config (id_text config.id) at) (AwaitsReply o gex local public) i.payload → IsMissignedNow p (seen_of side config heard log) (handled log) i
 missigned_by says denies untrusted p Client config heard log at i o gex local public tell s e m =
     let f = fits_inside says Client config heard log at (AwaitsReply o gex local public) s e in
     let seen = seen_here says Client config heard log at (AwaitsReply o gex local public) s (inl e) in
@@ -407,7 +407,7 @@ reply_there : (gex : Option GexChosen) (k host value signature : List ℕ) (kind
 reply_there None k host value signature kind e = subst (λ b. slice_get (k ∷ reply_message false host value signature ∷ []) (if b then 2 else 1) ≡ Some (reply_message b host value signature)) (sym e) refl
 reply_there (Some g) k host value signature kind e = subst (λ b. slice_get (k ∷ (groups (Some g) ++ reply_message true host value signature ∷ [])) (if b then 2 else 1) ≡ Some (reply_message b host value signature)) (sym e) refl
 
-untrusted_by : (says : Says) (denies : Denies) (untrusted : ServerHost → Type 0) (p : PartsDo) (side : Side) (config : Config) (heard : List ℕ) (log : List Event) (at : SideState) (i : Item) (e : Error) → TellsParts says denies untrusted p → (s : Shows says side config heard log at) → IsUntrusted untrusted side at i e → IsUntrustedNow p (seen_of side config heard log) (handled log)
+untrusted_by : (says : Says) (denies : Denies) (untrusted : ServerHost → Type 0) (p : PartsDo) (side : Side) (config : Config) (heard : List ℕ) (log : List Event) (at : SideState) (i : Item) (e : Error) → TellsParts says denies untrusted p side config → (s : Shows says side config heard log at) → IsUntrusted untrusted side at i e → IsUntrustedNow p (seen_of side config heard log) (handled log)
 untrusted_by says denies untrusted p Client config heard log at i e tell s u =
     let f = fits_inside says Client config heard log at (AwaitsNewkeys u.exchange u.made (Some u.host)) s u.inside in
     let seen = seen_here says Client config heard log at (AwaitsNewkeys u.exchange u.made (Some u.host)) s (inl u.inside) in
@@ -435,7 +435,7 @@ untrusted_by says denies untrusted p Server config heard log at i e tell s u = a
 abbrev LongRow : PartsDo → Item → ℕ → Due → Type 0
 LongRow p i n due = IsTooLongNow p i n due
 
-long_here : (says : Says) (denies : Denies) (untrusted : ServerHost → Type 0) (p : PartsDo) (side : Side) (config : Config) (at : SideState) (i : Item) (stage : Stage) (seqn n : ℕ) → TellsParts says denies untrusted p → some_blob_long config ≡ false → longest_payload < n → IsTooLong says (setting side config (id_text config.id) at) stage seqn i.payload n → LongRow p i n (due_of stage)
+long_here : (says : Says) (denies : Denies) (untrusted : ServerHost → Type 0) (p : PartsDo) (side : Side) (config : Config) (at : SideState) (i : Item) (stage : Stage) (seqn n : ℕ) → TellsParts says denies untrusted p side config → some_blob_long config ≡ false → longest_payload < n → IsTooLong says (setting side config (id_text config.id) at) stage seqn i.payload n → LongRow p i n (due_of stage)
 long_here says denies untrusted p side config at i (Created own) seqn n tell blobs l h = λ law. (let v = tell.value_small h.long.public law h.long.small in let e = h.long.size in omega (arith, l, v, e))
 long_here says denies untrusted p side config at i (AwaitsGroup o) seqn n tell blobs l h = λ law. (let v = tell.value_small h.2.public law h.2.small in let e = h.2.size in omega (arith, l, v, e))
 long_here says denies untrusted p side config at i (AwaitsReply o gex local public) seqn n tell blobs l h = h
@@ -475,7 +475,16 @@ row_at P a b e h = subst P (sym e) h
 of_created : (stage : Stage) → IsCreated stage → due_of stage ≡ KexinitDue
 of_created stage c = ap due_of c.1
 
-pub taken_now : (says : Says) (denies : Denies) (untrusted : ServerHost → Type 0) (p : PartsDo) (side : Side) (config : Config) (heard : List ℕ) (log : List Event) (at : SideState) (i : Item) (f e : Error) → TellsParts says denies untrusted p → some_blob_long config ≡ false → (s : Shows says side config heard log at) → (r : RefusesTaken says denies side config at i f)
+-- a server that waits for the client's value signs its reply
+inside_value : (w : Where) (stage : Stage) (o : Opened) (gex : Option GexChosen) → stage ≡ AwaitsValue o gex → LooksIn w stage → w ≡ Inside (AwaitsValue o gex)
+inside_value w stage o gex q (inl e) = e ∙ ap Inside q
+inside_value w stage o gex q (inr c) = absurd (let z : AwaitsValue o gex ≡ Created c.1.0 = sym q ∙ c.1.1 in cc)
+
+unsigned_by : (says : Says) (denies : Denies) (untrusted : ServerHost → Type 0) (p : PartsDo) (side : Side) (config : Config) (heard : List ℕ) (log : List Event) (at : SideState) (o : Opened) (gex : Option GexChosen) → TellsParts says denies untrusted p side config → (s : Shows says side config heard log at) → at.stands ≡ Inside (AwaitsValue o gex) → denies.sign (setting side config (id_text config.id) at).config → p.rises.signing × (p.signs → ⊥)
+unsigned_by says denies untrusted p Client config heard log at o gex tell s e d = absurd (let f = (fits_inside says Client config heard log at (AwaitsValue o gex) s e).server in let z : Client ≡ Server = f in cc)
+unsigned_by says denies untrusted p Server config heard log at o gex tell s e d = tell.sign refl d
+
+pub taken_now : (says : Says) (denies : Denies) (untrusted : ServerHost → Type 0) (p : PartsDo) (side : Side) (config : Config) (heard : List ℕ) (log : List Event) (at : SideState) (i : Item) (f e : Error) → TellsParts says denies untrusted p side config → some_blob_long config ≡ false → (s : Shows says side config heard log at) → (r : RefusesTaken says denies side config at i f)
     → RefusesMessage says denies (setting side config (id_text config.id) at) r.stage (next_number at.reading.number) i.payload e → (e ≡ errors.Memory → ⊥) → RefusesNow p (seen_of side config heard log) (handled log) i e
 taken_now says denies untrusted p side config heard log at i f errors.KexInit tell blobs s r (inl h) not =
     let l = looks_here says side config heard log at r.stage s r.looks in
@@ -536,12 +545,12 @@ taken_now says denies untrusted p side config heard log at i f (errors.StrictKey
   by (AwaitsValue op gex) q o = absurd o
   by (AwaitsNewkeys x m ho) q o = absurd o
 taken_now says denies untrusted p side config heard log at i f errors.Signature tell blobs s r h not = by r.stage refl h.1 where
-  by : (stage : Stage) → r.stage ≡ stage → SigningDenied denies stage i.payload → RefusesNow p (seen_of side config heard log) (handled log) i errors.Signature
+  by : (stage : Stage) → r.stage ≡ stage → SigningDenied (setting side config (id_text config.id) at) denies stage i.payload → RefusesNow p (seen_of side config heard log) (handled log) i errors.Signature
   by (Created own) q o = absurd o
   by (AwaitsGroup op) q o = absurd o
   by (AwaitsReply op gex l pu) q o = absurd o
   by (AwaitsRequest op) q o = absurd o
-  by (AwaitsValue op gex) q o = (let t = tell.sign o.1 in (subst (IsDueNow (seen_of side config heard log) (handled log) i) (ap due_of q) (due_here says denies side config heard log at i f s r h.0), o.0, t.0, t.1))
+  by (AwaitsValue op gex) q o = (let t = unsigned_by says denies untrusted p side config heard log at op gex tell s (inside_value at.stands r.stage op gex q r.looks) o.1 in (subst (IsDueNow (seen_of side config heard log) (handled log) i) (ap due_of q) (due_here says denies side config heard log at i f s r h.0), o.0, t.0, t.1))
   by (AwaitsNewkeys x m ho) q o = absurd o
 taken_now says denies untrusted p side config heard log at i f (errors.SshEncoding fault) tell blobs s r h not =
     let l = looks_here says side config heard log at r.stage s r.looks in
@@ -602,7 +611,7 @@ at_answer : (p : PartsDo) (v : Seen) (items : List Item) (i : Item) (e f : Error
 at_answer p v items i e f s h = subst (RefusesNow p v items i) (sym s) h
 
 -- Each refusal of a packet by the rules stands in the table.
-pub refuses_now : (says : Says) (denies : Denies) (untrusted : ServerHost → Type 0) (p : PartsDo) (side : Side) (config : Config) (heard : List ℕ) (log : List Event) (at : SideState) (i : Item) (e : Error) → TellsParts says denies untrusted p → some_blob_long config ≡ false → (s : Shows says side config heard log at) → RefusesPacket says denies untrusted side config at i e → (e ≡ errors.Memory → ⊥) → RefusesNow p (seen_of side config heard log) (handled log) i e
+pub refuses_now : (says : Says) (denies : Denies) (untrusted : ServerHost → Type 0) (p : PartsDo) (side : Side) (config : Config) (heard : List ℕ) (log : List Event) (at : SideState) (i : Item) (e : Error) → TellsParts says denies untrusted p side config → some_blob_long config ≡ false → (s : Shows says side config heard log at) → RefusesPacket says denies untrusted side config at i e → (e ≡ errors.Memory → ⊥) → RefusesNow p (seen_of side config heard log) (handled log) i e
 refuses_now says denies untrusted p side config heard log at i e tell blobs s r not = elim r [
   | inl d ↦ at_answer p (seen_of side config heard log) (handled log) i e _ d.error_is d.type_is
   | inr r ↦ elim r [

@@ -187,7 +187,8 @@ pub record PartsDo : Type 1 where
   pub lawful_hosts : Type 0
   pub lawful_lookup : Type 0
   pub obliging : Type 0
-  pub obliging_hosts : Type 0
+  pub signs : Type 0
+  pub judges : Type 0
   pub obliging_lookup : Type 0
   pub rises : Rises
   pub offers : KexName → Type 0
@@ -203,18 +204,19 @@ pub record PartsDo : Type 1 where
 -- by the members of the parts' traits, of one side, between the states before the run and behind it
 abbrev pub parts_of : {A H G : Type 0} (lawful : A → Setup → Type 0) (obliging : A → A → Setup → Type 0) (offered : A → KexName → Bool)
     (client_makes : ClientPairs) (server_makes : ServerValues) (agrees : Secrets) (refusals calls : A → ℕ)
-    (lawful_hosts : H → Setup → Type 0) (obliging_hosts : H → H → Setup → Type 0) (accepts : H → ServerHost → List ℕ → List ℕ → Bool)
+    (lawful_hosts : H → Setup → Type 0) (signs judges : H → H → Setup → Type 0) (accepts : H → ServerHost → List ℕ → List ℕ → Bool)
     (trusts : H → ServerHost → Bool) (refused_sign refused_verify refused_check asked : H → ℕ)
     (lawful_groups : G → Setup → Type 0) (obliging_groups : G → G → Setup → Type 0) (group : G → GexParams → DhGroup) (refused_lookup looked : G → ℕ)
     → Setup → A → A → H → H → G → G → PartsDo
-parts_of lawful obliging offered client_makes server_makes agrees refusals calls lawful_hosts obliging_hosts accepts trusts
+parts_of lawful obliging offered client_makes server_makes agrees refusals calls lawful_hosts signs judges accepts trusts
     refused_sign refused_verify refused_check asked lawful_groups obliging_groups group refused_lookup looked s a a' h h' g g' =
     record {
       lawful = lawful a s;
       lawful_hosts = lawful_hosts h s;
       lawful_lookup = lawful_groups g s;
       obliging = obliging a a' s;
-      obliging_hosts = obliging_hosts h h' s;
+      signs = signs h h' s;
+      judges = judges h h' s;
       obliging_lookup = obliging_groups g g' s;
       rises = rises_of refusals refused_sign refused_verify refused_check refused_lookup a a' h h' g g';
       offers = λ n. offered a n ≡ true;
@@ -277,7 +279,7 @@ pub record IsMissignedNow (p : PartsDo) (v : Seen) (items : List Item) (i : Item
   pub secret : List ℕ
   pub agree : p.lawful → p.agrees names.kex (group_of exchange.gex) exchange.client_ephemeral front.value secret
   pub rose : p.rises.verifying
-  pub only : p.obliging_hosts → p.accepts (host_with names front.host) (exchange_hash names.kex exchange front.host (Some secret)) (judged signature) ≡ true → ⊥
+  pub only : p.judges → p.accepts (host_with names front.host) (exchange_hash names.kex exchange front.host (Some secret)) (judged signature) ≡ true → ⊥
 
 -- and a host only where they don't trust it
 pub record IsUntrustedNow (p : PartsDo) (v : Seen) (items : List Item) : Type 0 where
@@ -289,7 +291,7 @@ pub record IsUntrustedNow (p : PartsDo) (v : Seen) (items : List Item) : Type 0 
   pub signature : List ℕ
   pub reply : slice_get (open_block v items) (if is_gex names.kex then 2 else 1) ≡ Some (reply_message (is_gex names.kex) host value signature)
   pub rose : p.rises.checking
-  pub only : p.obliging_hosts → p.trusts (host_with names host) ≡ true → ⊥
+  pub only : p.judges → p.trusts (host_with names host) ≡ true → ⊥
 
 -- ---- the other rows
 
@@ -354,7 +356,7 @@ RefusesNow p v items i errors.UnknownAlgo =
     IsDueNow v items i KexinitDue × ((n : Names) × KexinitReads v items i (Ok n) × (p.offers n.kex → ⊥))
 RefusesNow p v items i (errors.PacketSize n) = IsDueNow v items i (due_in v items) × (longest_payload < n) × IsTooLongNow p i n (due_in v items)
 RefusesNow p v items i errors.Signature = IsDueNow v items i ValueDue × ((value : List ℕ) × (value_in (fields i.payload) ≡ Ok value))
-    × p.rises.signing × (p.obliging_hosts → ⊥)
+    × p.rises.signing × (p.signs → ⊥)
 RefusesNow p v items i errors.WrongServerSig = IsDueNow v items i ReplyDue × IsMissignedNow p v items i
 RefusesNow p v items i errors.UnknownKey = IsDueNow v items i NewkeysDue × (i.payload ≡ newkeys) × IsUntrustedNow p v items
 RefusesNow p v items i errors.Version = ⊥

@@ -41,13 +41,13 @@ pub record Tells : Type 1 where
 
 -- from the members of their traits, between the states before and behind
 abbrev pub tells_by : {A H G : Type 0} (lawful : A → Setup → Type 0) (obliging : A → A → Setup → Type 0) (offered : A → KexName → Bool) (client_makes : KexName → Option DhGroup → List ℕ → List ℕ → Type 0) (server_makes : KexName → Option DhGroup → List ℕ → Type 0) (agrees : KexName → Option DhGroup → List ℕ → List ℕ → List ℕ → Type 0) (refusals calls : A → ℕ)
-    (lawful_hosts : H → Setup → Type 0) (obliging_hosts : H → H → Setup → Type 0) (accepts : H → ServerHost → List ℕ → List ℕ → Bool) (trusts : H → ServerHost → Bool) (makes : Config → ServerHost → List ℕ → List ℕ → Type 0) (refused_sign refused_verify refused_check asked : H → ℕ)
+    (lawful_hosts : H → Setup → Type 0) (signs judges : H → H → Setup → Type 0) (accepts : H → ServerHost → List ℕ → List ℕ → Bool) (trusts : H → ServerHost → Bool) (makes : Config → ServerHost → List ℕ → List ℕ → Type 0) (refused_sign refused_verify refused_check asked : H → ℕ)
     (lawful_groups : G → Setup → Type 0) (obliging_groups : G → G → Setup → Type 0) (group : G → GexParams → DhGroup) (refused_lookup looked : G → ℕ)
     → Config → A → A → H → H → G → G → Tells
-tells_by lawful obliging offered cm sm ag refusals calls lh oh accepts trusts makes rs rv rc asked lg og group rl looked config a a' h h' g g' = record {
-  says = says_of lawful offered cm sm ag lh oh accepts trusts makes lg group config a h g;
-  denies = denies_of obliging offered cm sm refusals oh accepts rs rv og rl a a' h h' g g';
-  untrusted = untrusted_of oh trusts rc h h';
+tells_by lawful obliging offered cm sm ag refusals calls lh sg jd accepts trusts makes rs rv rc asked lg og group rl looked config a a' h h' g g' = record {
+  says = says_of lawful offered cm sm ag lh sg jd accepts trusts makes lg group config a h g;
+  denies = denies_of obliging offered cm sm refusals sg jd accepts rs rv og rl a a' h h' g g';
+  untrusted = untrusted_of jd trusts rc h h';
   calls = counted_by calls asked looked a h g;
 }
 

@@ -53,16 +53,16 @@ rises_of refusals refused_sign refused_verify refused_check refused_lookup a a' 
 -- And which rose of parts that don't oblige between these states, under both configurations. That a client's host keys
 -- refuse a signature may lie with the server's, which are `signer`.
 abbrev pub unobliged_of : {A H G : Type 0} (obliging : A → A → Setup → Type 0) (refusals : A → ℕ)
-    (obliging_hosts : H → H → Setup → Type 0) (refused_sign refused_verify refused_check : H → ℕ)
+    (signs judges : H → H → Setup → Type 0) (refused_sign refused_verify refused_check : H → ℕ)
     (obliging_groups : G → G → Setup → Type 0) (refused_lookup : G → ℕ) → Setup → H → A → A → H → H → G → G → Rises
-unobliged_of {A} {H} {G} obliging refusals obliging_hosts refused_sign refused_verify refused_check obliging_groups
+unobliged_of {A} {H} {G} obliging refusals signs judges refused_sign refused_verify refused_check obliging_groups
     refused_lookup setup signer a a' h h' g g' = record {
       agreement = Rose (refusals a) (refusals a') × (obliging a a' setup → ⊥);
       lookup = Rose (refused_lookup g) (refused_lookup g') × (obliging_groups g g' setup → ⊥);
-      signing = Rose (refused_sign h) (refused_sign h') × (obliging_hosts h h' setup → ⊥);
+      signing = Rose (refused_sign h) (refused_sign h') × (signs h h' setup → ⊥);
       verifying = Rose (refused_verify h) (refused_verify h')
-          × ((later : H) → obliging_hosts h h' setup → obliging_hosts signer later setup → ⊥);
-      checking = Rose (refused_check h) (refused_check h') × (obliging_hosts h h' setup → ⊥);
+          × ((later : H) → judges h h' setup → signs signer later setup → ⊥);
+      checking = Rose (refused_check h) (refused_check h') × (judges h h' setup → ⊥);
     }
 
 -- of a kind the lists of both configurations leave nothing to choose
@@ -181,15 +181,15 @@ RefusalsHaveCauses {A} {H} {G} lawful lawful_hosts lawful_groups offered keeps g
 
 -- Where they are obliging, from the start to the answer, the configurations valid, and the chosen key exchange offered by
 -- the side's agreement, memory was wanting. The parts that are asked are those at the start, after some calls.
-abbrev pub NoneRefusedInLink : {A H G : Type 0} → (A → A → Setup → Type 0) → (H → H → Setup → Type 0)
+abbrev pub NoneRefusedInLink : {A H G : Type 0} → (A → A → Setup → Type 0) → (signs judges : H → H → Setup → Type 0)
     → (G → G → Setup → Type 0)
     → (A → KexName → Bool) → (A → A → Type 0) → (H → H → Type 0) → (G → G → Type 0) → (Config → A → H → G → Says)
     → (A → A → H → H → G → G → Denies) → (H → H → ServerHost → Type 0) → Type 0
-NoneRefusedInLink {A} {H} {G} obliging obliging_hosts obliging_groups offered keeps keeps_hosts keeps_groups says denies
+NoneRefusedInLink {A} {H} {G} obliging signs judges obliging_groups offered keeps keeps_hosts keeps_groups says denies
     untrusted =
     (setup : Setup) (a a' b b' : A) (h h' i i' : H) (g g' j j' : G) (names : Names) (w : World) (cl sl : List Event)
     (side : Side) (took piece : List ℕ) (old new : Standing) (v : A) (x : H) (y : G) (error : Error)
-    → obliging a a' setup → obliging b b' setup → obliging_hosts h h' setup → obliging_hosts i i' setup
+    → obliging a a' setup → obliging b b' setup → judges h h' setup → signs i i' setup
     → obliging_groups j j' setup
     → AreValid setup names → offered (one_of side a b) names.kex ≡ true
     → keeps (one_of side a b) v → keeps_hosts (one_of side h i) x → keeps_groups (one_of side g j) y

@@ -64,7 +64,7 @@ PartsDecide says denies s stage seqn payload errors.UnknownAlgo = IsUnoffered sa
 PartsDecide says denies s stage seqn payload errors.Kex = PartDenies says denies s stage seqn payload
 -- the host keys refuse a signature, or to sign
 PartsDecide says denies s stage seqn payload errors.WrongServerSig = SignatureDenied says denies s stage payload
-PartsDecide says denies s stage seqn payload errors.Signature = SigningDenied denies stage payload
+PartsDecide says denies s stage seqn payload errors.Signature = SigningDenied s denies stage payload
 PartsDecide says denies s stage seqn payload errors.Memory = Unit {0}
 PartsDecide says denies s stage seqn payload (errors.NoCommonAlgo kind ours theirs) = ⊥
 PartsDecide says denies s stage seqn payload errors.Version = ⊥
@@ -102,17 +102,17 @@ PartsRefuseAlone {A} {H} {G} lawful lawful_hosts lawful_groups says denies =
     (setting side (config_of setup side) (id_text (config_of setup side).id) (one_of side w.client w.server).state)
     stage (next_number (one_of side w.client w.server).state.reading.number) item.payload error
 
--- Where the parts of both sides are obliging, from the start to the answer, and the reader's agreement offers the chosen
--- name, nothing of an honest peer's message is refused but for want of memory. The parts that are asked are those at the
+-- Where the parts of both sides are obliging, from the start to the answer, which of host keys means that a client's judge
+-- and a server's sign, and the reader's agreement offers the chosen name, nothing of an honest peer's message is refused but for want of memory. The parts that are asked are those at the
 -- start, after some calls.
-abbrev pub NothingRefused : {A H G : Type 0} → (A → A → Setup → Type 0) → (H → H → Setup → Type 0)
+abbrev pub NothingRefused : {A H G : Type 0} → (A → A → Setup → Type 0) → (signs judges : H → H → Setup → Type 0)
     → (G → G → Setup → Type 0)
     → (A → KexName → Bool) → (A → A → Type 0) → (H → H → Type 0) → (G → G → Type 0)
     → (Config → A → H → G → Says) → (A → A → H → H → G → G → Denies) → Type 0
-NothingRefused {A} {H} {G} obliging obliging_hosts obliging_groups offered keeps keeps_hosts keeps_groups says denies =
+NothingRefused {A} {H} {G} obliging signs judges obliging_groups offered keeps keeps_hosts keeps_groups says denies =
     (setup : Setup) (a a' b b' : A) (h h' i i' : H) (g g' j j' : G) (names : Names) (w : World) (cl sl : List Event)
     (side : Side) (stage : Stage) (item : Item) (v : A) (x : H) (y : G) (error : Error)
-    → obliging a a' setup → obliging b b' setup → obliging_hosts h h' setup → obliging_hosts i i' setup
+    → obliging a a' setup → obliging b b' setup → judges h h' setup → signs i i' setup
     → obliging_groups j j' setup
     → AreValid setup names → offered (one_of side a b) names.kex ≡ true
     → keeps (one_of side a b) v → keeps_hosts (one_of side h i) x → keeps_groups (one_of side g j) y
@@ -126,11 +126,11 @@ NothingRefused {A} {H} {G} obliging obliging_hosts obliging_groups offered keeps
 -- message comes, is one that the server presents; so obliging host keys trust it.
 abbrev pub HostTrusted : {A H G : Type 0} → (A → Setup → Type 0) → (G → Setup → Type 0) → (H → H → Setup → Type 0)
     → (H → ServerHost → Bool) → (Config → A → H → G → Says) → Type 0
-HostTrusted {A} {H} {G} lawful lawful_groups obliging_hosts trusts says =
+HostTrusted {A} {H} {G} lawful lawful_groups judges trusts says =
     (setup : Setup) (a b : A) (h i : H) (g j : G) (names : Names) (w : World) (cl sl : List Event) (item : Item)
     (exchange : Exchange) (made : FinishedExchange) (host : ServerHost)
     → lawful a setup → lawful b setup → lawful_groups j setup → AreValid setup names
     → AwaitsNext (talkers (says_by says setup a b h i g j) (config_of setup)) w cl sl Client
     (AwaitsNewkeys exchange made (Some host)) item
     → ((key : HostKey) × Presents setup.server host key host.algorithm)
-    × ((later : H) → obliging_hosts h later setup → trusts h host ≡ true)
+    × ((later : H) → judges h later setup → trusts h host ≡ true)

@@ -25,12 +25,12 @@ use Rattle.ssh_rules.specs.Asking.{AsksAtMost, PartCalls, kex_count, packet_of}
 use Rattle.ssh_rules.specs.Log.{handled}
 use Rattle.ssh_rules.specs.Standing.{OfFault, OfMemory, OfPacket, OfVersion, RefusalCause, RefusesInput, Standing}
 
--- What it means that host keys don't trust a host: their count of refusals rose, and they aren't obliging, or the host is
+-- What it means that host keys don't trust a host: their count of refusals rose, and they don't judge, or the host is
 -- none that they trust.
-abbrev pub untrusted_of : {H : Type 0} → (obliging : H → H → Setup → Type 0) → (trusts : H → ServerHost → Bool)
+abbrev pub untrusted_of : {H : Type 0} → (judges : H → H → Setup → Type 0) → (trusts : H → ServerHost → Bool)
     → (refused_check : H → ℕ) → H → H → ServerHost → Type 0
-untrusted_of {H} obliging trusts refused_check h h' host = Rose (refused_check h) (refused_check h')
-    × ((s : Setup) → obliging h h' s → trusts h host ≡ true → ⊥)
+untrusted_of {H} judges trusts refused_check h h' host = Rose (refused_check h) (refused_check h')
+    × ((s : Setup) → judges h h' s → trusts h host ≡ true → ⊥)
 
 -- DISCONNECT (RFC 4253 section 11.1)
 pub record IsDisconnect (i : Item) (error : Error) : Type 0 where

@@ -26,12 +26,12 @@ pub trait Asked {
 impl<A: Agreement, H: HostKeys, G: GroupLookup, R> Asked for Parts<A, H, G, R> {
     ghost calls = { λ p. counted_by A.calls H.calls G.calls p.agreement p.hosts p.groups };
 
-    ghost distrusts = { λ p q. untrusted_of H.obliging H.trusts H.refused_check p.hosts q.hosts };
+    ghost distrusts = { λ p q. untrusted_of H.judges H.trusts H.refused_check p.hosts q.hosts };
 
     ghost rises = { λ p q. rises_of A.refusals H.refused_sign H.refused_verify H.refused_check G.refusals
         p.agreement q.agreement p.hosts q.hosts p.groups q.groups };
 
-    ghost unobliged = { λ setup server p q. unobliged_of A.obliging A.refusals H.obliging H.refused_sign
+    ghost unobliged = { λ setup server p q. unobliged_of A.obliging A.refusals H.signs H.judges H.refused_sign
         H.refused_verify H.refused_check G.obliging G.refusals setup server.hosts
         p.agreement q.agreement p.hosts q.hosts p.groups q.groups };
 }

@@ -8,8 +8,8 @@ ghost use Rattle.ssh_rules.specs.RefusedTurn.{OnlyMessagesRefused};
 ghost use Rattle.ssh_rules.specs.RunLaws.{EachRun, HonestLink, KeyedRun, NoViolation, RestedRun, SignedRun};
 ghost use Rattle.ssh_rules.specs.Valid.{HasSizes};
 
-use crate::spoken::Spoken;
-use ssh_kex::{Agreement, Config, GroupLookup, HostKeys};
+use crate::blamed::Blamed;
+use ssh_kex::{Agreement, Config, GroupLookup, HostKeys, Spoken};
 
 /// The sizes of a configuration's groups are below 2^32, as their type says.
 pub fn sizes_are_u32(config: &Config)
@@ -67,7 +67,7 @@ pub fn parts_refuse_alone<A: Agreement, H: HostKeys, G: GroupLookup>()
 
 /// Where they are obliging, and offer the name that is chosen, nothing is refused of it but for want of memory.
 pub fn nothing_refused<A: Agreement, H: HostKeys, G: GroupLookup>()
-    ensures { NothingRefused A.obliging H.obliging G.obliging A.offered ⟦<(A, H, G) as Spoken>⟧.agreement_keeps
+    ensures { NothingRefused A.obliging H.signs H.judges G.obliging A.offered ⟦<(A, H, G) as Spoken>⟧.agreement_keeps
         ⟦<(A, H, G) as Spoken>⟧.hosts_keep ⟦<(A, H, G) as Spoken>⟧.groups_keep ⟦<(A, H, G) as Spoken>⟧.says
         ⟦<(A, H, G) as Spoken>⟧.denies }
 {}
@@ -75,14 +75,14 @@ pub fn nothing_refused<A: Agreement, H: HostKeys, G: GroupLookup>()
 /// When the last message of an exchange comes, the host that the client has accepted is one that the server presents,
 /// and obliging host keys trust it.
 pub fn host_trusted<A: Agreement, H: HostKeys, G: GroupLookup>()
-    ensures { HostTrusted A.lawful G.lawful H.obliging H.trusts ⟦<(A, H, G) as Spoken>⟧.says }
+    ensures { HostTrusted A.lawful G.lawful H.judges H.trusts ⟦<(A, H, G) as Spoken>⟧.says }
 {}
 
 /// Where the agreements of both sides and the server's lookup are lawful, a message of an exchange is all that is
 /// refused of a piece of an honest peer's wire, and want of memory.
 pub fn only_messages_refused<A: Agreement, H: HostKeys, G: GroupLookup>()
     ensures { OnlyMessagesRefused A.lawful G.lawful ⟦<(A, H, G) as Spoken>⟧.says ⟦<(A, H, G) as Spoken>⟧.denies
-        ⟦<(A, H, G) as Spoken>⟧.distrusts }
+        ⟦<(A, H, G) as Blamed>⟧.distrusts }
 {}
 
 /// Where the parts of both sides are lawful, each refusal of a piece of an honest peer's wire has its cause: the lists
@@ -90,23 +90,23 @@ pub fn only_messages_refused<A: Agreement, H: HostKeys, G: GroupLookup>()
 /// oblige and counted a refusal.
 pub fn refusals_have_causes<A: Agreement, H: HostKeys, G: GroupLookup>()
     ensures { RefusalsHaveCauses A.lawful H.lawful G.lawful A.offered ⟦<(A, H, G) as Spoken>⟧.agreement_keeps G.group
-        ⟦<(A, H, G) as Spoken>⟧.says ⟦<(A, H, G) as Spoken>⟧.denies ⟦<(A, H, G) as Spoken>⟧.distrusts
-        ⟦<(A, H, G) as Spoken>⟧.unobliged }
+        ⟦<(A, H, G) as Spoken>⟧.says ⟦<(A, H, G) as Spoken>⟧.denies ⟦<(A, H, G) as Blamed>⟧.distrusts
+        ⟦<(A, H, G) as Blamed>⟧.unobliged }
 {}
 
 /// Where they are obliging, the configurations valid and the chosen key exchange offered, nothing of it is refused but
 /// for want of memory.
 pub fn none_refused_in_link<A: Agreement, H: HostKeys, G: GroupLookup>()
-    ensures { NoneRefusedInLink A.obliging H.obliging G.obliging A.offered ⟦<(A, H, G) as Spoken>⟧.agreement_keeps
+    ensures { NoneRefusedInLink A.obliging H.signs H.judges G.obliging A.offered ⟦<(A, H, G) as Spoken>⟧.agreement_keeps
         ⟦<(A, H, G) as Spoken>⟧.hosts_keep ⟦<(A, H, G) as Spoken>⟧.groups_keep ⟦<(A, H, G) as Spoken>⟧.says
-        ⟦<(A, H, G) as Spoken>⟧.denies ⟦<(A, H, G) as Spoken>⟧.distrusts }
+        ⟦<(A, H, G) as Spoken>⟧.denies ⟦<(A, H, G) as Blamed>⟧.distrusts }
 {}
 
 /// Of an honest peer's wire no version line is refused, nothing is out of the strict order, and host keys refuse only
 /// where their own count rose, whatever the parts are.
 pub fn any_refusals<A: Agreement, H: HostKeys, G: GroupLookup>()
-    ensures { AnyRefusals ⟦<(A, H, G) as Spoken>⟧.says ⟦<(A, H, G) as Spoken>⟧.denies ⟦<(A, H, G) as Spoken>⟧.distrusts
-        ⟦<(A, H, G) as Spoken>⟧.rises }
+    ensures { AnyRefusals ⟦<(A, H, G) as Spoken>⟧.says ⟦<(A, H, G) as Spoken>⟧.denies ⟦<(A, H, G) as Blamed>⟧.distrusts
+        ⟦<(A, H, G) as Blamed>⟧.rises }
 {}
 
 /// What a side of an attacked run delivers is told by the bytes that it was fed and the exchanges that it recorded,

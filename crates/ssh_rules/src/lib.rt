@@ -2,14 +2,14 @@
 #![tactic(auto)]
 
 mod asked;
+mod blamed;
 mod laws;
 pub mod link;
-mod spoken;
 
 pub use crate::asked::Asked;
+pub use crate::blamed::Blamed;
 pub use crate::laws::{
     any_refusals, each_run, honest_link, host_trusted, keyed_run, no_violation,
     none_refused_in_link, nothing_refused, only_messages_refused, parts_refuse_alone,
     records_agree, refusals_have_causes, rested_run, same_delivered, signed_run, sizes_are_u32,
 };
-pub use crate::spoken::Spoken;

@@ -4,7 +4,6 @@ pub mod ReadLoop
 pub mod Refusals
 pub mod Runs
 pub mod Sent
-pub mod Stored
 pub mod SideTurns
 pub mod LinkTurns
 pub mod CarriedLinks

@@ -30,20 +30,20 @@ use Rattle.ssh_wire.specs.declared.error.Error.TheVariants as errors
 pub later_weaker : {A H G : Type 0} (lawful : A → Setup → Type 0) (offered : A → kexes.Name → Bool)
     (client_makes : kexes.Name → Option DhGroup → List ℕ → List ℕ → Type 0) (server_makes : kexes.Name → Option DhGroup → List ℕ → Type 0)
     (agrees : kexes.Name → Option DhGroup → List ℕ → List ℕ → List ℕ → Type 0)
-    (lawful_hosts : H → Setup → Type 0) (obliging : H → H → Setup → Type 0) (accepts : H → ServerHost → List ℕ → List ℕ → Bool) (trusts : H → ServerHost → Bool)
+    (lawful_hosts : H → Setup → Type 0) (signs judges : H → H → Setup → Type 0) (accepts : H → ServerHost → List ℕ → List ℕ → Bool) (trusts : H → ServerHost → Bool)
     (makes : Config → ServerHost → List ℕ → List ℕ → Type 0) (lawful_groups : G → Setup → Type 0) (group : G → GexParams → DhGroup)
     (config config' : Config) (a a' : A) (h h' : H) (g g' : G)
     (obliging_agreement : A → A → Setup → Type 0) (refusals calls : A → ℕ) (refused_sign refused_verify refused_check calls_hosts : H → ℕ)
     (obliging_groups : G → G → Setup → Type 0) (refusals_groups calls_groups : G → ℕ)
     → config' ≡ config
     → KeepsAgreement lawful obliging_agreement offered refusals calls a a'
-    → KeepsHosts lawful_hosts obliging accepts trusts refused_sign refused_verify refused_check calls_hosts h h'
+    → KeepsHosts lawful_hosts signs judges accepts trusts refused_sign refused_verify refused_check calls_hosts h h'
     → KeepsGroups lawful_groups obliging_groups group refusals_groups calls_groups g g'
-    → Weaker (says_of lawful offered client_makes server_makes agrees lawful_hosts obliging accepts trusts makes lawful_groups group config' a' h' g')
-    (says_of lawful offered client_makes server_makes agrees lawful_hosts obliging accepts trusts makes lawful_groups group config a h g)
-later_weaker lawful offered client_makes server_makes agrees lawful_hosts obliging accepts trusts makes lawful_groups group config config' a a' h h' g g' oa r c rs rv rc ch og rg cg e ka kh kg =
-    subst (λ q. Weaker (says_of lawful offered client_makes server_makes agrees lawful_hosts obliging accepts trusts makes lawful_groups group q a' h' g') (says_of lawful offered client_makes server_makes agrees lawful_hosts obliging accepts trusts makes lawful_groups group config a h g)) (sym e)
-    (kept_weaker lawful offered client_makes server_makes agrees lawful_hosts obliging accepts trusts makes lawful_groups group config a a' h h' g g' oa r c rs rv rc ch og rg cg ka kh kg)
+    → Weaker (says_of lawful offered client_makes server_makes agrees lawful_hosts signs judges accepts trusts makes lawful_groups group config' a' h' g')
+    (says_of lawful offered client_makes server_makes agrees lawful_hosts signs judges accepts trusts makes lawful_groups group config a h g)
+later_weaker lawful offered client_makes server_makes agrees lawful_hosts signs judges accepts trusts makes lawful_groups group config config' a a' h h' g g' oa r c rs rv rc ch og rg cg e ka kh kg =
+    subst (λ q. Weaker (says_of lawful offered client_makes server_makes agrees lawful_hosts signs judges accepts trusts makes lawful_groups group q a' h' g') (says_of lawful offered client_makes server_makes agrees lawful_hosts signs judges accepts trusts makes lawful_groups group config a h g)) (sym e)
+    (kept_weaker lawful offered client_makes server_makes agrees lawful_hosts signs judges accepts trusts makes lawful_groups group config a a' h h' g g' oa r c rs rv rc ch og rg cg ka kh kg)
 
 acts_weaker : (a b : Says) → Weaker a b → (old : Standing) (events : List Event) (new : Standing) → Acts a old events new → Acts b old events new
 acts_weaker a b w old events new h = record { side = h.side; config = h.config; steps = steps_weaker a b w old.side old.config (id_text old.config.id) events old.state new.state h.steps; output = h.output; delivered = h.delivered; quiet = h.quiet; live = h.live }
@@ -241,20 +241,20 @@ pub record TellsLater (a b : Telling) : Type 0 where
 pub later_tells : {A H G : Type 0} (lawful : A → Setup → Type 0) (obliging : A → A → Setup → Type 0) (offered : A → kexes.Name → Bool)
     (client_makes : kexes.Name → Option DhGroup → List ℕ → List ℕ → Type 0) (server_makes : kexes.Name → Option DhGroup → List ℕ → Type 0)
     (agrees : kexes.Name → Option DhGroup → List ℕ → List ℕ → List ℕ → Type 0) (refusals : A → ℕ)
-    (lawful_hosts : H → Setup → Type 0) (obliging_hosts : H → H → Setup → Type 0) (accepts : H → ServerHost → List ℕ → List ℕ → Bool) (trusts : H → ServerHost → Bool)
+    (lawful_hosts : H → Setup → Type 0) (signs judges : H → H → Setup → Type 0) (accepts : H → ServerHost → List ℕ → List ℕ → Bool) (trusts : H → ServerHost → Bool)
     (makes : Config → ServerHost → List ℕ → List ℕ → Type 0) (refused_sign refused_verify refused_check : H → ℕ)
     (lawful_groups : G → Setup → Type 0) (obliging_groups : G → G → Setup → Type 0) (group : G → GexParams → DhGroup) (refused_lookup : G → ℕ)
     (config config' : Config) (a a' a'' : A) (h h' h'' : H) (g g' g'' : G) (calls : A → ℕ) (calls_hosts : H → ℕ) (calls_groups : G → ℕ)
     → config' ≡ config
     → KeepsAgreement lawful obliging offered refusals calls a a'
-    → KeepsHosts lawful_hosts obliging_hosts accepts trusts refused_sign refused_verify refused_check calls_hosts h h'
+    → KeepsHosts lawful_hosts signs judges accepts trusts refused_sign refused_verify refused_check calls_hosts h h'
     → KeepsGroups lawful_groups obliging_groups group refused_lookup calls_groups g g'
-    → TellsLater (telling_of lawful obliging offered client_makes server_makes agrees refusals lawful_hosts obliging_hosts accepts trusts makes refused_sign refused_verify refused_check lawful_groups obliging_groups group refused_lookup config' a' a'' h' h'' g' g'')
-    (telling_of lawful obliging offered client_makes server_makes agrees refusals lawful_hosts obliging_hosts accepts trusts makes refused_sign refused_verify refused_check lawful_groups obliging_groups group refused_lookup config a a'' h h'' g g'')
-later_tells lawful obliging offered cm sm ag refusals lh oh accepts trusts makes rs rv rc lg og group rl config config' a a' a'' h h' h'' g g' g'' ca ch cg e ka kh kg =
-    subst (λ q. TellsLater (telling_of lawful obliging offered cm sm ag refusals lh oh accepts trusts makes rs rv rc lg og group rl q a' a'' h' h'' g' g'') (telling_of lawful obliging offered cm sm ag refusals lh oh accepts trusts makes rs rv rc lg og group rl config a a'' h h'' g g'')) (sym e) (record {
-      denying = kept_denying lawful offered cm sm ag lh oh accepts trusts makes lg group config a a' a'' h h' h'' g g' g'' obliging refusals ca rs rv rc ch og rl cg ka kh kg;
-      trusting = λ host u. kept_untrusting lh oh accepts trusts rs rv rc ch h h' h'' host kh u;
+    → TellsLater (telling_of lawful obliging offered client_makes server_makes agrees refusals lawful_hosts signs judges accepts trusts makes refused_sign refused_verify refused_check lawful_groups obliging_groups group refused_lookup config' a' a'' h' h'' g' g'')
+    (telling_of lawful obliging offered client_makes server_makes agrees refusals lawful_hosts signs judges accepts trusts makes refused_sign refused_verify refused_check lawful_groups obliging_groups group refused_lookup config a a'' h h'' g g'')
+later_tells lawful obliging offered cm sm ag refusals lh sg jd accepts trusts makes rs rv rc lg og group rl config config' a a' a'' h h' h'' g g' g'' ca ch cg e ka kh kg =
+    subst (λ q. TellsLater (telling_of lawful obliging offered cm sm ag refusals lh sg jd accepts trusts makes rs rv rc lg og group rl q a' a'' h' h'' g' g'') (telling_of lawful obliging offered cm sm ag refusals lh sg jd accepts trusts makes rs rv rc lg og group rl config a a'' h h'' g g'')) (sym e) (record {
+      denying = kept_denying lawful offered cm sm ag lh sg jd accepts trusts makes lg group config a a' a'' h h' h'' g g' g'' obliging refusals ca rs rv rc ch og rl cg ka kh kg;
+      trusting = λ host u. kept_untrusting lh sg jd accepts trusts rs rv rc ch h h' h'' host kh u;
     })
 
 carrying_later : (a b : Telling) → TellsLater a b → (old : CarriedEnd) (wire : List ℕ) (n : ℕ) (e : Error) → RefusesCarrying a old wire n e → RefusesCarrying b old wire n e

@@ -309,31 +309,31 @@ tells_by client server Client = client
 tells_by client server Server = server
 
 pub lawful_causes : {A H G : Type 0} (lawful : A → Setup → Type 0) (obliging : A → A → Setup → Type 0) (offered : A → KexName → Bool) (client_makes : KexName → Option DhGroup → List ℕ → List ℕ → Type 0) (server_makes : KexName → Option DhGroup → List ℕ → Type 0) (agrees : KexName → Option DhGroup → List ℕ → List ℕ → List ℕ → Type 0) (refusals : A → ℕ)
-    (lawful_hosts : H → Setup → Type 0) (obliging_hosts : H → H → Setup → Type 0) (accepts : H → ServerHost → List ℕ → List ℕ → Bool) (trusts : H → ServerHost → Bool) (makes : Config → ServerHost → List ℕ → List ℕ → Type 0) (refused_sign refused_verify refused_check : H → ℕ)
+    (lawful_hosts : H → Setup → Type 0) (signs judges : H → H → Setup → Type 0) (accepts : H → ServerHost → List ℕ → List ℕ → Bool) (trusts : H → ServerHost → Bool) (makes : Config → ServerHost → List ℕ → List ℕ → Type 0) (refused_sign refused_verify refused_check : H → ℕ)
     (lawful_groups : G → Setup → Type 0) (obliging_groups : G → G → Setup → Type 0) (group : G → GexParams → DhGroup) (refused_lookup : G → ℕ)
-    → PartLaws lawful obliging obliging_hosts accepts trusts makes lawful_groups obliging_groups group
+    → PartLaws lawful obliging signs judges accepts trusts makes lawful_groups obliging_groups group
     → ((v : G) (s : Setup) → lawful_groups v s → IsSmall (group v s.client.gex).prime × IsSmall (group v s.client.gex).generator)
     → (t : Setup) (a a' b b' : A) (h h' i i' : H) (g g' j j' : G) → lawful a t → lawful b t → lawful_hosts h t → lawful_hosts i t → lawful_groups j t
-    → AreLawful (says_in (tells_by (telling_of lawful obliging offered client_makes server_makes agrees refusals lawful_hosts obliging_hosts accepts trusts makes refused_sign refused_verify refused_check lawful_groups obliging_groups group refused_lookup t.client a a' h h' g g') (telling_of lawful obliging offered client_makes server_makes agrees refusals lawful_hosts obliging_hosts accepts trusts makes refused_sign refused_verify refused_check lawful_groups obliging_groups group refused_lookup t.server b b' i i' j j'))) (config_of t)
-    → (side : Side) → Causes (says_in (tells_by (telling_of lawful obliging offered client_makes server_makes agrees refusals lawful_hosts obliging_hosts accepts trusts makes refused_sign refused_verify refused_check lawful_groups obliging_groups group refused_lookup t.client a a' h h' g g') (telling_of lawful obliging offered client_makes server_makes agrees refusals lawful_hosts obliging_hosts accepts trusts makes refused_sign refused_verify refused_check lawful_groups obliging_groups group refused_lookup t.server b b' i i' j j'))) (config_of t) side
-    (tells_by (telling_of lawful obliging offered client_makes server_makes agrees refusals lawful_hosts obliging_hosts accepts trusts makes refused_sign refused_verify refused_check lawful_groups obliging_groups group refused_lookup t.client a a' h h' g g') (telling_of lawful obliging offered client_makes server_makes agrees refusals lawful_hosts obliging_hosts accepts trusts makes refused_sign refused_verify refused_check lawful_groups obliging_groups group refused_lookup t.server b b' i i' j j') side).denies
-    (tells_by (telling_of lawful obliging offered client_makes server_makes agrees refusals lawful_hosts obliging_hosts accepts trusts makes refused_sign refused_verify refused_check lawful_groups obliging_groups group refused_lookup t.client a a' h h' g g') (telling_of lawful obliging offered client_makes server_makes agrees refusals lawful_hosts obliging_hosts accepts trusts makes refused_sign refused_verify refused_check lawful_groups obliging_groups group refused_lookup t.server b b' i i' j j') side).untrusted
-    (rises_by (unobliged_of obliging refusals obliging_hosts refused_sign refused_verify refused_check obliging_groups refused_lookup t i a a' h h' g g') (unobliged_of obliging refusals obliging_hosts refused_sign refused_verify refused_check obliging_groups refused_lookup t i b b' i i' j j') side) (offered_by (offered a) (offered b) side) (group j t.client.gex)
-lawful_causes lawful obliging offered cm sm ag refusals lh oh accepts trusts makes rs rv rc lg og group rl laws small t a a' b b' h h' i i' g g' j j' la lb lhh li lj m Client = record {
+    → AreLawful (says_in (tells_by (telling_of lawful obliging offered client_makes server_makes agrees refusals lawful_hosts signs judges accepts trusts makes refused_sign refused_verify refused_check lawful_groups obliging_groups group refused_lookup t.client a a' h h' g g') (telling_of lawful obliging offered client_makes server_makes agrees refusals lawful_hosts signs judges accepts trusts makes refused_sign refused_verify refused_check lawful_groups obliging_groups group refused_lookup t.server b b' i i' j j'))) (config_of t)
+    → (side : Side) → Causes (says_in (tells_by (telling_of lawful obliging offered client_makes server_makes agrees refusals lawful_hosts signs judges accepts trusts makes refused_sign refused_verify refused_check lawful_groups obliging_groups group refused_lookup t.client a a' h h' g g') (telling_of lawful obliging offered client_makes server_makes agrees refusals lawful_hosts signs judges accepts trusts makes refused_sign refused_verify refused_check lawful_groups obliging_groups group refused_lookup t.server b b' i i' j j'))) (config_of t) side
+    (tells_by (telling_of lawful obliging offered client_makes server_makes agrees refusals lawful_hosts signs judges accepts trusts makes refused_sign refused_verify refused_check lawful_groups obliging_groups group refused_lookup t.client a a' h h' g g') (telling_of lawful obliging offered client_makes server_makes agrees refusals lawful_hosts signs judges accepts trusts makes refused_sign refused_verify refused_check lawful_groups obliging_groups group refused_lookup t.server b b' i i' j j') side).denies
+    (tells_by (telling_of lawful obliging offered client_makes server_makes agrees refusals lawful_hosts signs judges accepts trusts makes refused_sign refused_verify refused_check lawful_groups obliging_groups group refused_lookup t.client a a' h h' g g') (telling_of lawful obliging offered client_makes server_makes agrees refusals lawful_hosts signs judges accepts trusts makes refused_sign refused_verify refused_check lawful_groups obliging_groups group refused_lookup t.server b b' i i' j j') side).untrusted
+    (rises_by (unobliged_of obliging refusals signs judges refused_sign refused_verify refused_check obliging_groups refused_lookup t i a a' h h' g g') (unobliged_of obliging refusals signs judges refused_sign refused_verify refused_check obliging_groups refused_lookup t i b b' i i' j j') side) (offered_by (offered a) (offered b) side) (group j t.client.gex)
+lawful_causes lawful obliging offered cm sm ag refusals lh sg jd accepts trusts makes rs rv rc lg og group rl laws small t a a' b b' h h' i i' g g' j j' la lb lhh li lj m Client = record {
   lawful = m;
-  small = small_of lawful offered cm sm ag lh oh accepts trusts makes lg group small t a b h i g j Client la lb lhh li lj;
+  small = small_of lawful offered cm sm ag lh sg jd accepts trusts makes lg group small t a b h i g j Client la lb lhh li lj;
   owes = λ kex. (
-      let d = owes_of lawful obliging offered cm sm ag refusals lh oh accepts trusts makes rs rv rc lg og group rl laws t a b h i g j kex Client a a' h h' g g' la lb refl in
+      let d = owes_of lawful obliging offered cm sm ag refusals lh sg jd accepts trusts makes rs rv rc lg og group rl laws t a b h i g j kex Client a a' h h' g g' la lb refl in
       record { start = d.start; value = d.value; reply = d.reply; lookup = d.lookup; sign = d.sign; verify = d.verify });
   checks = λ host key e p d. (d.0, λ o. d.1 t o (laws.trusted h h' t host key o p));
   offers = λ name o. o;
   finds = λ q f. (f t lj).0;
 }
-lawful_causes lawful obliging offered cm sm ag refusals lh oh accepts trusts makes rs rv rc lg og group rl laws small t a a' b b' h h' i i' g g' j j' la lb lhh li lj m Server = record {
+lawful_causes lawful obliging offered cm sm ag refusals lh sg jd accepts trusts makes rs rv rc lg og group rl laws small t a a' b b' h h' i i' g g' j j' la lb lhh li lj m Server = record {
   lawful = m;
-  small = small_of lawful offered cm sm ag lh oh accepts trusts makes lg group small t a b h i g j Server la lb lhh li lj;
+  small = small_of lawful offered cm sm ag lh sg jd accepts trusts makes lg group small t a b h i g j Server la lb lhh li lj;
   owes = λ kex. (
-      let d = owes_of lawful obliging offered cm sm ag refusals lh oh accepts trusts makes rs rv rc lg og group rl laws t a b h i g j kex Server b b' i i' j j' la lb refl in
+      let d = owes_of lawful obliging offered cm sm ag refusals lh sg jd accepts trusts makes rs rv rc lg og group rl laws t a b h i g j kex Server b b' i i' j j' la lb refl in
       record { start = d.start; value = d.value; reply = d.reply; lookup = d.lookup; sign = d.sign; verify = d.verify });
   checks = λ host key e p d. (d.0, λ o. d.1 t o (laws.trusted i i' t host key o p));
   offers = λ name o. o;
@@ -343,17 +343,17 @@ lawful_causes lawful obliging offered cm sm ag refusals lh oh accepts trusts mak
 -- Where both sides' parts oblige, the lookup at least where it is asked, their configurations pass, their agreements offer
 -- what is chosen, and each payload is good.
 pub obliging_complete : {A H G : Type 0} (lawful : A → Setup → Type 0) (obliging : A → A → Setup → Type 0) (offered : A → KexName → Bool) (client_makes : KexName → Option DhGroup → List ℕ → List ℕ → Type 0) (server_makes : KexName → Option DhGroup → List ℕ → Type 0) (agrees : KexName → Option DhGroup → List ℕ → List ℕ → List ℕ → Type 0) (refusals : A → ℕ)
-    (lawful_hosts : H → Setup → Type 0) (obliging_hosts : H → H → Setup → Type 0) (accepts : H → ServerHost → List ℕ → List ℕ → Bool) (trusts : H → ServerHost → Bool) (makes : Config → ServerHost → List ℕ → List ℕ → Type 0) (refused_sign refused_verify refused_check : H → ℕ)
+    (lawful_hosts : H → Setup → Type 0) (signs judges : H → H → Setup → Type 0) (accepts : H → ServerHost → List ℕ → List ℕ → Bool) (trusts : H → ServerHost → Bool) (makes : Config → ServerHost → List ℕ → List ℕ → Type 0) (refused_sign refused_verify refused_check : H → ℕ)
     (lawful_groups : G → Setup → Type 0) (obliging_groups : G → G → Setup → Type 0) (group : G → GexParams → DhGroup) (refused_lookup : G → ℕ)
     → ((v : A) (s : Setup) (name : KexName) (group : Option DhGroup) (local client server x y : List ℕ) → lawful v s → client_makes name group local client → server_makes name group server → agrees name group client server x → agrees name group client server y → x ≡ y)
-    → PartLaws lawful obliging obliging_hosts accepts trusts makes lawful_groups obliging_groups group
-    → ((v w : H) (s : Setup) → obliging_hosts v w s → lawful_hosts v s)
+    → PartLaws lawful obliging signs judges accepts trusts makes lawful_groups obliging_groups group
+    → ((v w : H) (s : Setup) → judges v w s → lawful_hosts v s) → ((v w : H) (s : Setup) → signs v w s → lawful_hosts v s)
     → ((v : G) (s : Setup) → lawful_groups v s → IsSmall (group v s.client.gex).prime × IsSmall (group v s.client.gex).generator)
-    → (t : Setup) (a a' b b' : A) (h h' i i' : H) (g g' j j' : G) (steps : List Step) (e : Error) → IsValidRun (config_of t) (offered_by (offered a) (offered b)) steps → ((side : Side) → HasSizes (config_of t side)) → obliging a a' t → obliging b b' t → obliging_hosts h h' t → obliging_hosts i i' t → lawful_groups j t → (kind_by (chosen_by t.client t.server) ≡ true → obliging_groups j j' t) → ((side : Side) → IsWholeId (config_of t side))
-    → RefusesLink (telling_of lawful obliging offered client_makes server_makes agrees refusals lawful_hosts obliging_hosts accepts trusts makes refused_sign refused_verify refused_check lawful_groups obliging_groups group refused_lookup t.client a a' h h' g g') (telling_of lawful obliging offered client_makes server_makes agrees refusals lawful_hosts obliging_hosts accepts trusts makes refused_sign refused_verify refused_check lawful_groups obliging_groups group refused_lookup t.server b b' i i' j j') t.client t.server steps e → e ≡ errors.Memory
-obliging_complete lawful obliging offered cm sm ag refusals lh oh accepts trusts makes rs rv rc lg og group rl one laws hosts_lawful small_group t a a' b b' h h' i i' g g' j j' steps e v sizes oa ob ohh oi lj oj whole r = run_complete tell (config_of t) v.names steps e met duties small known whole v.good r where
+    → (t : Setup) (a a' b b' : A) (h h' i i' : H) (g g' j j' : G) (steps : List Step) (e : Error) → IsValidRun (config_of t) (offered_by (offered a) (offered b)) steps → ((side : Side) → HasSizes (config_of t side)) → obliging a a' t → obliging b b' t → judges h h' t → signs i i' t → lawful_groups j t → (kind_by (chosen_by t.client t.server) ≡ true → obliging_groups j j' t) → ((side : Side) → IsWholeId (config_of t side))
+    → RefusesLink (telling_of lawful obliging offered client_makes server_makes agrees refusals lawful_hosts signs judges accepts trusts makes refused_sign refused_verify refused_check lawful_groups obliging_groups group refused_lookup t.client a a' h h' g g') (telling_of lawful obliging offered client_makes server_makes agrees refusals lawful_hosts signs judges accepts trusts makes refused_sign refused_verify refused_check lawful_groups obliging_groups group refused_lookup t.server b b' i i' j j') t.client t.server steps e → e ≡ errors.Memory
+obliging_complete lawful obliging offered cm sm ag refusals lh sg jd accepts trusts makes rs rv rc lg og group rl one laws judging_lawful signing_lawful small_group t a a' b b' h h' i i' g g' j j' steps e v sizes oa ob jh si lj oj whole r = run_complete tell (config_of t) v.names steps e met duties small known whole v.good r where
   tell : Side → Telling
-  tell = tells_by (telling_of lawful obliging offered cm sm ag refusals lh oh accepts trusts makes rs rv rc lg og group rl t.client a a' h h' g g') (telling_of lawful obliging offered cm sm ag refusals lh oh accepts trusts makes rs rv rc lg og group rl t.server b b' i i' j j')
+  tell = tells_by (telling_of lawful obliging offered cm sm ag refusals lh sg jd accepts trusts makes rs rv rc lg og group rl t.client a a' h h' g g') (telling_of lawful obliging offered cm sm ag refusals lh sg jd accepts trusts makes rs rv rc lg og group rl t.server b b' i i' j j')
 
   la : lawful a t
   la = laws.agreement a a' t oa
@@ -375,18 +375,18 @@ obliging_complete lawful obliging offered cm sm ag refusals lh oh accepts trusts
 
   duties : (side : Side) → Duties (says_in tell) (config_of t) side v.names.kex (tell side).denies
   duties Client = (
-      let d = duties_of lawful obliging offered cm sm ag refusals refusals lh oh accepts trusts makes rs rv rc rs lg og group rl rl laws t a a' b b' h h' i i' g g' j j' v.names.kex Client a h g oa ob ohh oi lj looks (v.offers Client) (agreement_same lawful obliging offered refusals refusals a) (hosts_same lh oh accepts trusts rs rv rc rs h) (groups_same lg og group rl rl g) in
+      let d = duties_of lawful obliging offered cm sm ag refusals refusals lh sg jd accepts trusts makes rs rv rc rs lg og group rl rl laws t a a' b b' h h' i i' g g' j j' v.names.kex Client a h g oa ob jh si lj looks (v.offers Client) (agreement_same lawful obliging offered refusals refusals a) (hosts_same lh sg jd accepts trusts rs rv rc rs h) (groups_same lg og group rl rl g) in
       record { offered = d.offered; owes = record { start = d.owes.start; value = d.owes.value; reply = d.owes.reply; lookup = d.owes.lookup; sign = d.owes.sign; verify = d.owes.verify }; fits = d.fits })
   duties Server = (
-      let d = duties_of lawful obliging offered cm sm ag refusals refusals lh oh accepts trusts makes rs rv rc rs lg og group rl rl laws t a a' b b' h h' i i' g g' j j' v.names.kex Server b i j oa ob ohh oi lj looks (v.offers Server) (agreement_same lawful obliging offered refusals refusals b) (hosts_same lh oh accepts trusts rs rv rc rs i) (groups_same lg og group rl rl j) in
+      let d = duties_of lawful obliging offered cm sm ag refusals refusals lh sg jd accepts trusts makes rs rv rc rs lg og group rl rl laws t a a' b b' h h' i i' g g' j j' v.names.kex Server b i j oa ob jh si lj looks (v.offers Server) (agreement_same lawful obliging offered refusals refusals b) (hosts_same lh sg jd accepts trusts rs rv rc rs i) (groups_same lg og group rl rl j) in
       record { offered = d.offered; owes = record { start = d.owes.start; value = d.owes.value; reply = d.owes.reply; lookup = d.owes.lookup; sign = d.owes.sign; verify = d.owes.verify }; fits = d.fits })
 
   small : (side : Side) → AreSmall (says_in tell side) side (config_of t (other_side side)).gex
-  small Client = small_of lawful offered cm sm ag lh oh accepts trusts makes lg group small_group t a b h i g j Client la lb (hosts_lawful h h' t ohh) (hosts_lawful i i' t oi) lj
-  small Server = small_of lawful offered cm sm ag lh oh accepts trusts makes lg group small_group t a b h i g j Server la lb (hosts_lawful h h' t ohh) (hosts_lawful i i' t oi) lj
+  small Client = small_of lawful offered cm sm ag lh sg jd accepts trusts makes lg group small_group t a b h i g j Client la lb (judging_lawful h h' t jh) (signing_lawful i i' t si) lj
+  small Server = small_of lawful offered cm sm ag lh sg jd accepts trusts makes lg group small_group t a b h i g j Server la lb (judging_lawful h h' t jh) (signing_lawful i i' t si) lj
 
   known : (side : Side) (host : ServerHost) (key : HostKey) → side ≡ Client → Presents (config_of t Server) host key host.algorithm → (tell side).untrusted host → ⊥
-  known Client host key q p d = d.1 t ohh (laws.trusted h h' t host key ohh p)
+  known Client host key q p d = d.1 t jh (laws.trusted h h' t host key jh p)
   known Server host key q p d = absurd (let bad : ⊥ = cc in bad)
 
 pub if_refused : {A E : Type 0} {P Q : E → Type 0} (r : Result A E) → IfErr r P → ((e : E) → P e → Q e) → IfErr r Q

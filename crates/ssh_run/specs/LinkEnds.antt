@@ -1,4 +1,5 @@
 -- The sides of a link, as their calls leave them.
+use Rattle.std.specs.Prelude.{◌≡◌, false}
 use Rattle.ssh_rules.specs.declared.link.Mark.{Mark}
 use Rattle.ssh_rules.specs.declared.link.SideMark.{SideMark}
 use Rattle.ssh_run.specs.Carrying.{CarriedEnd, CarriedLink, both_marks, side_mark}
@@ -17,6 +18,10 @@ end_of end = record {
 -- both sides
 abbrev pub link_of : Link → CarriedLink
 link_of link = record { client = end_of link.client; server = end_of link.server }
+
+-- something holds where neither side has failed
+abbrev pub WhereUnfailed : Link → Type 0 → Type 0
+WhereUnfailed link holds = link.client.transport.failed ≡ false → link.server.transport.failed ≡ false → holds
 
 -- where a side stands
 abbrev pub end_mark : LinkEnd → SideMark

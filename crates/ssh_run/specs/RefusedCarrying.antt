@@ -33,19 +33,19 @@ pub record Telling : Type 1 where
 abbrev pub telling_of : {A H G : Type 0} (lawful : A → Setup → Type 0) (obliging : A → A → Setup → Type 0) (offered : A → KexName → Bool)
     (client_makes : KexName → Option DhGroup → List ℕ → List ℕ → Type 0) (server_makes : KexName → Option DhGroup
     → List ℕ → Type 0) (agrees : KexName → Option DhGroup → List ℕ → List ℕ → List ℕ → Type 0) (refusals : A → ℕ)
-    (lawful_hosts : H → Setup → Type 0) (obliging_hosts : H → H → Setup → Type 0) (accepts : H → ServerHost → List ℕ → List ℕ → Bool)
+    (lawful_hosts : H → Setup → Type 0) (signs judges : H → H → Setup → Type 0) (accepts : H → ServerHost → List ℕ → List ℕ → Bool)
     (trusts : H → ServerHost → Bool) (makes : Config → ServerHost → List ℕ → List ℕ → Type 0)
     (refused_sign refused_verify refused_check : H → ℕ)
     (lawful_groups : G → Setup → Type 0) (obliging_groups : G → G → Setup → Type 0) (group : G → GexParams → DhGroup) (refused_lookup : G → ℕ)
     → Config → A → A → H → H → G → G → Telling
-telling_of lawful obliging offered client_makes server_makes agrees refusals lawful_hosts obliging_hosts accepts trusts
+telling_of lawful obliging offered client_makes server_makes agrees refusals lawful_hosts signs judges accepts trusts
     makes refused_sign refused_verify refused_check lawful_groups obliging_groups group refused_lookup
     config a a' h h' g g' = record {
-      says = says_of lawful offered client_makes server_makes agrees lawful_hosts obliging_hosts accepts trusts makes
+      says = says_of lawful offered client_makes server_makes agrees lawful_hosts signs judges accepts trusts makes
           lawful_groups group config a h g;
-      denies = denies_of obliging offered client_makes server_makes refusals obliging_hosts accepts refused_sign
+      denies = denies_of obliging offered client_makes server_makes refusals signs judges accepts refused_sign
           refused_verify obliging_groups refused_lookup a a' h h' g g';
-      untrusted = untrusted_of obliging_hosts trusts refused_check h h';
+      untrusted = untrusted_of judges trusts refused_check h h';
     }
 
 -- A payload is refused for its size, for its type, or for want of memory.

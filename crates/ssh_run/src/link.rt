@@ -2,6 +2,7 @@
 
 ghost use Rattle.std.specs.Prelude.{◌≡◌, ◌⊎◌, ◌≤◌, ◌<◌, ◌^◌, [], Err, IfErr, IfOk, IfSome, None, OnErr, OnOk, false, length, true};
 ghost use Rattle.std.specs.Str.{is_utf8};
+ghost use Rattle.ssh_kex.specs.Parts.{between};
 ghost use Rattle.ssh_rules.specs.AnyParts.{IsReadLink};
 ghost use Rattle.ssh_rules.specs.Headline.{IsInGroup, IsLink, chosen_by, kind_by};
 ghost use Rattle.ssh_rules.specs.Valid as valid;
@@ -16,7 +17,7 @@ ghost use Rattle.ssh_wire.specs.declared.error.Error.TheVariants.{InvalidConfig,
 ghost use Rattle.ssh_wire.specs.declared.side.Side.TheVariants.{Client as client_side, Server as server_side};
 
 use crate::link_end::LinkEnd;
-use crate::told::Told;
+use crate::told::{LinkTold, Told};
 use rand_core::Rng;
 use ssh_kex::{Agreement, Config, GroupLookup, Handed, HostKeys, Parts};
 use ssh_rules::Asked;
@@ -54,59 +55,47 @@ pub fn run_link<A: Agreement, H: HostKeys, G: GroupLookup, R: Rng>(
 ) -> Result<LinkReport, Error>
     ensures report { IfOk result (IsWholeReport steps.now) }
     ensures good { OnOk result (all_submits_good steps.now ≡ true) }
-    ensures link { A.lawful client_parts.old.agreement (record { client = client.now; server = server.now })
-        → A.lawful server_parts.old.agreement (record { client = client.now; server = server.now })
-        → G.lawful server_parts.old.groups (record { client = client.now; server = server.now })
+    ensures link { A.lawful client_parts.old.agreement (between client.now server.now)
+        → A.lawful server_parts.old.agreement (between client.now server.now)
+        → G.lawful server_parts.old.groups (between client.now server.now)
         → IfOk result (IsLink A.client_makes A.server_makes A.agrees client.now server.now steps.now) }
-    ensures group { A.lawful client_parts.old.agreement (record { client = client.now; server = server.now })
-        → A.lawful server_parts.old.agreement (record { client = client.now; server = server.now })
-        → G.lawful server_parts.old.groups (record { client = client.now; server = server.now })
+    ensures group { A.lawful client_parts.old.agreement (between client.now server.now)
+        → A.lawful server_parts.old.agreement (between client.now server.now)
+        → G.lawful server_parts.old.groups (between client.now server.now)
         → IfOk result (IsInGroup server.now (G.group server_parts.old.groups client.now.gex)) }
     ensures configs { IfSome (first_config_fault (valid.config_fault client_side client.now)
         (valid.config_fault server_side server.now)) (λ f. result ≡ Err (InvalidConfig f)) }
     ensures refused { IfErr result (IsAnyRunCause (rises_by (⟦<Parts<A, H, G, R> as Asked>⟧.rises client_parts.old
         client_parts.new) (⟦<Parts<A, H, G, R> as Asked>⟧.rises server_parts.old server_parts.new))
-        (config_of (record { client = client.now; server = server.now })) steps.now) }
-    ensures causes { A.lawful client_parts.old.agreement (record { client = client.now; server = server.now })
-        → A.lawful server_parts.old.agreement (record { client = client.now; server = server.now })
-        → H.lawful client_parts.old.hosts (record { client = client.now; server = server.now })
-        → H.lawful server_parts.old.hosts (record { client = client.now; server = server.now })
-        → G.lawful server_parts.old.groups (record { client = client.now; server = server.now })
+        (config_of (between client.now server.now)) steps.now) }
+    ensures causes { A.lawful client_parts.old.agreement (between client.now server.now)
+        → A.lawful server_parts.old.agreement (between client.now server.now)
+        → H.lawful client_parts.old.hosts (between client.now server.now)
+        → H.lawful server_parts.old.hosts (between client.now server.now)
+        → G.lawful server_parts.old.groups (between client.now server.now)
         → IfErr result (IsRunCause (rises_by
-        (⟦<Parts<A, H, G, R> as Asked>⟧.unobliged (record { client = client.now; server = server.now })
+        (⟦<Parts<A, H, G, R> as Asked>⟧.unobliged (between client.now server.now)
         server_parts.old client_parts.old client_parts.new)
-        (⟦<Parts<A, H, G, R> as Asked>⟧.unobliged (record { client = client.now; server = server.now })
+        (⟦<Parts<A, H, G, R> as Asked>⟧.unobliged (between client.now server.now)
         server_parts.old server_parts.old server_parts.new))
-        (config_of (record { client = client.now; server = server.now }))
+        (config_of (between client.now server.now))
         (offered_by (A.offered client_parts.old.agreement) (A.offered server_parts.old.agreement))
         (G.group server_parts.old.groups client.now.gex) steps.now) }
-    ensures complete { IsValidRun (config_of (record { client = client.now; server = server.now }))
+    ensures complete { IsValidRun (config_of (between client.now server.now))
         (offered_by (A.offered client_parts.old.agreement) (A.offered server_parts.old.agreement)) steps.now
-        → A.obliging client_parts.old.agreement client_parts.new.agreement (record {
-          client = client.now;
-          server =
-              server.now;
-        })
-        → A.obliging server_parts.old.agreement server_parts.new.agreement (record {
-          client = client.now;
-          server =
-              server.now;
-        })
-        → H.obliging client_parts.old.hosts client_parts.new.hosts (record { client = client.now; server = server.now })
-        → H.obliging server_parts.old.hosts server_parts.new.hosts (record { client = client.now; server = server.now })
-        → G.lawful server_parts.old.groups (record { client = client.now; server = server.now })
+        → A.obliging client_parts.old.agreement client_parts.new.agreement (between client.now server.now)
+        → A.obliging server_parts.old.agreement server_parts.new.agreement (between client.now server.now)
+        → H.judges client_parts.old.hosts client_parts.new.hosts (between client.now server.now)
+        → H.signs server_parts.old.hosts server_parts.new.hosts (between client.now server.now)
+        → G.lawful server_parts.old.groups (between client.now server.now)
         → (kind_by (chosen_by client.now server.now) ≡ true
-        → G.obliging server_parts.old.groups server_parts.new.groups (record {
-          client = client.now;
-          server =
-              server.now;
-        }))
+        → G.obliging server_parts.old.groups server_parts.new.groups (between client.now server.now))
         → IfErr result (λ e. e ≡ Memory) }
     ensures read { IfOk result (IsReadLink (H.accepts client_parts.old.hosts) (H.trusts client_parts.old.hosts)
         client.now server.now) }
-    ensures calls { A.lawful client_parts.old.agreement (record { client = client.now; server = server.now })
-        → A.lawful server_parts.old.agreement (record { client = client.now; server = server.now })
-        → G.lawful server_parts.old.groups (record { client = client.now; server = server.now })
+    ensures calls { A.lawful client_parts.old.agreement (between client.now server.now)
+        → A.lawful server_parts.old.agreement (between client.now server.now)
+        → G.lawful server_parts.old.groups (between client.now server.now)
         → RunAsks client.now server.now steps.now (⟦<Parts<A, H, G, R> as Asked>⟧.calls client_parts.old)
         (⟦<Parts<A, H, G, R> as Asked>⟧.calls client_parts.new) (⟦<Parts<A, H, G, R> as Asked>⟧.calls server_parts.old)
         (⟦<Parts<A, H, G, R> as Asked>⟧.calls server_parts.new) }
@@ -172,14 +161,13 @@ fn carry_steps<A: Agreement, H: HostKeys, G: GroupLookup, R: Rng>(
     }
     let mut link = Link::new(alloc, client, server)?;
     let marks = link.run(alloc, client_parts, server_parts, steps)?;
-    Ok(link.report(alloc, marks)?)
+    Ok(link.report(marks)?)
 }
 
 impl<'c> Link<'c> {
-    ghost use Rattle.ssh_run.specs.Asking.{LinkAsks, PartAsks, SideAsks, TurnsAsk};
-    ghost use Rattle.ssh_run.specs.Carrying.{FewBehind, HasWaiting, IsNewLink, RunsOn, SettlesAll, StepsLink, TakesTurns, begun_by, bound_behind, reported_link};
-    ghost use Rattle.ssh_run.specs.LinkEnds.{link_mark, link_of};
-    ghost use Rattle.ssh_run.specs.RefusedCarrying.{BeginTooMany, IsConfigFault, RefusesRun, RefusesSettle, RefusesStep, RefusesSubmit, RefusesTurn};
+    ghost use Rattle.ssh_run.specs.Carrying.{FewBehind, HasWaiting, IsNewLink, begun_by, bound_behind, reported_link};
+    ghost use Rattle.ssh_run.specs.LinkEnds.{WhereUnfailed, link_mark, link_of};
+    ghost use Rattle.ssh_run.specs.RefusedCarrying.{BeginTooMany, IsConfigFault, RefusesSubmit};
     ghost use Rattle.ssh_wire.specs.declared.error.Error.TheVariants.{Memory};
     ghost use Rattle.ssh_rules.specs.declared.link.Step.TheVariants.{Deliver, Rekey, Submit};
 
@@ -217,22 +205,13 @@ impl<'c> Link<'c> {
         steps: &[Step],
     ) -> Result<Vec<Mark>, Error>
         ensures few { length steps.now < 2 ^ 64 }
-        ensures refused { self.old.bound ≡ 1 → self.old.client.transport.failed ≡ false
-            → self.old.server.transport.failed ≡ false → IfErr result
-            (λ e. RefusesRun (⟦<Parts<A, H, G, R> as Told>⟧.telling self.old.client.transport.config client_parts.old
-            client_parts.new) (⟦<Parts<A, H, G, R> as Told>⟧.telling self.old.server.transport.config server_parts.old
-            server_parts.new) steps.now (link_of self.old) e) }
-        ensures runs { IfOk result (λ marks. RunsOn (⟦<Parts<A, H, G, R> as Handed>⟧.says
-            self.old.client.transport.config client_parts.old) (⟦<Parts<A, H, G, R> as Handed>⟧.says
-            self.old.server.transport.config server_parts.old) self.old.bound steps.now (link_of self.old)
-            (link_of self.new) marks.items) }
-        ensures asks { self.old.client.transport.failed ≡ false → self.old.server.transport.failed ≡ false → LinkAsks
-            (⟦<Parts<A, H, G, R> as Handed>⟧.says self.old.client.transport.config client_parts.old)
-            (⟦<Parts<A, H, G, R> as Handed>⟧.says self.old.server.transport.config server_parts.old) steps.now
-            (link_of self.old) (⟦<Parts<A, H, G, R> as Asked>⟧.calls client_parts.old)
-            (⟦<Parts<A, H, G, R> as Asked>⟧.calls client_parts.new)
-            (⟦<Parts<A, H, G, R> as Asked>⟧.calls server_parts.old)
-            (⟦<Parts<A, H, G, R> as Asked>⟧.calls server_parts.new) }
+        ensures refused { self.old.bound ≡ 1 → WhereUnfailed self.old
+            (IfErr result (λ e. ⟦<Parts<A, H, G, R> as LinkTold>⟧.refuses_run self.old client_parts.old client_parts.new
+            server_parts.old server_parts.new steps.now e)) }
+        ensures runs { IfOk result (λ marks. ⟦<Parts<A, H, G, R> as LinkTold>⟧.runs self.old client_parts.old
+            server_parts.old steps.now self.new marks.items) }
+        ensures asks { WhereUnfailed self.old (⟦<Parts<A, H, G, R> as LinkTold>⟧.steps_ask self.old client_parts.old
+            client_parts.new server_parts.old server_parts.new steps.now) }
         ensures client_keeps { ⟦<Parts<A, H, G, R> as Handed>⟧.keeps client_parts.old client_parts.new }
         ensures server_keeps { ⟦<Parts<A, H, G, R> as Handed>⟧.keeps server_parts.old server_parts.new }
     {
@@ -253,30 +232,20 @@ impl<'c> Link<'c> {
         server_parts: &mut Parts<A, H, G, R>,
         step: &Step,
     ) -> Result<(), Error>
-        ensures steps { OnOk result (StepsLink (⟦<Parts<A, H, G, R> as Handed>⟧.says self.old.client.transport.config
-            client_parts.old) (⟦<Parts<A, H, G, R> as Handed>⟧.says self.old.server.transport.config server_parts.old)
-            step.now (link_of self.old) (link_of self.new)) }
-        ensures refused { self.old.client.transport.failed ≡ false → self.old.server.transport.failed ≡ false → IfErr
-            result (λ e. RefusesStep (⟦<Parts<A, H, G, R> as Told>⟧.telling self.old.client.transport.config
-            client_parts.old client_parts.new) (⟦<Parts<A, H, G, R> as Told>⟧.telling self.old.server.transport.config
-            server_parts.old server_parts.new) self.old.bound step.now (link_of self.old) e) }
+        ensures steps { OnOk result (⟦<Parts<A, H, G, R> as LinkTold>⟧.steps self.old client_parts.old server_parts.old
+            step.now self.new) }
+        ensures refused { WhereUnfailed self.old (IfErr result (λ e. ⟦<Parts<A, H, G, R> as LinkTold>⟧.refuses_step
+            self.old client_parts.old client_parts.new server_parts.old server_parts.new step.now e)) }
         ensures bound { self.new.bound ≡ bound_behind step.now self.old.bound }
         ensures few { OnOk result (FewBehind self.old.bound step.now (link_of self.new)) }
         ensures client_keeps { ⟦<Parts<A, H, G, R> as Handed>⟧.keeps client_parts.old client_parts.new }
         ensures server_keeps { ⟦<Parts<A, H, G, R> as Handed>⟧.keeps server_parts.old server_parts.new }
-        ensures asks_client { OnOk result (SideAsks self.old.client.transport self.new.client.transport
-            (⟦<Parts<A, H, G, R> as Asked>⟧.calls client_parts.old)
-            (⟦<Parts<A, H, G, R> as Asked>⟧.calls client_parts.new)) }
-        ensures asks_server { OnOk result (SideAsks self.old.server.transport self.new.server.transport
-            (⟦<Parts<A, H, G, R> as Asked>⟧.calls server_parts.old)
-            (⟦<Parts<A, H, G, R> as Asked>⟧.calls server_parts.new)) }
-        ensures asked { self.old.client.transport.failed ≡ false → self.old.server.transport.failed ≡ false → OnErr
-            result (TurnsAsk (⟦<Parts<A, H, G, R> as Handed>⟧.says self.old.client.transport.config client_parts.old)
-            (⟦<Parts<A, H, G, R> as Handed>⟧.says self.old.server.transport.config server_parts.old) (link_of self.old)
-            (⟦<Parts<A, H, G, R> as Asked>⟧.calls client_parts.old)
-            (⟦<Parts<A, H, G, R> as Asked>⟧.calls client_parts.new)
-            (⟦<Parts<A, H, G, R> as Asked>⟧.calls server_parts.old)
-            (⟦<Parts<A, H, G, R> as Asked>⟧.calls server_parts.new)) }
+        ensures asks_client { OnOk result (⟦<Parts<A, H, G, R> as Told>⟧.asks self.old.client self.new.client
+            client_parts.old client_parts.new) }
+        ensures asks_server { OnOk result (⟦<Parts<A, H, G, R> as Told>⟧.asks self.old.server self.new.server
+            server_parts.old server_parts.new) }
+        ensures asked { WhereUnfailed self.old (OnErr result (⟦<Parts<A, H, G, R> as LinkTold>⟧.turns_ask self.old
+            client_parts.old client_parts.new server_parts.old server_parts.new)) }
     {
         match step {
             Step::Submit(side, payload) => {
@@ -297,24 +266,18 @@ impl<'c> Link<'c> {
         side: Side,
         payload: &[u8],
     ) -> Result<(), Error>
-        ensures submits { OnOk result (StepsLink (⟦<Parts<A, H, G, R> as Handed>⟧.says self.old.client.transport.config
-            client_parts.old) (⟦<Parts<A, H, G, R> as Handed>⟧.says self.old.server.transport.config server_parts.old)
-            (Submit side payload.now) (link_of self.old) (link_of self.new)) }
-        ensures refused { self.old.client.transport.failed ≡ false → self.old.server.transport.failed ≡ false → IfErr
-            result (λ e. RefusesSubmit payload.now e) }
+        ensures submits { OnOk result (⟦<Parts<A, H, G, R> as LinkTold>⟧.steps self.old client_parts.old
+            server_parts.old (Submit side payload.now) self.new) }
+        ensures refused { WhereUnfailed self.old (IfErr result (λ e. RefusesSubmit payload.now e)) }
         ensures bound { self.new.bound ≡ bound_behind (Submit side payload.now) self.old.bound }
         ensures client_keeps { ⟦<Parts<A, H, G, R> as Handed>⟧.keeps client_parts.old client_parts.new }
         ensures server_keeps { ⟦<Parts<A, H, G, R> as Handed>⟧.keeps server_parts.old server_parts.new }
-        ensures asks_client { OnOk result (SideAsks self.old.client.transport self.new.client.transport
-            (⟦<Parts<A, H, G, R> as Asked>⟧.calls client_parts.old)
-            (⟦<Parts<A, H, G, R> as Asked>⟧.calls client_parts.new)) }
-        ensures asks_server { OnOk result (SideAsks self.old.server.transport self.new.server.transport
-            (⟦<Parts<A, H, G, R> as Asked>⟧.calls server_parts.old)
-            (⟦<Parts<A, H, G, R> as Asked>⟧.calls server_parts.new)) }
-        ensures calls_client { (⟦<Parts<A, H, G, R> as Asked>⟧.calls client_parts.new)
-            ≡ (⟦<Parts<A, H, G, R> as Asked>⟧.calls client_parts.old) }
-        ensures calls_server { (⟦<Parts<A, H, G, R> as Asked>⟧.calls server_parts.new)
-            ≡ (⟦<Parts<A, H, G, R> as Asked>⟧.calls server_parts.old) }
+        ensures asks_client { OnOk result (⟦<Parts<A, H, G, R> as Told>⟧.asks self.old.client self.new.client
+            client_parts.old client_parts.new) }
+        ensures asks_server { OnOk result (⟦<Parts<A, H, G, R> as Told>⟧.asks self.old.server self.new.server
+            server_parts.old server_parts.new) }
+        ensures calls_client { ⟦<Parts<A, H, G, R> as Told>⟧.unasked client_parts.old client_parts.new }
+        ensures calls_server { ⟦<Parts<A, H, G, R> as Told>⟧.unasked server_parts.old server_parts.new }
     {
         self.bound = self.bound.saturating_add(2);
         match side {
@@ -332,29 +295,19 @@ impl<'c> Link<'c> {
         side: Side,
         count: u64,
     ) -> Result<(), Error>
-        ensures delivers { OnOk result (StepsLink (⟦<Parts<A, H, G, R> as Handed>⟧.says self.old.client.transport.config
-            client_parts.old) (⟦<Parts<A, H, G, R> as Handed>⟧.says self.old.server.transport.config server_parts.old)
-            (Deliver side count) (link_of self.old) (link_of self.new)) }
-        ensures refused { self.old.client.transport.failed ≡ false → self.old.server.transport.failed ≡ false → IfErr
-            result (λ e. RefusesStep (⟦<Parts<A, H, G, R> as Told>⟧.telling self.old.client.transport.config
-            client_parts.old client_parts.new) (⟦<Parts<A, H, G, R> as Told>⟧.telling self.old.server.transport.config
-            server_parts.old server_parts.new) self.old.bound (Deliver side count) (link_of self.old) e) }
+        ensures delivers { OnOk result (⟦<Parts<A, H, G, R> as LinkTold>⟧.steps self.old client_parts.old
+            server_parts.old (Deliver side count) self.new) }
+        ensures refused { WhereUnfailed self.old (IfErr result (λ e. ⟦<Parts<A, H, G, R> as LinkTold>⟧.refuses_step
+            self.old client_parts.old client_parts.new server_parts.old server_parts.new (Deliver side count) e)) }
         ensures bound { self.new.bound ≡ self.old.bound }
         ensures client_keeps { ⟦<Parts<A, H, G, R> as Handed>⟧.keeps client_parts.old client_parts.new }
         ensures server_keeps { ⟦<Parts<A, H, G, R> as Handed>⟧.keeps server_parts.old server_parts.new }
-        ensures asks_client { OnOk result (SideAsks self.old.client.transport self.new.client.transport
-            (⟦<Parts<A, H, G, R> as Asked>⟧.calls client_parts.old)
-            (⟦<Parts<A, H, G, R> as Asked>⟧.calls client_parts.new)) }
-        ensures asks_server { OnOk result (SideAsks self.old.server.transport self.new.server.transport
-            (⟦<Parts<A, H, G, R> as Asked>⟧.calls server_parts.old)
-            (⟦<Parts<A, H, G, R> as Asked>⟧.calls server_parts.new)) }
-        ensures asked { self.old.client.transport.failed ≡ false → self.old.server.transport.failed ≡ false → OnErr
-            result (PartAsks (⟦<Parts<A, H, G, R> as Handed>⟧.says self.old.client.transport.config client_parts.old)
-            (⟦<Parts<A, H, G, R> as Handed>⟧.says self.old.server.transport.config server_parts.old) (link_of self.old)
-            (⟦<Parts<A, H, G, R> as Asked>⟧.calls client_parts.old)
-            (⟦<Parts<A, H, G, R> as Asked>⟧.calls client_parts.new)
-            (⟦<Parts<A, H, G, R> as Asked>⟧.calls server_parts.old)
-            (⟦<Parts<A, H, G, R> as Asked>⟧.calls server_parts.new)) }
+        ensures asks_client { OnOk result (⟦<Parts<A, H, G, R> as Told>⟧.asks self.old.client self.new.client
+            client_parts.old client_parts.new) }
+        ensures asks_server { OnOk result (⟦<Parts<A, H, G, R> as Told>⟧.asks self.old.server self.new.server
+            server_parts.old server_parts.new) }
+        ensures asked { WhereUnfailed self.old (OnErr result (⟦<Parts<A, H, G, R> as LinkTold>⟧.part_asks self.old
+            client_parts.old client_parts.new server_parts.old server_parts.new)) }
     {
         match side {
             Side::Client => self
@@ -374,24 +327,18 @@ impl<'c> Link<'c> {
         server_parts: &mut Parts<A, H, G, R>,
         side: Side,
     ) -> Result<(), Error>
-        ensures rekeys { OnOk result (StepsLink (⟦<Parts<A, H, G, R> as Handed>⟧.says self.old.client.transport.config
-            client_parts.old) (⟦<Parts<A, H, G, R> as Handed>⟧.says self.old.server.transport.config server_parts.old)
-            (Rekey side) (link_of self.old) (link_of self.new)) }
-        ensures refused { self.old.client.transport.failed ≡ false → self.old.server.transport.failed ≡ false → IfErr
-            result (λ e. e ≡ Memory) }
+        ensures rekeys { OnOk result (⟦<Parts<A, H, G, R> as LinkTold>⟧.steps self.old client_parts.old server_parts.old
+            (Rekey side) self.new) }
+        ensures refused { WhereUnfailed self.old (IfErr result (λ e. e ≡ Memory)) }
         ensures bound { self.new.bound ≡ bound_behind (Rekey side) self.old.bound }
         ensures client_keeps { ⟦<Parts<A, H, G, R> as Handed>⟧.keeps client_parts.old client_parts.new }
         ensures server_keeps { ⟦<Parts<A, H, G, R> as Handed>⟧.keeps server_parts.old server_parts.new }
-        ensures asks_client { OnOk result (SideAsks self.old.client.transport self.new.client.transport
-            (⟦<Parts<A, H, G, R> as Asked>⟧.calls client_parts.old)
-            (⟦<Parts<A, H, G, R> as Asked>⟧.calls client_parts.new)) }
-        ensures asks_server { OnOk result (SideAsks self.old.server.transport self.new.server.transport
-            (⟦<Parts<A, H, G, R> as Asked>⟧.calls server_parts.old)
-            (⟦<Parts<A, H, G, R> as Asked>⟧.calls server_parts.new)) }
-        ensures calls_client { (⟦<Parts<A, H, G, R> as Asked>⟧.calls client_parts.new)
-            ≡ (⟦<Parts<A, H, G, R> as Asked>⟧.calls client_parts.old) }
-        ensures calls_server { (⟦<Parts<A, H, G, R> as Asked>⟧.calls server_parts.new)
-            ≡ (⟦<Parts<A, H, G, R> as Asked>⟧.calls server_parts.old) }
+        ensures asks_client { OnOk result (⟦<Parts<A, H, G, R> as Told>⟧.asks self.old.client self.new.client
+            client_parts.old client_parts.new) }
+        ensures asks_server { OnOk result (⟦<Parts<A, H, G, R> as Told>⟧.asks self.old.server self.new.server
+            server_parts.old server_parts.new) }
+        ensures calls_client { ⟦<Parts<A, H, G, R> as Told>⟧.unasked client_parts.old client_parts.new }
+        ensures calls_server { ⟦<Parts<A, H, G, R> as Told>⟧.unasked server_parts.old server_parts.new }
     {
         self.bound = self.bound.saturating_add(1);
         match side {
@@ -407,31 +354,21 @@ impl<'c> Link<'c> {
         client_parts: &mut Parts<A, H, G, R>,
         server_parts: &mut Parts<A, H, G, R>,
     ) -> Result<(), Error>
-        ensures settles { OnOk result (SettlesAll (⟦<Parts<A, H, G, R> as Handed>⟧.says self.old.client.transport.config
-            client_parts.old) (⟦<Parts<A, H, G, R> as Handed>⟧.says self.old.server.transport.config server_parts.old)
-            (link_of self.old) (link_of self.new)) }
-        ensures refused { self.old.client.transport.failed ≡ false → self.old.server.transport.failed ≡ false → IfErr
-            result (λ e. RefusesSettle (⟦<Parts<A, H, G, R> as Told>⟧.telling self.old.client.transport.config
-            client_parts.old client_parts.new) (⟦<Parts<A, H, G, R> as Told>⟧.telling self.old.server.transport.config
-            server_parts.old server_parts.new) self.old.bound (link_of self.old) e) }
+        ensures settles { OnOk result (⟦<Parts<A, H, G, R> as LinkTold>⟧.settles self.old client_parts.old
+            server_parts.old self.new) }
+        ensures refused { WhereUnfailed self.old (IfErr result (λ e. ⟦<Parts<A, H, G, R> as LinkTold>⟧.refuses_settle
+            self.old client_parts.old client_parts.new server_parts.old server_parts.new e)) }
         ensures few_by_client { OnOk result (begun_by (link_of self.new).client ≤ self.old.bound) }
         ensures few_by_server { OnOk result (begun_by (link_of self.new).server ≤ self.old.bound) }
         ensures bound { self.new.bound ≡ self.old.bound }
         ensures client_keeps { ⟦<Parts<A, H, G, R> as Handed>⟧.keeps client_parts.old client_parts.new }
         ensures server_keeps { ⟦<Parts<A, H, G, R> as Handed>⟧.keeps server_parts.old server_parts.new }
-        ensures asks_client { OnOk result (SideAsks self.old.client.transport self.new.client.transport
-            (⟦<Parts<A, H, G, R> as Asked>⟧.calls client_parts.old)
-            (⟦<Parts<A, H, G, R> as Asked>⟧.calls client_parts.new)) }
-        ensures asks_server { OnOk result (SideAsks self.old.server.transport self.new.server.transport
-            (⟦<Parts<A, H, G, R> as Asked>⟧.calls server_parts.old)
-            (⟦<Parts<A, H, G, R> as Asked>⟧.calls server_parts.new)) }
-        ensures asked { self.old.client.transport.failed ≡ false → self.old.server.transport.failed ≡ false → OnErr
-            result (TurnsAsk (⟦<Parts<A, H, G, R> as Handed>⟧.says self.old.client.transport.config client_parts.old)
-            (⟦<Parts<A, H, G, R> as Handed>⟧.says self.old.server.transport.config server_parts.old) (link_of self.old)
-            (⟦<Parts<A, H, G, R> as Asked>⟧.calls client_parts.old)
-            (⟦<Parts<A, H, G, R> as Asked>⟧.calls client_parts.new)
-            (⟦<Parts<A, H, G, R> as Asked>⟧.calls server_parts.old)
-            (⟦<Parts<A, H, G, R> as Asked>⟧.calls server_parts.new)) }
+        ensures asks_client { OnOk result (⟦<Parts<A, H, G, R> as Told>⟧.asks self.old.client self.new.client
+            client_parts.old client_parts.new) }
+        ensures asks_server { OnOk result (⟦<Parts<A, H, G, R> as Told>⟧.asks self.old.server self.new.server
+            server_parts.old server_parts.new) }
+        ensures asked { WhereUnfailed self.old (OnErr result (⟦<Parts<A, H, G, R> as LinkTold>⟧.turns_ask self.old
+            client_parts.old client_parts.new server_parts.old server_parts.new)) }
     {
         let mut turns = self.bound.saturating_mul(TURNS);
         while self.waits() {
@@ -454,29 +391,19 @@ impl<'c> Link<'c> {
         client_parts: &mut Parts<A, H, G, R>,
         server_parts: &mut Parts<A, H, G, R>,
     ) -> Result<(), Error>
-        ensures turns { OnOk result (TakesTurns (⟦<Parts<A, H, G, R> as Handed>⟧.says self.old.client.transport.config
-            client_parts.old) (⟦<Parts<A, H, G, R> as Handed>⟧.says self.old.server.transport.config server_parts.old)
-            (link_of self.old) (link_of self.new)) }
-        ensures refused { self.old.client.transport.failed ≡ false → self.old.server.transport.failed ≡ false → IfErr
-            result (λ e. RefusesTurn (⟦<Parts<A, H, G, R> as Told>⟧.telling self.old.client.transport.config
-            client_parts.old client_parts.new) (⟦<Parts<A, H, G, R> as Told>⟧.telling self.old.server.transport.config
-            server_parts.old server_parts.new) (link_of self.old) e) }
+        ensures turns { OnOk result (⟦<Parts<A, H, G, R> as LinkTold>⟧.takes_turns self.old client_parts.old
+            server_parts.old self.new) }
+        ensures refused { WhereUnfailed self.old (IfErr result (λ e. ⟦<Parts<A, H, G, R> as LinkTold>⟧.refuses_turn
+            self.old client_parts.old client_parts.new server_parts.old server_parts.new e)) }
         ensures bound { self.new.bound ≡ self.old.bound }
         ensures client_keeps { ⟦<Parts<A, H, G, R> as Handed>⟧.keeps client_parts.old client_parts.new }
         ensures server_keeps { ⟦<Parts<A, H, G, R> as Handed>⟧.keeps server_parts.old server_parts.new }
-        ensures asks_client { OnOk result (SideAsks self.old.client.transport self.new.client.transport
-            (⟦<Parts<A, H, G, R> as Asked>⟧.calls client_parts.old)
-            (⟦<Parts<A, H, G, R> as Asked>⟧.calls client_parts.new)) }
-        ensures asks_server { OnOk result (SideAsks self.old.server.transport self.new.server.transport
-            (⟦<Parts<A, H, G, R> as Asked>⟧.calls server_parts.old)
-            (⟦<Parts<A, H, G, R> as Asked>⟧.calls server_parts.new)) }
-        ensures asked { self.old.client.transport.failed ≡ false → self.old.server.transport.failed ≡ false → OnErr
-            result (PartAsks (⟦<Parts<A, H, G, R> as Handed>⟧.says self.old.client.transport.config client_parts.old)
-            (⟦<Parts<A, H, G, R> as Handed>⟧.says self.old.server.transport.config server_parts.old) (link_of self.old)
-            (⟦<Parts<A, H, G, R> as Asked>⟧.calls client_parts.old)
-            (⟦<Parts<A, H, G, R> as Asked>⟧.calls client_parts.new)
-            (⟦<Parts<A, H, G, R> as Asked>⟧.calls server_parts.old)
-            (⟦<Parts<A, H, G, R> as Asked>⟧.calls server_parts.new)) }
+        ensures asks_client { OnOk result (⟦<Parts<A, H, G, R> as Told>⟧.asks self.old.client self.new.client
+            client_parts.old client_parts.new) }
+        ensures asks_server { OnOk result (⟦<Parts<A, H, G, R> as Told>⟧.asks self.old.server self.new.server
+            server_parts.old server_parts.new) }
+        ensures asked { WhereUnfailed self.old (OnErr result (⟦<Parts<A, H, G, R> as LinkTold>⟧.part_asks self.old
+            client_parts.old client_parts.new server_parts.old server_parts.new)) }
     {
         self.server
             .deliver(server_parts, self.client.output(), u64::MAX)?;
@@ -485,13 +412,13 @@ impl<'c> Link<'c> {
     }
 
     /// What both sides did, with these marks. Memory.
-    fn report(self, alloc: Global, marks: Vec<Mark>) -> Result<LinkReport, AllocError>
+    fn report(self, marks: Vec<Mark>) -> Result<LinkReport, AllocError>
         ensures { IfOk result (λ report. report ≡ record (reported_link (link_of self.entry) [])
             { marks = marks.items }) }
     {
         Ok(LinkReport {
-            client: self.client.report(alloc)?,
-            server: self.server.report(alloc)?,
+            client: self.client.report()?,
+            server: self.server.report()?,
             marks: MarkList::new(marks),
         })
     }

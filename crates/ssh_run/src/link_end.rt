@@ -6,7 +6,7 @@ use crate::told::Told;
 use rand_core::Rng;
 use ssh_kex::{Agreement, GroupLookup, Handed, HostKeys, Parts};
 use ssh_rules::Asked;
-use ssh_rules::link::{ExchangeList, SideMark, SideReport};
+use ssh_rules::link::{SideMark, SideReport};
 use ssh_transport::Transport;
 use ssh_wire::{Blob, Error, Payload, PayloadList};
 use std::alloc::{AllocError, Global};
@@ -22,10 +22,9 @@ pub(crate) struct LinkEnd<'c> {
 }
 
 impl<'c> LinkEnd<'c> {
-    ghost use Rattle.ssh_run.specs.Asking.{PieceAsks, SideAsks};
-    ghost use Rattle.ssh_run.specs.Carrying.{AsksKeys, CarriesTo, Rests, SubmitsOne, all_bytes, begun_by, first_end};
+    ghost use Rattle.ssh_run.specs.Carrying.{Rests, all_bytes, begun_by, first_end};
     ghost use Rattle.ssh_run.specs.LinkEnds.{end_mark, end_of};
-    ghost use Rattle.ssh_run.specs.RefusedCarrying.{IsRestless, RefusesCarrying, RefusesSubmit};
+    ghost use Rattle.ssh_run.specs.RefusedCarrying.{IsRestless, RefusesSubmit};
     ghost use Rattle.ssh_wire.specs.declared.error.Error.TheVariants.{Memory};
 
     /// A side that has sent its id line.
@@ -61,14 +60,11 @@ impl<'c> LinkEnd<'c> {
         parts: &mut Parts<A, H, G, R>,
         payload: &[u8],
     ) -> Result<(), Error>
-        ensures submits { OnOk result (SubmitsOne (⟦<Parts<A, H, G, R> as Handed>⟧.says self.old.transport.config
-            parts.old) (end_of self.old) payload.now (end_of self.new)) }
+        ensures submits { OnOk result (⟦<Parts<A, H, G, R> as Told>⟧.submits self.old parts.old payload.now self.new) }
         ensures refused { self.old.transport.failed ≡ false → IfErr result (λ e. RefusesSubmit payload.now e) }
         ensures keeps { ⟦<Parts<A, H, G, R> as Handed>⟧.keeps parts.old parts.new }
-        ensures calls { (⟦<Parts<A, H, G, R> as Asked>⟧.calls parts.new)
-            ≡ (⟦<Parts<A, H, G, R> as Asked>⟧.calls parts.old) }
-        ensures side { OnOk result (SideAsks self.old.transport self.new.transport
-            (⟦<Parts<A, H, G, R> as Asked>⟧.calls parts.old) (⟦<Parts<A, H, G, R> as Asked>⟧.calls parts.old)) }
+        ensures calls { ⟦<Parts<A, H, G, R> as Told>⟧.unasked parts.old parts.new }
+        ensures side { OnOk result (⟦<Parts<A, H, G, R> as Told>⟧.asks self.old self.new parts.old parts.old) }
     {
         self.transport.submit(parts, payload)?;
         self.submitted = self.submitted.saturating_add(1);
@@ -81,14 +77,11 @@ impl<'c> LinkEnd<'c> {
         &mut self,
         parts: &mut Parts<A, H, G, R>,
     ) -> Result<(), Error>
-        ensures asks { OnOk result (AsksKeys (⟦<Parts<A, H, G, R> as Handed>⟧.says self.old.transport.config parts.old)
-            (end_of self.old) (end_of self.new)) }
+        ensures asks { OnOk result (⟦<Parts<A, H, G, R> as Told>⟧.rekeys self.old parts.old self.new) }
         ensures refused { self.old.transport.failed ≡ false → IfErr result (λ e. e ≡ Memory) }
         ensures keeps { ⟦<Parts<A, H, G, R> as Handed>⟧.keeps parts.old parts.new }
-        ensures calls { (⟦<Parts<A, H, G, R> as Asked>⟧.calls parts.new)
-            ≡ (⟦<Parts<A, H, G, R> as Asked>⟧.calls parts.old) }
-        ensures side { OnOk result (SideAsks self.old.transport self.new.transport
-            (⟦<Parts<A, H, G, R> as Asked>⟧.calls parts.old) (⟦<Parts<A, H, G, R> as Asked>⟧.calls parts.old)) }
+        ensures calls { ⟦<Parts<A, H, G, R> as Told>⟧.unasked parts.old parts.new }
+        ensures side { OnOk result (⟦<Parts<A, H, G, R> as Told>⟧.asks self.old self.new parts.old parts.old) }
     {
         self.transport.rekey(parts)
     }
@@ -101,26 +94,22 @@ impl<'c> LinkEnd<'c> {
         wire: &[u8],
         count: u64,
     ) -> Result<(), Error>
-        ensures carries { OnOk result (CarriesTo (⟦<Parts<A, H, G, R> as Handed>⟧.says self.old.transport.config
-            parts.old) (end_of self.old) wire.now count (end_of self.new)) }
+        ensures carries { OnOk result (⟦<Parts<A, H, G, R> as Told>⟧.carries self.old parts.old wire.now count
+            self.new) }
         ensures all { OnOk result (count ≡ all_bytes → length wire.now ≤ self.new.taken) }
         ensures refused { self.old.transport.failed ≡ false → IfErr result
-            (λ e. RefusesCarrying (⟦<Parts<A, H, G, R> as Told>⟧.telling self.old.transport.config parts.old parts.new)
-            (end_of self.old) wire.now count e) }
+            (λ e. ⟦<Parts<A, H, G, R> as Told>⟧.refuses self.old parts.old parts.new wire.now count e) }
         ensures keeps { ⟦<Parts<A, H, G, R> as Handed>⟧.keeps parts.old parts.new }
-        ensures asks { OnOk result (SideAsks self.old.transport self.new.transport
-            (⟦<Parts<A, H, G, R> as Asked>⟧.calls parts.old) (⟦<Parts<A, H, G, R> as Asked>⟧.calls parts.new)) }
+        ensures asks { OnOk result (⟦<Parts<A, H, G, R> as Told>⟧.asks self.old self.new parts.old parts.new) }
         ensures asked { self.old.transport.failed ≡ false → OnErr result
-            (PieceAsks (⟦<Parts<A, H, G, R> as Handed>⟧.says self.old.transport.config parts.old) (end_of self.old)
-            wire.now count (⟦<Parts<A, H, G, R> as Asked>⟧.calls parts.old)
-            (⟦<Parts<A, H, G, R> as Asked>⟧.calls parts.new)) }
+            (⟦<Parts<A, H, G, R> as Told>⟧.asks_for_piece self.old wire.now count parts.old parts.new) }
     {
         let waiting = rest_of(wire, self.taken);
         let count = count.min(waiting.len() as u64) as usize;
         self.transport.feed(parts, &waiting[..count])?;
         self.taken += count;
-        let delivered = self.transport.take_delivered();
-        keep(&mut self.delivered, delivered.into_vec())?;
+        let mut delivered = self.transport.take_delivered().into_vec();
+        self.delivered.append(&mut delivered)?;
         Ok(())
     }
 
@@ -154,13 +143,13 @@ impl<'c> LinkEnd<'c> {
     }
 
     /// What it did. Memory.
-    pub(crate) fn report(self, alloc: Global) -> Result<SideReport, AllocError>
+    pub(crate) fn report(self) -> Result<SideReport, AllocError>
         ensures wire { IfOk result (λ r. r.wire ≡ self.entry.transport.output) }
         ensures taken { IfOk result (λ r. r.taken ≡ self.entry.taken) }
         ensures delivered { IfOk result (λ r. r.delivered ≡ self.entry.delivered.items) }
         ensures exchanges { IfOk result (λ r. r.exchanges ≡ self.entry.transport.state.records) }
     {
-        let exchanges = exchanges(alloc, &self.transport)?;
+        let exchanges = self.transport.exchanges()?;
         Ok(SideReport {
             wire: Blob::new(self.transport.into_output()),
             taken: self.taken as u64,
@@ -179,26 +168,4 @@ fn rest_of(wire: &[u8], taken: usize) -> &[u8]
     } else {
         &[]
     }
-}
-
-/// Keeps more payloads behind those that are kept. Memory.
-fn keep(kept: &mut Vec<Payload>, more: Vec<Payload>) -> Result<(), AllocError>
-    ensures { OnOk result (kept.new.items ≡ kept.old.items ++ more.items) }
-{
-    for payload in more {
-        kept.push(payload)?;
-    }
-    Ok(())
-}
-
-/// All finished exchanges, the first one first. Memory.
-#[tactic(auto, using(crate::proofs::Stored::one_stored))]
-fn exchanges(alloc: Global, transport: &Transport<'_>) -> Result<ExchangeList, AllocError>
-    ensures { IfOk result (λ list. list ≡ transport.now.state.records) }
-{
-    let mut exchanges = Vec::new(alloc);
-    for k in 0..transport.finished() {
-        exchanges.push(*transport.exchange(k + 1))?;
-    }
-    Ok(ExchangeList::new(exchanges))
 }

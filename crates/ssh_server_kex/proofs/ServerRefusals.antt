@@ -71,13 +71,13 @@ request_refused says denies config cause x state m n i (Err e) view is kept h =
 -- ---- a client's value
 
 value_refuses : (says : Says) (denies : Denies) (config : Config) (cause : KexCause) (x : Exchange) (n : Names) (i : Incoming) (e : Error) → n.ignore_guessed ≡ false
-    → RefusesValue (is_gex n.kex) (denies.value n.kex (group_of x.gex)) denies.sign (IsLongAnswer (says.server_makes n.kex (group_of x.gex)) says.value_small says.signature_small config n i.payload.now) i.payload.now e
+    → RefusesValue (is_gex n.kex) (denies.value n.kex (group_of x.gex)) (denies.sign config) (IsLongAnswer (says.server_makes n.kex (group_of x.gex)) says.value_small says.signature_small config n i.payload.now) i.payload.now e
     → RefusesStep says denies (server_machine config cause x (states.AwaitsValue n)) (Some i) e
 value_refuses says denies config cause x n i e kept h = by h where
   refused : Error → Type 0
   refused error = RefusesStep says denies (server_machine config cause x (states.AwaitsValue n)) (Some i) error
 
-  by : RefusesValue (is_gex n.kex) (denies.value n.kex (group_of x.gex)) denies.sign (IsLongAnswer (says.server_makes n.kex (group_of x.gex)) says.value_small says.signature_small config n i.payload.now) i.payload.now e → refused e
+  by : RefusesValue (is_gex n.kex) (denies.value n.kex (group_of x.gex)) (denies.sign config) (IsLongAnswer (says.server_makes n.kex (group_of x.gex)) says.value_small says.signature_small config n i.payload.now) i.payload.now e → refused e
   by (inl (inl (t, m))) = subst refused (sym m) (inl (refl, record { kept = kept; type_is = t }))
   by (inl (inr (t, (fault, read, m)))) = subst refused (sym m) (record { kept = kept; type_is = t }, read)
   by (inr (t, inl ((value, read, denied), m))) =
@@ -104,7 +104,7 @@ value_refuses says denies config cause x n i e kept h = by h where
   by (inr (t, inr (inr (inr m)))) = subst refused (sym m) tt
 
 pub value_refused : (says : Says) (denies : Denies) (config : Config) (cause : KexCause) (x : Exchange) (state : ServerState) (m : Machine) (n : Names) (i : Incoming) (r : Result (KexProgress Machine) Error) → server_machine config cause x state ≡ m → state ≡ states.AwaitsValue n → drops_guess state ≡ false
-    → IfErr r (RefusesValue (is_gex n.kex) (denies.value n.kex (group_of x.gex)) denies.sign (IsLongAnswer (says.server_makes n.kex (group_of x.gex)) says.value_small says.signature_small config n i.payload.now) i.payload.now)
+    → IfErr r (RefusesValue (is_gex n.kex) (denies.value n.kex (group_of x.gex)) (denies.sign config) (IsLongAnswer (says.server_makes n.kex (group_of x.gex)) says.value_small says.signature_small config n i.payload.now) i.payload.now)
     → IfErr r (λ e. RefusesStep says denies m (Some i) e)
 value_refused says denies config cause x state m n i (Ok p) view is kept h = tt
 value_refused says denies config cause x state m n i (Err e) view is kept h =

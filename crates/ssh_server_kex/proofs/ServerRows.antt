@@ -183,6 +183,13 @@ signs_it Makes Obliging config n p hash signature made shown later s e o =
     subst (λ z. Makes z (host_with n p.blob) hash signature) e
     (made later s (host_with n p.blob) o (record { shown = ap (λ (z : Config). presented z.host n.host_key_is_certificate n.key) e ∙ sym shown; same = refl }))
 
+-- and refuses to sign it only where it doesn't sign for what is presented
+pub unsigned_it : (Signs : Setup → Type 0) (config : Config) (n : Names) (p : Presented)
+    → ((s : Setup) (host : ServerHost) → Signs s → Presents s.server host p.signer n.key → ⊥) → Some p ≡ presented config.host n.host_key_is_certificate n.key
+    → (s : Setup) → s.server ≡ config → Signs s → ⊥
+unsigned_it Signs config n p never shown s e o =
+    never s (host_with n p.blob) o (record { shown = ap (λ (z : Config). presented z.host n.host_key_is_certificate n.key) e ∙ sym shown; same = refl })
+
 pub value_done : (Made : List ℕ → List ℕ → Type 0) (Makes : List ℕ → Type 0) (Agrees : List ℕ → List ℕ → List ℕ → Type 0) (Signs : ServerHost → List ℕ → List ℕ → Type 0) (config : Config) (cause : KexCause) (n : Names) (x y : Exchange) (payload : List ℕ) (old new : Writer) (f : FinishedExchange × Box CipherPair)
     (k : Agreeing) (p : Presented) (value copy host hash signature shown own sent reply : List ℕ) (gex : Bool)
     → gex ≡ is_gex n.kex → payload ≡ value_message gex value → length value < 2 ^ 31 → CanAnswer config n x
@@ -219,6 +226,17 @@ value_done Made Makes Agrees Signs config cause n x y payload old new f k p valu
       puts = subst (λ r. PutsAll old (r ∷ newkeys ∷ []) new) replied puts;
     }
 
+-- a message that begins as a client's value has its type
+value_typed : (b : Bool) (payload value : List ℕ) → payload ≡ value_message b value → message_type payload ≡ message_type (value_message b [])
+value_typed true payload value e = ap message_type e
+value_typed false payload value e = ap message_type e
+
+pub sign_refused : (Denied : List ℕ → Type 0) (Unsigned : Type 0) (Long : ℕ → Type 0) (n : Names) (payload value : List ℕ) (gex : Bool)
+    → gex ≡ is_gex n.kex → payload ≡ value_message gex value → value_in (drop 1 payload) ≡ Ok value → Unsigned
+    → RefusesValue (is_gex n.kex) Denied Unsigned Long payload errors.Signature
+sign_refused Denied Unsigned Long n payload value gex g is read u =
+    inr (value_typed (is_gex n.kex) payload value (is ∙ ap (λ b. value_message b value) g), inr (inl ((value, read), u, refl)))
+
 pub reply_refused : (Made : List ℕ → List ℕ → Type 0) (Denied : List ℕ → Type 0) (Unsigned : Type 0) (Makes ValueSmall SignatureSmall : List ℕ → Type 0) (config : Config) (n : Names) (x y : Exchange) (payload : List ℕ) (e : Error) (k : Agreeing) (p : Presented) (value signature shown own sent reply : List ℕ) (gex : Bool)
     → gex ≡ is_gex n.kex → payload ≡ value_message gex value → value_in (drop 1 payload) ≡ Ok value
     → AgreesOn Made n.kex x y k → ((v w : List ℕ) → Made v w → Makes v) → ((v w : List ℕ) → Made v w → ValueSmall v) → SignatureSmall signature
@@ -226,12 +244,8 @@ pub reply_refused : (Made : List ℕ → List ℕ → Type 0) (Denied : List ℕ
     → shown ≡ p.blob → own ≡ y.server_ephemeral → sent ≡ signature → reply ≡ reply_message gex shown own sent → IsSizeOrMemory (length reply) e
     → RefusesValue (is_gex n.kex) Denied Unsigned (IsLongAnswer Makes ValueSmall SignatureSmall config n payload) payload e
 reply_refused Made Denied Unsigned Makes ValueSmall SignatureSmall config n x y payload e k p value signature shown own sent reply gex g is read a makes small signed presents shown_is own_is sent_is reply_is cause =
-    inr (typed (is_gex n.kex) payload value (is ∙ ap (λ b. value_message b value) g), by cause)
+    inr (value_typed (is_gex n.kex) payload value (is ∙ ap (λ b. value_message b value) g), by cause)
   where
-    typed : (b : Bool) (payload value : List ℕ) → payload ≡ value_message b value → message_type payload ≡ message_type (value_message b [])
-    typed true payload value e = ap message_type e
-    typed false payload value e = ap message_type e
-
     by : IsSizeOrMemory (length reply) e → RefusesAnswer Denied Unsigned (IsLongAnswer Makes ValueSmall SignatureSmall config n payload) payload e
     by (inl h) =
         let own_value : own ≡ a.value = own_is ∙ ap (λ (z : Exchange). z.server_ephemeral) a.exchange_is in

@@ -34,7 +34,7 @@ use ssh_kex::kexinit_message::send_kexinit;
 use ssh_kex::last_message::{end_at_once, last};
 use ssh_kex::{
     Agreement, Config, Exchange, FinishedExchange, GroupLookup, Handed, HostKeys, KexAlgorithm,
-    KexProgress, Parts,
+    KexBase, KexProgress, Parts,
 };
 use ssh_negotiate::{KexCause, Names};
 use ssh_packet::{CipherPair, Incoming, PacketWriter};
@@ -60,11 +60,8 @@ enum ServerState {
 /// A server's side of an exchange.
 #[derive(Debug, Drop)]
 pub struct ServerKex<'c> {
-    config: &'c Config,
-    cause: KexCause,
-    exchange: Exchange,
+    base: KexBase<'c>,
     state: ServerState,
-    alloc: Global,
 }
 
 impl<'c> Model for ServerKex<'c> {
@@ -73,9 +70,9 @@ impl<'c> Model for ServerKex<'c> {
 
     ghost Value = { Machine };
 
-    ghost view = { λ k. server_machine k.config.now k.cause k.exchange k.state };
+    ghost view = { λ k. server_machine k.base.config.now k.base.cause k.base.exchange k.state };
 
-    ghost invariant = { λ k. ServerKeeps k.config.now k.exchange k.state };
+    ghost invariant = { λ k. ServerKeeps k.base.config.now k.base.exchange k.state };
 }
 
 impl<'c> ServerKex<'c> {
@@ -103,12 +100,15 @@ impl<'c> ServerKex<'c> {
         }) }
         ensures err { IfErr result (λ e. e ≡ Memory) }
     {
+        let exchange = Exchange::new(alloc, client_sshid, server_sshid.as_kex_hash_bytes())?;
         Ok(ServerKex {
-            config,
-            cause,
-            exchange: Exchange::new(alloc, client_sshid, server_sshid.as_kex_hash_bytes())?,
+            base: KexBase {
+                alloc,
+                config,
+                cause,
+                exchange,
+            },
             state: ServerState::Created,
-            alloc,
         })
     }
 
@@ -138,14 +138,10 @@ impl<'c> ServerKex<'c> {
         ensures unchanged { OnErr result ((self.new ≡ self.old) × SameButRoom output.old output.new) }
         ensures err { IfErr result (λ e. e ≡ Memory) }
     {
-        let kexinit = send_kexinit(
-            self.alloc,
-            &self.config.preferred,
-            Some(&self.config.host),
-            rng,
-            output,
-        )?;
-        self.exchange.server_kex_init = kexinit;
+        let config = self.base.config;
+        let hosts = Some(&config.host);
+        let kexinit = send_kexinit(self.base.alloc, &config.preferred, hosts, rng, output)?;
+        self.base.exchange.server_kex_init = kexinit;
         Ok(())
     }
 
@@ -205,34 +201,22 @@ impl<'c> ServerKex<'c> {
         let Some(incoming) = input else {
             return Err(Error::KexInit);
         };
-        let ServerKex {
-            config,
-            cause,
-            exchange,
-            state,
-            alloc,
-        } = self;
+        let ServerKex { base, state } = self;
         if drops_guess(&state) {
             let state = behind_guess(state);
-            return Ok(waits(alloc, config, cause, exchange, state, false));
+            return Ok(waits(base, state, false));
         }
         let payload = incoming.payload;
         match state {
             ServerState::Created => take_kexinit(
-                alloc,
-                config,
-                cause,
-                exchange,
+                base,
                 &parts.agreement,
                 &mut parts.rng,
                 incoming,
                 output,
             ),
             ServerState::AwaitsRequest { names } => take_request(
-                alloc,
-                config,
-                cause,
-                exchange,
+                base,
                 names,
                 &mut parts.groups,
                 &mut parts.rng,
@@ -240,12 +224,10 @@ impl<'c> ServerKex<'c> {
                 output,
             ),
             ServerState::AwaitsValue { names } => {
-                take_value(
-                    alloc, config, cause, exchange, names, parts, payload, output,
-                )
+                take_value(base, names, parts, payload, output)
             }
             ServerState::AwaitsNewkeys { made, cipher } => {
-                last(exchange, None, made, cipher, payload)
+                last(base.exchange, None, made, cipher, payload)
             }
         }
     }
@@ -292,73 +274,64 @@ fn behind_guess(state: ServerState) -> ServerState
 }
 
 /// A machine that waits for the next message.
-fn waits<'c>(
-    alloc: Global,
-    config: &'c Config,
-    cause: KexCause,
-    exchange: Exchange,
-    state: ServerState,
-    reset_seqn: bool,
-) -> KexProgress<ServerKex<'c>>
-    requires { ServerKeeps config.now exchange state }
-    ensures { result ≡ NeedsReply (server_machine config.now cause exchange state) reset_seqn }
+fn waits<'c>(base: KexBase<'c>, state: ServerState, reset_seqn: bool) -> KexProgress<ServerKex<'c>>
+    requires { ServerKeeps base.config.now base.exchange state }
+    ensures { result ≡ NeedsReply (server_machine base.entry.config.now base.entry.cause base.entry.exchange state)
+        reset_seqn }
 {
     KexProgress::NeedsReply {
-        kex: ServerKex {
-            config,
-            cause,
-            exchange,
-            state,
-            alloc,
-        },
+        kex: ServerKex { base, state },
         reset_seqn,
     }
 }
 
 /// The client's KEXINIT, and what follows its names. As `open`; Memory. A refusal leaves the output as it was.
 fn take_kexinit<'c, A: Agreement, R: Rng>(
-    alloc: Global,
-    config: &'c Config,
-    cause: KexCause,
-    exchange: Exchange,
+    mut base: KexBase<'c>,
     agreement: &A,
     rng: &mut R,
     incoming: Incoming<'_>,
     output: &mut PacketWriter,
 ) -> Result<KexProgress<ServerKex<'c>>, Error>
     requires short { length incoming.payload.now < 2 ^ 31 }
-    requires fresh { IsFresh config.now exchange }
-    ensures ok { IfOk result (λ p. AnswersOpening (λ name. A.offered agreement.now name ≡ true) config.now cause
-        exchange incoming.entry p output.old output.new) }
-    ensures err { IfErr result (RefusesKexinit (λ name. A.offered agreement.now name ≡ true) config.now cause
+    requires fresh { IsFresh base.config.now base.exchange }
+    ensures ok { IfOk result (λ p. AnswersOpening (λ name. A.offered agreement.now name ≡ true) base.entry.config.now
+        base.entry.cause base.entry.exchange incoming.entry p output.old output.new) }
+    ensures err { IfErr result (RefusesKexinit (λ name. A.offered agreement.now name ≡ true) base.entry.config.now
+        base.entry.cause
         incoming.entry) }
     ensures unchanged { OnErr result (SameButRoom output.old output.new) }
 {
-    let mut exchange = exchange;
-    let names = match open(alloc, config, &cause, agreement, &mut exchange, &incoming) {
+    let kept = &mut base;
+    let names = match open(
+        kept.alloc,
+        kept.config,
+        &kept.cause,
+        agreement,
+        &mut kept.exchange,
+        &incoming,
+    ) {
         Ok(names) => names,
         Err(error) => return Err(error),
     };
-    begin(alloc, config, cause, exchange, names, rng, output)
+    begin(base, names, rng, output)
 }
 
 /// The sizes that a client asks for. As `answer_request`.
 fn take_request<'c, G: GroupLookup, R: Rng>(
-    alloc: Global,
-    config: &'c Config,
-    cause: KexCause,
-    exchange: Exchange,
+    mut base: KexBase<'c>,
     names: Names,
     groups: &mut G,
     rng: &mut R,
     payload: &[u8],
     output: &mut PacketWriter,
 ) -> Result<KexProgress<ServerKex<'c>>, Error>
-    requires { CanAsk config.now names exchange }
+    requires { CanAsk base.config.now names base.exchange }
     ensures keeps { KeepsGroups G.lawful G.obliging G.group G.refusals G.calls groups.old groups.new }
     ensures calls { G.calls groups.new ≤ G.calls groups.old + 1 }
     ensures ok { IfOk result (λ p. AnswersSizes (λ sizes q. (s : Setup) → G.lawful groups.old s
-        → (q ≡ G.group groups.old sizes) × IsCanonical q) config.now cause exchange names payload.now p output.old
+        → (q ≡ G.group groups.old sizes) × IsCanonical q) base.entry.config.now base.entry.cause base.entry.exchange
+        names payload.now p output.old
         output.new) }
     ensures causes { IfErr result (RefusesRequest (λ sizes q. (s : Setup) → G.lawful groups.old s
         → (q ≡ G.group groups.old sizes) × IsCanonical q) (λ sizes. Rose (G.refusals groups.old) (G.refusals groups.new)
@@ -366,12 +339,11 @@ fn take_request<'c, G: GroupLookup, R: Rng>(
     ensures unchanged { OnErr result (SameButRoom output.old output.new) }
     ensures unasked { asks_nobody false result ≡ true → groups.new ≡ groups.old }
 {
-    match answer_request(alloc, groups, rng, payload, output) {
+    match answer_request(base.alloc, groups, rng, payload, output) {
         Ok(gex) => {
-            let gex = Some(gex);
-            let exchange = Exchange { gex, ..exchange };
-            let state = ServerState::AwaitsValue { names };
-            Ok(waits(alloc, config, cause, exchange, state, false))
+            let exchange = &mut base.exchange;
+            exchange.gex = Some(gex);
+            Ok(waits(base, ServerState::AwaitsValue { names }, false))
         }
         Err(error) => Err(error),
     }
@@ -379,62 +351,53 @@ fn take_request<'c, G: GroupLookup, R: Rng>(
 
 /// A client's value. As `answer_value`.
 fn take_value<'c, A: Agreement, H: HostKeys, G, R: Rng>(
-    alloc: Global,
-    config: &'c Config,
-    cause: KexCause,
-    exchange: Exchange,
+    mut base: KexBase<'c>,
     names: Names,
     parts: &mut Parts<A, H, G, R>,
     payload: &[u8],
     output: &mut PacketWriter,
 ) -> Result<KexProgress<ServerKex<'c>>, Error>
-    requires can { CanAnswer config.now names exchange }
+    requires can { CanAnswer base.config.now names base.exchange }
     requires short { length payload.now < 2 ^ 31 }
     ensures agreement { KeepsAgreement A.lawful A.obliging A.offered A.refusals A.calls parts.old.agreement
         parts.new.agreement }
-    ensures hosts { KeepsHosts H.lawful H.obliging H.accepts H.trusts H.refused_sign H.refused_verify H.refused_check
+    ensures hosts { KeepsHosts H.lawful H.signs H.judges H.accepts H.trusts H.refused_sign H.refused_verify
+        H.refused_check
         H.calls parts.old.hosts parts.new.hosts }
     ensures groups { parts.new.groups ≡ parts.old.groups }
     ensures agreement_calls { A.calls parts.new.agreement ≤ A.calls parts.old.agreement + 1 }
     ensures hosts_calls { H.calls parts.new.hosts ≤ H.calls parts.old.hosts + 1 }
     ensures ok { IfOk result (λ p. AnswersClient
-        (λ v. (s : Setup) → A.lawful parts.old.agreement s → A.server_makes names.kex (group_of exchange.gex) v)
+        (λ v. (s : Setup) → A.lawful parts.old.agreement s → A.server_makes names.kex (group_of base.entry.exchange.gex)
+        v)
         (λ c v x. (s : Setup) → A.lawful parts.old.agreement s
-        → A.agrees names.kex (group_of exchange.gex) c v x)
-        (λ host hash signature. (later : H) (s : Setup) → s.server ≡ config.now → H.obliging parts.old.hosts later s
-        → H.makes config.now host hash signature)
-        config.now cause exchange names payload.now p output.old output.new) }
+        → A.agrees names.kex (group_of base.entry.exchange.gex) c v x)
+        (λ host hash signature. (later : H) (s : Setup) → s.server ≡ base.entry.config.now → H.signs parts.old.hosts
+        later s
+        → H.makes base.entry.config.now host hash signature)
+        base.entry.config.now base.entry.cause base.entry.exchange names payload.now p output.old output.new) }
     ensures causes { IfErr result (RefusesValue (is_gex names.kex)
         (λ c. Rose (A.refusals parts.old.agreement) (A.refusals parts.new.agreement) × ((s : Setup) (l : List ℕ)
         → A.obliging parts.old.agreement parts.new.agreement s → A.offered parts.old.agreement names.kex ≡ true
-        → A.client_makes names.kex (group_of exchange.gex) l c → ⊥))
+        → A.client_makes names.kex (group_of base.entry.exchange.gex) l c → ⊥))
         (Rose (H.refused_sign parts.old.hosts) (H.refused_sign parts.new.hosts) × ((s : Setup)
-        → H.obliging parts.old.hosts parts.new.hosts s → ⊥))
+        → s.server ≡ base.entry.config.now → H.signs parts.old.hosts parts.new.hosts s → ⊥))
         (IsLongAnswer
-        (λ v. (s : Setup) → A.lawful parts.old.agreement s → A.server_makes names.kex (group_of exchange.gex) v)
+        (λ v. (s : Setup) → A.lawful parts.old.agreement s → A.server_makes names.kex (group_of base.entry.exchange.gex)
+        v)
         (λ v. (s : Setup) → A.lawful parts.old.agreement s → IsSmall v)
-        (λ v. (s : Setup) → H.lawful parts.old.hosts s → IsSmall v) config.now names payload.now)
+        (λ v. (s : Setup) → H.lawful parts.old.hosts s → IsSmall v) base.entry.config.now names payload.now)
         payload.now) }
     ensures drawn { IfSome (next_of result) (AnswersFrom A.server_draws (R.stream parts.old.rng)) }
     ensures unchanged { OnErr result (SameButRoom output.old output.new) }
     ensures unasked_agreement { asks_nobody false result ≡ true → parts.new.agreement ≡ parts.old.agreement }
     ensures unasked_hosts { asks_nobody false result ≡ true → parts.new.hosts ≡ parts.old.hosts }
 {
-    let mut exchange = exchange;
-    match answer_value(
-        alloc,
-        config,
-        &cause,
-        &names,
-        parts,
-        &mut exchange,
-        payload,
-        output,
-    ) {
+    match answer_value(&mut base, &names, parts, payload, output) {
         Ok((made, cipher)) => {
-            let is_strict = begins_again(&made, &cause);
+            let is_strict = begins_again(&made, &base.cause);
             let state = ServerState::AwaitsNewkeys { made, cipher };
-            Ok(waits(alloc, config, cause, exchange, state, is_strict))
+            Ok(waits(base, state, is_strict))
         }
         Err(error) => Err(error),
     }
@@ -443,32 +406,27 @@ fn take_value<'c, A: Agreement, H: HostKeys, G, R: Rng>(
 /// What follows the names: the wait for the sizes of a group, or for the client's value; where no values are exchanged,
 /// NEWKEYS is sent, and all is at its end. Memory leaves the output as it was.
 fn begin<'c, R: Rng>(
-    alloc: Global,
-    config: &'c Config,
-    cause: KexCause,
-    exchange: Exchange,
+    base: KexBase<'c>,
     names: Names,
     rng: &mut R,
     output: &mut PacketWriter,
 ) -> Result<KexProgress<ServerKex<'c>>, Error>
-    requires { (shape_of names.kex).skip ≡ false → CanBegin (is_gex names.kex) config.now names exchange }
+    requires { (shape_of names.kex).skip ≡ false → CanBegin (is_gex names.kex) base.config.now names base.exchange }
     ensures ok { IfOk result (λ p. Begins (shape_of names.kex).skip
-        (is_gex names.kex) config.now cause exchange names p output.old output.new) }
+        (is_gex names.kex) base.entry.config.now base.entry.cause base.entry.exchange names p output.old output.new) }
     ensures err { IfErr result (λ e. e ≡ Memory) }
     ensures unchanged { OnErr result (SameButRoom output.old output.new) }
 {
-    let algorithm = KexAlgorithm::new(alloc, names.kex);
+    let algorithm = KexAlgorithm::new(base.alloc, names.kex);
     if algorithm.skip_exchange() {
-        return end_at_once(
-            alloc, &algorithm, &cause, exchange, names, true, rng, output,
-        );
+        return end_at_once(base, &algorithm, names, true, rng, output);
     }
     if algorithm.is_dh_gex() {
         let state = ServerState::AwaitsRequest { names };
-        return Ok(waits(alloc, config, cause, exchange, state, false));
+        return Ok(waits(base, state, false));
     }
     let state = ServerState::AwaitsValue { names };
-    Ok(waits(alloc, config, cause, exchange, state, false))
+    Ok(waits(base, state, false))
 }
 
 /// Whether the numbers of the own packets begin again behind NEWKEYS.

@@ -1,6 +1,6 @@
 //! A server's answer to a client's value.
 
-ghost use Rattle.std.specs.Prelude.{◌≡◌, ◌+◌, ◌≤◌, ◌<◌, ◌^◌, ◌⊎◌, true, false, [], ◌∷◌, ℕ, List, length, drop, is_some, Some, None, Ok, Err, IfOk, IfErr, OnOk, OnErr};
+ghost use Rattle.std.specs.Prelude.{◌≡◌, ◌+◌, ◌≤◌, ◌<◌, ◌^◌, ◌⊎◌, true, false, [], ◌∷◌, ℕ, List, length, drop, is_some, Some, None, Ok, Err, IfOk, IfErr, OnErr};
 ghost use Rattle.std.specs.Option.{option_copied};
 ghost use Rattle.ssh_negotiate.specs.Tables.{shape_of};
 ghost use Rattle.ssh_packet.specs.Stream.{message_type};
@@ -8,7 +8,7 @@ ghost use Rattle.ssh_packet.specs.Writing.{SameButRoom};
 ghost use Rattle.ssh_wire.specs.Outside.{Rose};
 ghost use Rattle.ssh_wire.specs.declared.error.Error.TheVariants.{Kex, Memory};
 ghost use Rattle.ssh_kex.specs.Drawing.{AnswerDrawn, SecretDrawn};
-ghost use Rattle.ssh_kex.specs.Messages.{is_gex, newkeys, reply_message, value_message};
+ghost use Rattle.ssh_kex.specs.Messages.{is_gex, reply_message, value_message};
 ghost use Rattle.ssh_kex.specs.Parts.{IsSmall, KeepsAgreement, KeepsHosts, Setup};
 ghost use Rattle.ssh_kex.specs.Fields.{value_in};
 ghost use Rattle.ssh_server_kex.specs.ServerRows.{AgreesOn, AnswersValue, CanAnswer, IsLongAnswer, RefusesText, RefusesValue};
@@ -20,10 +20,10 @@ use rand_core::Rng;
 use ssh_kex::last_message::finish;
 use ssh_kex::message::{has_type, put_both};
 use ssh_kex::{
-    Agreement, Config, Exchange, FinishedExchange, GexChosen, HostKeys, KexAlgorithm, Parts,
+    Agreement, Exchange, FinishedExchange, GexChosen, HostKeys, KexAlgorithm, KexBase, Parts,
     Refusal, copy_of_group,
 };
-use ssh_negotiate::{KexCause, Names, kex};
+use ssh_negotiate::{Names, kex};
 use ssh_packet::{CipherPair, PacketWriter};
 use ssh_wire::{Blob, Error, Reader, msg, put_string, put_u8};
 use std::alloc::Global;
@@ -155,44 +155,47 @@ fn reply(
 /// SshEncoding; Kex where the agreement refused, Signature where the key did, and each counted it; PacketSize where the
 /// reply is over 262157 bytes; Memory. Nothing is written by a refusal.
 pub(crate) fn answer_value<A: Agreement, H: HostKeys, G, R: Rng>(
-    alloc: Global,
-    config: &Config,
-    cause: &KexCause,
+    base: &mut KexBase<'_>,
     names: &Names,
     parts: &mut Parts<A, H, G, R>,
-    exchange: &mut Exchange,
     payload: &[u8],
     output: &mut PacketWriter,
 ) -> Result<(FinishedExchange, Box<CipherPair>), Error>
-    requires can { CanAnswer config.now names.now exchange.old }
+    requires can { CanAnswer base.old.config.now names.now base.old.exchange }
     requires short { length payload.now < 2 ^ 31 }
     ensures agreement { KeepsAgreement A.lawful A.obliging A.offered A.refusals A.calls parts.old.agreement
         parts.new.agreement }
-    ensures hosts { KeepsHosts H.lawful H.obliging H.accepts H.trusts H.refused_sign H.refused_verify H.refused_check
+    ensures hosts { KeepsHosts H.lawful H.signs H.judges H.accepts H.trusts H.refused_sign H.refused_verify
+        H.refused_check
         H.calls parts.old.hosts parts.new.hosts }
     ensures groups { parts.new.groups ≡ parts.old.groups }
     ensures agreement_calls { A.calls parts.new.agreement ≤ A.calls parts.old.agreement + 1 }
     ensures hosts_calls { H.calls parts.new.hosts ≤ H.calls parts.old.hosts + 1 }
     ensures ok { IfOk result (AnswersValue
-        (λ v. (s : Setup) → A.lawful parts.old.agreement s → A.server_makes names.now.kex (group_of exchange.old.gex) v)
+        (λ v. (s : Setup) → A.lawful parts.old.agreement s → A.server_makes names.now.kex
+        (group_of base.old.exchange.gex) v)
         (λ c v x. (s : Setup) → A.lawful parts.old.agreement s → A.agrees names.now.kex
-        (group_of exchange.old.gex) c v x)
-        (λ host hash signature. (later : H) (s : Setup) → s.server ≡ config.now → H.obliging parts.old.hosts later s
-        → H.makes config.now host hash signature)
-        config.now cause.now names.now exchange.old exchange.new payload.now output.old output.new) }
+        (group_of base.old.exchange.gex) c v x)
+        (λ host hash signature. (later : H) (s : Setup) → s.server ≡ base.old.config.now → H.signs parts.old.hosts later
+        s
+        → H.makes base.old.config.now host hash signature)
+        base.old.config.now base.old.cause names.now base.old.exchange base.new.exchange payload.now output.old
+        output.new) }
     ensures causes { IfErr result (RefusesValue (is_gex names.now.kex)
         (λ c. Rose (A.refusals parts.old.agreement) (A.refusals parts.new.agreement) × ((s : Setup) (l : List ℕ)
         → A.obliging parts.old.agreement parts.new.agreement s → A.offered parts.old.agreement names.now.kex ≡ true
-        → A.client_makes names.now.kex (group_of exchange.old.gex) l c → ⊥))
+        → A.client_makes names.now.kex (group_of base.old.exchange.gex) l c → ⊥))
         (Rose (H.refused_sign parts.old.hosts) (H.refused_sign parts.new.hosts) × ((s : Setup)
-        → H.obliging parts.old.hosts parts.new.hosts s → ⊥))
+        → s.server ≡ base.old.config.now → H.signs parts.old.hosts parts.new.hosts s → ⊥))
         (IsLongAnswer
-        (λ v. (s : Setup) → A.lawful parts.old.agreement s → A.server_makes names.now.kex (group_of exchange.old.gex) v)
+        (λ v. (s : Setup) → A.lawful parts.old.agreement s → A.server_makes names.now.kex
+        (group_of base.old.exchange.gex) v)
         (λ v. (s : Setup) → A.lawful parts.old.agreement s → IsSmall v)
-        (λ v. (s : Setup) → H.lawful parts.old.hosts s → IsSmall v) config.now names.now payload.now)
+        (λ v. (s : Setup) → H.lawful parts.old.hosts s → IsSmall v) base.old.config.now names.now payload.now)
         payload.now) }
-    ensures drawn { IfOk result (λ f. AnswerDrawn (A.server_draws names.now.kex (group_of exchange.old.gex))
-        (R.stream parts.old.rng) exchange.new f.0) }
+    ensures base { base.new ≡ record base.old { exchange = base.new.exchange } }
+    ensures drawn { IfOk result (λ f. AnswerDrawn (A.server_draws names.now.kex (group_of base.old.exchange.gex))
+        (R.stream parts.old.rng) base.new.exchange f.0) }
     ensures unchanged { OnErr result (SameButRoom output.old output.new) }
     ensures unasked { IfErr result (λ e. is_early false e ≡ true → (parts.new.agreement ≡ parts.old.agreement)
         × (parts.new.hosts ≡ parts.old.hosts)) }
@@ -202,31 +205,31 @@ pub(crate) fn answer_value<A: Agreement, H: HostKeys, G, R: Rng>(
         Ok(value) => value,
         Err(error) => return Err(error),
     };
-    let Some(shown) = presented(&config.host, names.host_key_is_certificate, names.key) else {
+    let Some(shown) = presented(&base.config.host, names.host_key_is_certificate, names.key) else {
         return Err(Error::UnknownKey);
     };
-    exchange.client_ephemeral = Blob::copy_of(alloc, value)?;
+    base.exchange.client_ephemeral = Blob::copy_of(base.alloc, value)?;
     let algorithm = agree(
-        alloc,
+        base.alloc,
         names.kex,
         &mut parts.agreement,
         &mut parts.rng,
-        exchange,
+        &mut base.exchange,
     )?;
-    let hash = algorithm.compute_exchange_hash(shown.blob.as_slice(), exchange);
-    let signature = match parts.hosts.sign(alloc, shown.signer, names.key, &hash) {
+    let hash = algorithm.compute_exchange_hash(shown.blob.as_slice(), &base.exchange);
+    let signature = match parts.hosts.sign(base.alloc, shown.signer, names.key, &hash) {
         Ok(signature) => signature,
         Err(Refusal::Refused) => return Err(Error::Signature),
         Err(Refusal::Memory) => return Err(Error::Memory),
     };
     let reply = reply(
-        alloc,
+        base.alloc,
         is_gex,
         shown.blob.as_slice(),
-        exchange.server_ephemeral.as_slice(),
+        base.exchange.server_ephemeral.as_slice(),
         signature.as_slice(),
     )?;
-    let ended = finish(alloc, &algorithm, cause, *names, hash, true)?;
+    let ended = finish(base.alloc, &algorithm, &base.cause, *names, hash, true)?;
     match put_both(output, &mut parts.rng, reply.as_slice(), &[msg::NEWKEYS]) {
         Ok(()) => Ok(ended),
         Err(error) => Err(error),

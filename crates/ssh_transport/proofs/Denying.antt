@@ -32,7 +32,7 @@ pub record Denying (a b : Says) (d e : Denies) : Type 0 where
   pub value : (n : kexes.Name) (q : Option DhGroup) (c : List ℕ) → d.value n q c → e.value n q c
   pub reply : (n : kexes.Name) (q : Option DhGroup) (l v : List ℕ) → d.reply n q l v → e.reply n q l v
   pub lookup : (sizes : GexParams) → d.lookup sizes → e.lookup sizes
-  pub sign : d.sign → e.sign
+  pub sign : (config : Config) → d.sign config → e.sign config
   pub verify : (host : ServerHost) (hash signature : List ℕ) → d.verify host hash signature → e.verify host hash signature
 
 rose_later : (a b c : ℕ) → a ≤ b → Rose b c → Rose a c
@@ -41,20 +41,20 @@ rose_later a b c h r = omega (arith, h, r)
 pub kept_denying : {A H G : Type 0} (lawful : A → Setup → Type 0) (offered : A → kexes.Name → Bool)
     (client_makes : kexes.Name → Option DhGroup → List ℕ → List ℕ → Type 0) (server_makes : kexes.Name → Option DhGroup → List ℕ → Type 0)
     (agrees : kexes.Name → Option DhGroup → List ℕ → List ℕ → List ℕ → Type 0)
-    (lawful_hosts : H → Setup → Type 0) (obliging : H → H → Setup → Type 0) (accepts : H → ServerHost → List ℕ → List ℕ → Bool) (trusts : H → ServerHost → Bool)
+    (lawful_hosts : H → Setup → Type 0) (signs judges : H → H → Setup → Type 0) (accepts : H → ServerHost → List ℕ → List ℕ → Bool) (trusts : H → ServerHost → Bool)
     (makes : Config → ServerHost → List ℕ → List ℕ → Type 0) (lawful_groups : G → Setup → Type 0) (group : G → GexParams → DhGroup)
     (config : Config) (a a' a'' : A) (h h' h'' : H) (g g' g'' : G)
     (obliging_agreement : A → A → Setup → Type 0) (refusals calls : A → ℕ) (refused_sign refused_verify refused_check calls_hosts : H → ℕ)
     (obliging_groups : G → G → Setup → Type 0) (refusals_groups calls_groups : G → ℕ)
     → KeepsAgreement lawful obliging_agreement offered refusals calls a a'
-    → KeepsHosts lawful_hosts obliging accepts trusts refused_sign refused_verify refused_check calls_hosts h h'
+    → KeepsHosts lawful_hosts signs judges accepts trusts refused_sign refused_verify refused_check calls_hosts h h'
     → KeepsGroups lawful_groups obliging_groups group refusals_groups calls_groups g g'
-    → Denying (says_of lawful offered client_makes server_makes agrees lawful_hosts obliging accepts trusts makes lawful_groups group config a' h' g')
-    (says_of lawful offered client_makes server_makes agrees lawful_hosts obliging accepts trusts makes lawful_groups group config a h g)
-    (denies_of obliging_agreement offered client_makes server_makes refusals obliging accepts refused_sign refused_verify obliging_groups refusals_groups a' a'' h' h'' g' g'')
-    (denies_of obliging_agreement offered client_makes server_makes refusals obliging accepts refused_sign refused_verify obliging_groups refusals_groups a a'' h h'' g g'')
-kept_denying lawful offered client_makes server_makes agrees lawful_hosts obliging accepts trusts makes lawful_groups group config a a' a'' h h' h'' g g' g'' oa r c rs rv rc ch og rg cg ka kh kg = record {
-  weaker = kept_weaker lawful offered client_makes server_makes agrees lawful_hosts obliging accepts trusts makes lawful_groups group config a a' h h' g g' oa r c rs rv rc ch og rg cg ka kh kg;
+    → Denying (says_of lawful offered client_makes server_makes agrees lawful_hosts signs judges accepts trusts makes lawful_groups group config a' h' g')
+    (says_of lawful offered client_makes server_makes agrees lawful_hosts signs judges accepts trusts makes lawful_groups group config a h g)
+    (denies_of obliging_agreement offered client_makes server_makes refusals signs judges accepts refused_sign refused_verify obliging_groups refusals_groups a' a'' h' h'' g' g'')
+    (denies_of obliging_agreement offered client_makes server_makes refusals signs judges accepts refused_sign refused_verify obliging_groups refusals_groups a a'' h h'' g g'')
+kept_denying lawful offered client_makes server_makes agrees lawful_hosts signs judges accepts trusts makes lawful_groups group config a a' a'' h h' h'' g g' g'' oa r c rs rv rc ch og rg cg ka kh kg = record {
+  weaker = kept_weaker lawful offered client_makes server_makes agrees lawful_hosts signs judges accepts trusts makes lawful_groups group config a a' h h' g g' oa r c rs rv rc ch og rg cg ka kh kg;
   offers = λ n k. offers_later n k;
   value_small = λ v k s w. k s (ka.lawful_kept s w);
   signature_small = λ v k s w. k s (kh.lawful_kept s w);
@@ -62,16 +62,16 @@ kept_denying lawful offered client_makes server_makes agrees lawful_hosts obligi
   value = λ n q v k. (rose_later (r a) (r a') (r a'') ka.refusals_later k.0, λ s l o e m. k.1 s l (ka.obliging_kept a'' s o) (offers_later n e) m);
   reply = λ n q l v k. (rose_later (r a) (r a') (r a'') ka.refusals_later k.0, λ s x o e m w. k.1 s x (ka.obliging_kept a'' s o) (offers_later n e) m w);
   lookup = λ sizes k. (rose_later (rg g) (rg g') (rg g'') kg.refusals_later k.0, λ s o. k.1 s (kg.obliging_kept g'' s o));
-  sign = λ k. (rose_later (rs h) (rs h') (rs h'') kh.sign_later k.0, λ s o. k.1 s (kh.obliging_kept h'' s o));
-  verify = λ host hash signature k. (rose_later (rv h) (rv h') (rv h'') kh.verify_later k.0, λ s o e. k.1 s (kh.obliging_kept h'' s o) (ap (λ (f : ServerHost → List ℕ → List ℕ → Bool). f host hash signature) kh.accepts_kept ∙ e));
+  sign = λ config k. (rose_later (rs h) (rs h') (rs h'') kh.sign_later k.0, λ s e o. k.1 s e (kh.signs_kept h'' s o));
+  verify = λ host hash signature k. (rose_later (rv h) (rv h') (rv h'') kh.verify_later k.0, λ s o e. k.1 s (kh.judges_kept h'' s o) (ap (λ (f : ServerHost → List ℕ → List ℕ → Bool). f host hash signature) kh.accepts_kept ∙ e));
 } where
   offers_later : (n : kexes.Name) → offered a n ≡ true → offered a' n ≡ true
   offers_later n e = ap (λ (f : kexes.Name → Bool). f n) ka.offered_kept ∙ e
 
-pub kept_untrusting : {H : Type 0} (lawful : H → Setup → Type 0) (obliging : H → H → Setup → Type 0) (accepts : H → ServerHost → List ℕ → List ℕ → Bool) (trusts : H → ServerHost → Bool) (refused_sign refused_verify refused_check calls : H → ℕ) (h h' h'' : H) (host : ServerHost)
-    → KeepsHosts lawful obliging accepts trusts refused_sign refused_verify refused_check calls h h'
-    → untrusted_of obliging trusts refused_check h' h'' host → untrusted_of obliging trusts refused_check h h'' host
-kept_untrusting lawful obliging accepts trusts rs rv rc ch h h' h'' host k u = (rose_later (rc h) (rc h') (rc h'') k.check_later u.0, λ s o e. u.1 s (k.obliging_kept h'' s o) (ap (λ (f : ServerHost → Bool). f host) k.trusts_kept ∙ e))
+pub kept_untrusting : {H : Type 0} (lawful : H → Setup → Type 0) (signs judges : H → H → Setup → Type 0) (accepts : H → ServerHost → List ℕ → List ℕ → Bool) (trusts : H → ServerHost → Bool) (refused_sign refused_verify refused_check calls : H → ℕ) (h h' h'' : H) (host : ServerHost)
+    → KeepsHosts lawful signs judges accepts trusts refused_sign refused_verify refused_check calls h h'
+    → untrusted_of judges trusts refused_check h' h'' host → untrusted_of judges trusts refused_check h h'' host
+kept_untrusting lawful signs judges accepts trusts rs rv rc ch h h' h'' host k u = (rose_later (rc h) (rc h') (rc h'') k.check_later u.0, λ s o e. u.1 s (k.judges_kept h'' s o) (ap (λ (f : ServerHost → Bool). f host) k.trusts_kept ∙ e))
 
 -- ---- messages
 
@@ -99,13 +99,13 @@ missigned_still a b d e w s (AwaitsRequest o) payload h = absurd h
 missigned_still a b d e w s (AwaitsValue o gex) payload h = absurd h
 missigned_still a b d e w s (AwaitsNewkeys exchange made host) payload h = absurd h
 
-unsigned_still : (a b : Says) (d e : Denies) → Denying a b d e → (stage : Stage) (payload : List ℕ) → SigningDenied d stage payload → SigningDenied e stage payload
-unsigned_still a b d e w (Created own) payload h = absurd h
-unsigned_still a b d e w (AwaitsGroup o) payload h = absurd h
-unsigned_still a b d e w (AwaitsReply o gex local public) payload h = absurd h
-unsigned_still a b d e w (AwaitsRequest o) payload h = absurd h
-unsigned_still a b d e w (AwaitsValue o gex) payload h = (h.0, w.sign h.1)
-unsigned_still a b d e w (AwaitsNewkeys exchange made host) payload h = absurd h
+unsigned_still : (a b : Says) (d e : Denies) → Denying a b d e → (s : Setting) (stage : Stage) (payload : List ℕ) → SigningDenied s d stage payload → SigningDenied s e stage payload
+unsigned_still a b d e w s (Created own) payload h = absurd h
+unsigned_still a b d e w s (AwaitsGroup o) payload h = absurd h
+unsigned_still a b d e w s (AwaitsReply o gex local public) payload h = absurd h
+unsigned_still a b d e w s (AwaitsRequest o) payload h = absurd h
+unsigned_still a b d e w s (AwaitsValue o gex) payload h = (h.0, w.sign s.config h.1)
+unsigned_still a b d e w s (AwaitsNewkeys exchange made host) payload h = absurd h
 
 long_value_still : (a b : Says) (d e : Denies) → Denying a b d e → (o : Opened) (group : Option DhGroup) (n : ℕ) → IsLongValue a o group n → IsLongValue b o group n
 long_value_still a b d e w o group n h = record { local = h.local; public = h.public; makes = w.weaker.client_makes _ _ _ _ h.makes; small = w.value_small _ h.small; size = h.size }
@@ -135,7 +135,7 @@ refused_still a b d e w s stage n payload errors.Disconnect h = absurd h
 refused_still a b d e w s stage n payload errors.DecryptionError h = absurd h
 refused_still a b d e w s stage n payload errors.IO h = absurd h
 refused_still a b d e w s stage n payload (errors.StrictKeyExchangeViolation type place) h = h
-refused_still a b d e w s stage n payload errors.Signature h = (h.0, unsigned_still a b d e w stage payload h.1)
+refused_still a b d e w s stage n payload errors.Signature h = (h.0, unsigned_still a b d e w s stage payload h.1)
 refused_still a b d e w s stage n payload (errors.SshEncoding fault) h = h
 refused_still a b d e w s stage n payload (errors.InvalidConfig fault) h = absurd h
 refused_still a b d e w s stage n payload errors.Memory h = tt

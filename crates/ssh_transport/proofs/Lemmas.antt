@@ -1,5 +1,6 @@
 -- What crates above cite: what the parts keep over calls, that they say of themselves as they were before what they say
 -- later, and that pieces join. Declares nothing.
+pub use Rattle.ssh_transport.proofs.Stored.{taken_more}
 pub use Rattle.ssh_transport.proofs.Parts.{agreement_same, agreement_after, hosts_same, hosts_after, groups_same, groups_after, parts_same}
 pub use Rattle.ssh_transport.proofs.Weaker.{Weaker, kept_weaker, steps_weaker}
 pub use Rattle.ssh_transport.proofs.Denying.{Denying, asking_still, input_still, kept_denying, kept_untrusting, piece_still, rekeyed_still, submitted_still}

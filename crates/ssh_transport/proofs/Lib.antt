@@ -23,6 +23,7 @@ pub mod Saying
 pub mod Stopping
 pub mod Submitting
 pub mod Taking
+pub mod Stored
 pub mod Turning
 pub mod Wanting
 pub mod Weaker

@@ -19,18 +19,20 @@ agreement_after lawful obliging offered refusals calls a b c h k = record {
   offered_kept = k.offered_kept ∙ h.offered_kept;
 }
 
-pub hosts_same : {H : Type 0} (lawful : H → Setup → Type 0) (obliging : H → H → Setup → Type 0) (accepts : H → ServerHost → List ℕ → List ℕ → Bool) (trusts : H → ServerHost → Bool) (refused_sign refused_verify refused_check calls : H → ℕ) (a : H) → KeepsHosts lawful obliging accepts trusts refused_sign refused_verify refused_check calls a a
-hosts_same lawful obliging accepts trusts rs rv rc calls a = record { sign_later = omega arith; verify_later = omega arith; check_later = omega arith; calls_later = omega arith; lawful_kept = λ s h. h; obliging_kept = λ w s h. h; obliging_sooner = λ v s h. h; accepts_kept = refl; trusts_kept = refl }
+pub hosts_same : {H : Type 0} (lawful : H → Setup → Type 0) (signs judges : H → H → Setup → Type 0) (accepts : H → ServerHost → List ℕ → List ℕ → Bool) (trusts : H → ServerHost → Bool) (refused_sign refused_verify refused_check calls : H → ℕ) (a : H) → KeepsHosts lawful signs judges accepts trusts refused_sign refused_verify refused_check calls a a
+hosts_same lawful signs judges accepts trusts rs rv rc calls a = record { sign_later = omega arith; verify_later = omega arith; check_later = omega arith; calls_later = omega arith; lawful_kept = λ s h. h; signs_kept = λ w s h. h; signs_sooner = λ v s h. h; judges_kept = λ w s h. h; judges_sooner = λ v s h. h; accepts_kept = refl; trusts_kept = refl }
 
-pub hosts_after : {H : Type 0} (lawful : H → Setup → Type 0) (obliging : H → H → Setup → Type 0) (accepts : H → ServerHost → List ℕ → List ℕ → Bool) (trusts : H → ServerHost → Bool) (refused_sign refused_verify refused_check calls : H → ℕ) (a b c : H) → KeepsHosts lawful obliging accepts trusts refused_sign refused_verify refused_check calls a b → KeepsHosts lawful obliging accepts trusts refused_sign refused_verify refused_check calls b c → KeepsHosts lawful obliging accepts trusts refused_sign refused_verify refused_check calls a c
-hosts_after lawful obliging accepts trusts rs rv rc calls a b c h k = record {
+pub hosts_after : {H : Type 0} (lawful : H → Setup → Type 0) (signs judges : H → H → Setup → Type 0) (accepts : H → ServerHost → List ℕ → List ℕ → Bool) (trusts : H → ServerHost → Bool) (refused_sign refused_verify refused_check calls : H → ℕ) (a b c : H) → KeepsHosts lawful signs judges accepts trusts refused_sign refused_verify refused_check calls a b → KeepsHosts lawful signs judges accepts trusts refused_sign refused_verify refused_check calls b c → KeepsHosts lawful signs judges accepts trusts refused_sign refused_verify refused_check calls a c
+hosts_after lawful signs judges accepts trusts rs rv rc calls a b c h k = record {
   sign_later = (let x = h.sign_later in let y = k.sign_later in omega (arith, x, y));
   verify_later = (let x = h.verify_later in let y = k.verify_later in omega (arith, x, y));
   check_later = (let x = h.check_later in let y = k.check_later in omega (arith, x, y));
   calls_later = (let x = h.calls_later in let y = k.calls_later in omega (arith, x, y));
   lawful_kept = λ s l. k.lawful_kept s (h.lawful_kept s l);
-  obliging_kept = λ w s l. k.obliging_kept w s (h.obliging_kept w s l);
-  obliging_sooner = λ v s l. h.obliging_sooner v s (k.obliging_sooner v s l);
+  signs_kept = λ w s l. k.signs_kept w s (h.signs_kept w s l);
+  signs_sooner = λ v s l. h.signs_sooner v s (k.signs_sooner v s l);
+  judges_kept = λ w s l. k.judges_kept w s (h.judges_kept w s l);
+  judges_sooner = λ v s l. h.judges_sooner v s (k.judges_sooner v s l);
   accepts_kept = k.accepts_kept ∙ h.accepts_kept;
   trusts_kept = k.trusts_kept ∙ h.trusts_kept;
 }
@@ -49,13 +51,13 @@ groups_after lawful obliging group refusals calls a b c h k = record {
 }
 
 pub parts_same : {A H G : Type 0} (lawful : A → Setup → Type 0) (obliging : A → A → Setup → Type 0) (offered : A → kexes.Name → Bool) (refusals calls : A → ℕ)
-    (lawful_hosts : H → Setup → Type 0) (obliging_hosts : H → H → Setup → Type 0) (accepts : H → ServerHost → List ℕ → List ℕ → Bool) (trusts : H → ServerHost → Bool) (refused_sign refused_verify refused_check calls_hosts : H → ℕ)
+    (lawful_hosts : H → Setup → Type 0) (signs judges : H → H → Setup → Type 0) (accepts : H → ServerHost → List ℕ → List ℕ → Bool) (trusts : H → ServerHost → Bool) (refused_sign refused_verify refused_check calls_hosts : H → ℕ)
     (lawful_groups : G → Setup → Type 0) (obliging_groups : G → G → Setup → Type 0) (group : G → GexParams → DhGroup) (refusals_groups calls_groups : G → ℕ) (a : A) (h : H) (g : G)
     → KeepsParts (KeepsAgreement lawful obliging offered refusals calls a a)
-    (KeepsHosts lawful_hosts obliging_hosts accepts trusts refused_sign refused_verify refused_check calls_hosts h h)
+    (KeepsHosts lawful_hosts signs judges accepts trusts refused_sign refused_verify refused_check calls_hosts h h)
     (KeepsGroups lawful_groups obliging_groups group refusals_groups calls_groups g g)
-parts_same lawful obliging offered refusals calls lh oh accepts trusts rs rv rc ch lg og group rg cg a h g = record {
+parts_same lawful obliging offered refusals calls lh sg jd accepts trusts rs rv rc ch lg og group rg cg a h g = record {
   agreement = agreement_same lawful obliging offered refusals calls a;
-  hosts = hosts_same lh oh accepts trusts rs rv rc ch h;
+  hosts = hosts_same lh sg jd accepts trusts rs rv rc ch h;
   groups = groups_same lg og group rg cg g;
 }

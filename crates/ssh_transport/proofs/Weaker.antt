@@ -29,23 +29,23 @@ pub record Weaker (a b : Says) : Type 0 where
 pub kept_weaker : {A H G : Type 0} (lawful : A → Setup → Type 0) (offered : A → kexes.Name → Bool)
     (client_makes : kexes.Name → Option DhGroup → List ℕ → List ℕ → Type 0) (server_makes : kexes.Name → Option DhGroup → List ℕ → Type 0)
     (agrees : kexes.Name → Option DhGroup → List ℕ → List ℕ → List ℕ → Type 0)
-    (lawful_hosts : H → Setup → Type 0) (obliging : H → H → Setup → Type 0) (accepts : H → ServerHost → List ℕ → List ℕ → Bool) (trusts : H → ServerHost → Bool)
+    (lawful_hosts : H → Setup → Type 0) (signs judges : H → H → Setup → Type 0) (accepts : H → ServerHost → List ℕ → List ℕ → Bool) (trusts : H → ServerHost → Bool)
     (makes : Config → ServerHost → List ℕ → List ℕ → Type 0) (lawful_groups : G → Setup → Type 0) (group : G → GexParams → DhGroup)
     (config : Config) (a a' : A) (h h' : H) (g g' : G)
     (obliging_agreement : A → A → Setup → Type 0) (refusals calls : A → ℕ) (refused_sign refused_verify refused_check calls_hosts : H → ℕ)
     (obliging_groups : G → G → Setup → Type 0) (refusals_groups calls_groups : G → ℕ)
     → KeepsAgreement lawful obliging_agreement offered refusals calls a a'
-    → KeepsHosts lawful_hosts obliging accepts trusts refused_sign refused_verify refused_check calls_hosts h h'
+    → KeepsHosts lawful_hosts signs judges accepts trusts refused_sign refused_verify refused_check calls_hosts h h'
     → KeepsGroups lawful_groups obliging_groups group refusals_groups calls_groups g g'
-    → Weaker (says_of lawful offered client_makes server_makes agrees lawful_hosts obliging accepts trusts makes lawful_groups group config a' h' g')
-    (says_of lawful offered client_makes server_makes agrees lawful_hosts obliging accepts trusts makes lawful_groups group config a h g)
-kept_weaker lawful offered client_makes server_makes agrees lawful_hosts obliging accepts trusts makes lawful_groups group config a a' h h' g g' oa r c rs rv rc ch og rg cg ka kh kg = record {
+    → Weaker (says_of lawful offered client_makes server_makes agrees lawful_hosts signs judges accepts trusts makes lawful_groups group config a' h' g')
+    (says_of lawful offered client_makes server_makes agrees lawful_hosts signs judges accepts trusts makes lawful_groups group config a h g)
+kept_weaker lawful offered client_makes server_makes agrees lawful_hosts signs judges accepts trusts makes lawful_groups group config a a' h h' g g' oa r c rs rv rc ch og rg cg ka kh kg = record {
   agrees = λ n q c v x k s l. k s (ka.lawful_kept s l);
   client_makes = λ n q l c k s w. k s (ka.lawful_kept s w);
   server_makes = λ n q v k s w. k s (ka.lawful_kept s w);
   reply = λ n q l c v x k m s w. k (λ t u. m s w) s (ka.lawful_kept s w);
   finds = λ sizes q k s w. (let p = k s (kg.lawful_kept s w) in (p.0 ∙ ap (λ (f : GexParams → DhGroup). f sizes) kg.group_kept, p.1));
-  signs = λ host hash signature k later s e o. k later s e (kh.obliging_kept later s o);
+  signs = λ host hash signature k later s e o. k later s e (kh.signs_kept later s o);
   accepts = λ host hash signature k. sym (ap (λ (f : ServerHost → List ℕ → List ℕ → Bool). f host hash signature) kh.accepts_kept) ∙ k;
   trusts = λ host k. sym (ap (λ (f : ServerHost → Bool). f host) kh.trusts_kept) ∙ k;
   offers = λ n k. sym (ap (λ (f : kexes.Name → Bool). f n) ka.offered_kept) ∙ k;

@@ -6,17 +6,15 @@ ghost use Rattle.ssh_rules.specs.MessageTypes.{is_payload_type};
 ghost use Rattle.ssh_rules.specs.Valid.{config_fault, is_bad_size, is_good_payload};
 ghost use Rattle.ssh_transport.specs.Taking.{kept_by, read_as};
 ghost use Rattle.ssh_transport.specs.declared.session.Handled.TheVariants.{Delivers};
-ghost use Rattle.ssh_rules.specs.Asking.{AsksWithin, RefusesAsking};
-ghost use Rattle.ssh_rules.specs.Refusing.{RefusesPiece, RefusesPieceAsking};
 ghost use Rattle.ssh_wire.specs.declared.error.ConfigFault.{ConfigFault};
 ghost use Rattle.ssh_wire.specs.declared.error.Error.TheVariants.{Disconnect, Inconsistent, InvalidConfig, Memory, PacketSize};
 
 use crate::message::{LONGEST_INPUT, LONGEST_PAYLOAD, is_payload, type_of};
+use crate::served::{Attended, Served};
 use crate::session::{Handled, Session};
 use rand_core::Rng;
 use ssh_kex::{Agreement, Config, GroupLookup, Handed, HostKeys, Parts};
 use ssh_packet::{OpenKey, PacketReader, clear};
-use ssh_rules::Asked;
 use ssh_wire::{Error, Payload, ReadSshIdBuffer, Side};
 use std::alloc::Global;
 
@@ -44,19 +42,17 @@ pub(crate) enum PacketRead {
 
 impl<'c> Connection<'c> {
     ghost use Rattle.ssh_packet.specs.Reading.{window_length};
-    ghost use Rattle.ssh_rules.specs.Polling.{MayWant, Polls};
-    ghost use Rattle.ssh_rules.specs.Standing.{IsNew, Rekeyed, Submitted, TakesInput, WaitsInPart, input_room, is_outside, unfinished, with_input};
+    ghost use Rattle.ssh_rules.specs.Standing.{IsNew, Rekeyed, Submitted, WaitsInPart, input_room, is_outside, unfinished, with_input};
     ghost use Rattle.ssh_wire.specs.Reading.{waiting_length};
-    ghost use Rattle.ssh_transport.specs.Asking.{AsksBetween, AsksTo};
     ghost use Rattle.ssh_transport.specs.Drawing.{AtMostNext, GoesNext, kexinit_packet, packet_with};
     ghost use Rattle.ssh_transport.specs.Handling.{IsHeard, IsOpen};
     ghost use Rattle.ssh_transport.specs.Hearing.{EndsBy};
     ghost use Rattle.ssh_transport.specs.Kept.{IsKept, IsLive};
     ghost use Rattle.ssh_transport.specs.Saying.{IsFixed, nothing_said};
     ghost use Rattle.ssh_transport.specs.States.{CanBegin, IsUnheard, WaitsBehind, emptied, reading_of, standing_of, with_more};
-    ghost use Rattle.ssh_transport.specs.Stopping.{Fails, HearsNothing, IsAsBefore, Stops, Wants};
+    ghost use Rattle.ssh_transport.specs.Stopping.{HearsNothing, IsAsBefore};
     ghost use Rattle.ssh_transport.specs.Submitting.{Breaks};
-    ghost use Rattle.ssh_transport.specs.Taking.{HandlesOne, Hears, IfPacket, PollsOne, Reads, Takes, TakesPayload, TakesUp, lent_by, read_by};
+    ghost use Rattle.ssh_transport.specs.Taking.{Hears, IfPacket, Reads, Takes, TakesUp, read_by};
 
     /// A side that has written its version line. InvalidConfig where the configuration may not be used; Memory.
     #[tactic(auto, using(crate::proofs::Opened::open_fresh, crate::proofs::Opened::short_fresh, crate::proofs::Opened::heeds_fresh))]
@@ -97,27 +93,15 @@ impl<'c> Connection<'c> {
         ensures lives { self.old.failed ≡ false → OnOk result (self.new.failed ≡ false) }
         ensures ends { self.old.failed ≡ false → OnErr result ((self.new.failed ≡ true)
             × (unfinished (standing_of self.new) ≡ [])) }
-        ensures fed { OnOk result (TakesInput (⟦<Parts<A, H, G, R> as Handed>⟧.says self.old.session.config.now
-            parts.old) (standing_of self.old) piece.now (standing_of self.new)) }
+        ensures fed { OnOk result (⟦<Parts<A, H, G, R> as Served>⟧.feeds self.old parts.old piece.now self.new) }
         ensures refused { self.old.failed ≡ false → IfErr result
-            (λ e. RefusesPiece (⟦<Parts<A, H, G, R> as Handed>⟧.says self.old.session.config.now parts.old)
-            (⟦<Parts<A, H, G, R> as Handed>⟧.denies parts.old parts.new)
-            (⟦<Parts<A, H, G, R> as Asked>⟧.distrusts parts.old parts.new) (standing_of self.old) piece.now e
-            (standing_of self.new)) }
+            (λ e. ⟦<Parts<A, H, G, R> as Served>⟧.refuses_piece self.old parts.old parts.new piece.now e self.new) }
         ensures keeps { ⟦<Parts<A, H, G, R> as Handed>⟧.keeps parts.old parts.new }
-        ensures asks { OnOk result (AsksWithin self.old.session.side (standing_of self.old).state
-            (standing_of self.new).state
-            (⟦<Parts<A, H, G, R> as Asked>⟧.calls parts.old) (⟦<Parts<A, H, G, R> as Asked>⟧.calls parts.new)) }
-        ensures asked { self.old.failed ≡ false → OnErr result (RefusesAsking
-            (⟦<Parts<A, H, G, R> as Handed>⟧.says self.old.session.config.now parts.old)
-            (standing_of self.old) piece.now (standing_of self.new)
-            (⟦<Parts<A, H, G, R> as Asked>⟧.calls parts.old) (⟦<Parts<A, H, G, R> as Asked>⟧.calls parts.new)) }
+        ensures asks { OnOk result (⟦<Parts<A, H, G, R> as Served>⟧.asks_within self.old self.new parts.old parts.new) }
+        ensures asked { self.old.failed ≡ false → OnErr result (⟦<Parts<A, H, G, R> as Served>⟧.asks_refusing self.old
+            parts.old parts.new piece.now self.new) }
         ensures refused_few { self.old.failed ≡ false → IfErr result
-            (λ e. RefusesPieceAsking (⟦<Parts<A, H, G, R> as Handed>⟧.says self.old.session.config.now parts.old)
-            (⟦<Parts<A, H, G, R> as Handed>⟧.denies parts.old parts.new)
-            (⟦<Parts<A, H, G, R> as Asked>⟧.distrusts parts.old parts.new) (standing_of self.old) piece.now e
-            (standing_of self.new)
-            (⟦<Parts<A, H, G, R> as Asked>⟧.calls parts.old) (⟦<Parts<A, H, G, R> as Asked>⟧.calls parts.new)) }
+            (λ e. ⟦<Parts<A, H, G, R> as Served>⟧.refuses_asking self.old parts.old parts.new piece.now e self.new) }
     {
         if self.failed {
             return Err(Error::Disconnect);
@@ -141,24 +125,17 @@ impl<'c> Connection<'c> {
         ensures lives { self.old.failed ≡ false → OnOk result (self.new.failed ≡ false) }
         ensures ends { self.old.failed ≡ false → OnErr result ((self.new.failed ≡ true)
             × (unfinished (standing_of self.new) ≡ [])) }
-        ensures polled { IfOk result (λ lends. Polls (⟦<Parts<A, H, G, R> as Handed>⟧.says self.old.session.config.now
-            parts.old) (standing_of self.old) (lent_by lends self.new.reader.handed) (standing_of self.new)) }
+        ensures polled { IfOk result (λ lends. ⟦<Parts<A, H, G, R> as Served>⟧.polls self.old parts.old lends
+            self.new) }
         ensures refused { self.old.failed ≡ false → IfErr result
-            (λ e. RefusesPiece (⟦<Parts<A, H, G, R> as Handed>⟧.says self.old.session.config.now parts.old)
-            (⟦<Parts<A, H, G, R> as Handed>⟧.denies parts.old parts.new)
-            (⟦<Parts<A, H, G, R> as Asked>⟧.distrusts parts.old parts.new) (standing_of self.old) [] e
-            (standing_of self.new)) }
-        ensures wants { self.old.failed ≡ false → result ≡ Err Memory → MayWant
-            (⟦<Parts<A, H, G, R> as Handed>⟧.says self.old.session.config.now parts.old) (standing_of self.old) }
+            (λ e. ⟦<Parts<A, H, G, R> as Served>⟧.refuses_piece self.old parts.old parts.new [] e self.new) }
+        ensures wants { self.old.failed ≡ false → result ≡ Err Memory → ⟦<Parts<A, H, G, R> as Served>⟧.may_want
+            self.old parts.old }
         ensures unqueued { self.new.delivered.items ≡ self.old.delivered.items }
         ensures keeps { ⟦<Parts<A, H, G, R> as Handed>⟧.keeps parts.old parts.new }
-        ensures asks { OnOk result (AsksWithin self.old.session.side (standing_of self.old).state
-            (standing_of self.new).state
-            (⟦<Parts<A, H, G, R> as Asked>⟧.calls parts.old) (⟦<Parts<A, H, G, R> as Asked>⟧.calls parts.new)) }
-        ensures asked { self.old.failed ≡ false → OnErr result (RefusesAsking
-            (⟦<Parts<A, H, G, R> as Handed>⟧.says self.old.session.config.now parts.old)
-            (standing_of self.old) [] (standing_of self.new)
-            (⟦<Parts<A, H, G, R> as Asked>⟧.calls parts.old) (⟦<Parts<A, H, G, R> as Asked>⟧.calls parts.new)) }
+        ensures asks { OnOk result (⟦<Parts<A, H, G, R> as Served>⟧.asks_within self.old self.new parts.old parts.new) }
+        ensures asked { self.old.failed ≡ false → OnErr result (⟦<Parts<A, H, G, R> as Served>⟧.asks_refusing self.old
+            parts.old parts.new [] self.new) }
     {
         if self.failed {
             return Err(Error::Disconnect);
@@ -179,22 +156,17 @@ impl<'c> Connection<'c> {
         ensures live { OnOk result (IsLive self.new) }
         ensures within { OnOk result (IsKept self.new) }
         ensures settled { OnOk result (WaitsBehind self.new.session.line self.new.reader.waiting) }
-        ensures takes { IfOk result (λ lends. TakesPayload (⟦<Parts<A, H, G, R> as Handed>⟧.says
-            self.old.session.config.now parts.old) self.old lends self.new) }
-        ensures fails { IfErr result (λ e. Fails (⟦<Parts<A, H, G, R> as Handed>⟧.says self.old.session.config.now
-            parts.old)
-            (⟦<Parts<A, H, G, R> as Handed>⟧.denies parts.old parts.new)
-            (⟦<Parts<A, H, G, R> as Asked>⟧.distrusts parts.old parts.new)
-            (AsksTo self.old.session (⟦<Parts<A, H, G, R> as Asked>⟧.calls parts.old)
-            (⟦<Parts<A, H, G, R> as Asked>⟧.calls parts.new)) (emptied self.old) self.old.reader.waiting e self.new) }
-        ensures wants { result ≡ Err Memory → MayWant (⟦<Parts<A, H, G, R> as Handed>⟧.says self.old.session.config.now
-            parts.old) (standing_of self.old) }
+        ensures takes { IfOk result (λ lends. ⟦<Parts<A, H, G, R> as Served>⟧.takes_payload self.old parts.old lends
+            self.new) }
+        ensures fails { IfErr result (λ e. ⟦<Parts<A, H, G, R> as Served>⟧.fails self.old parts.old parts.new
+            self.old.reader.waiting e self.new) }
+        ensures wants { result ≡ Err Memory → ⟦<Parts<A, H, G, R> as Served>⟧.may_want self.old parts.old }
         ensures fixed { IsFixed self.old.session self.new.session }
         ensures unfailed { self.new.failed ≡ self.old.failed }
         ensures unqueued { self.new.delivered.items ≡ self.old.delivered.items }
         ensures keeps { ⟦<Parts<A, H, G, R> as Handed>⟧.keeps parts.old parts.new }
-        ensures asks { OnOk result (AsksBetween self.old.session self.new.session
-            (⟦<Parts<A, H, G, R> as Asked>⟧.calls parts.old) (⟦<Parts<A, H, G, R> as Asked>⟧.calls parts.new)) }
+        ensures asks { OnOk result (⟦<Parts<A, H, G, R> as Attended>⟧.asks self.old.session self.new.session parts.old
+            parts.new) }
     {
         let is_heard = self.hear(&mut parts.rng)?;
         if is_heard {
@@ -213,23 +185,18 @@ impl<'c> Connection<'c> {
         requires heard { IsHeard self.old.session.line }
         ensures begins { CanBegin self.new.session }
         ensures live { OnOk result (IsLive self.new) }
-        ensures reads { IfOk result (λ lends. PollsOne (⟦<Parts<A, H, G, R> as Handed>⟧.says self.old.session.config.now
-            parts.old) self.old (read_by lends) self.new) }
+        ensures reads { IfOk result (λ lends. ⟦<Parts<A, H, G, R> as Served>⟧.polls_one self.old parts.old
+            (read_by lends) self.new) }
         ensures shorter { OnOk result (length self.new.reader.waiting ≤ length self.old.reader.waiting) }
-        ensures stops { IfErr result (λ e. Stops (⟦<Parts<A, H, G, R> as Handed>⟧.says self.old.session.config.now
-            parts.old)
-            (⟦<Parts<A, H, G, R> as Handed>⟧.denies parts.old parts.new)
-            (⟦<Parts<A, H, G, R> as Asked>⟧.distrusts parts.old parts.new)
-            (AsksTo self.old.session (⟦<Parts<A, H, G, R> as Asked>⟧.calls parts.old)
-            (⟦<Parts<A, H, G, R> as Asked>⟧.calls parts.new)) self.old e self.new) }
-        ensures wants { result ≡ Err Memory → Wants (⟦<Parts<A, H, G, R> as Handed>⟧.says self.old.session.config.now
-            parts.old) self.old }
+        ensures stops { IfErr result (λ e. ⟦<Parts<A, H, G, R> as Served>⟧.stops self.old parts.old parts.new e
+            self.new) }
+        ensures wants { result ≡ Err Memory → ⟦<Parts<A, H, G, R> as Served>⟧.wants self.old parts.old }
         ensures fixed { IsFixed self.old.session self.new.session }
         ensures unfailed { self.new.failed ≡ self.old.failed }
         ensures unqueued { self.new.delivered.items ≡ self.old.delivered.items }
         ensures keeps { ⟦<Parts<A, H, G, R> as Handed>⟧.keeps parts.old parts.new }
-        ensures asks { OnOk result (AsksBetween self.old.session self.new.session
-            (⟦<Parts<A, H, G, R> as Asked>⟧.calls parts.old) (⟦<Parts<A, H, G, R> as Asked>⟧.calls parts.new)) }
+        ensures asks { OnOk result (⟦<Parts<A, H, G, R> as Attended>⟧.asks self.old.session self.new.session parts.old
+            parts.new) }
     {
         'packets: loop {
             match self.poll_packet(parts)? {
@@ -252,22 +219,17 @@ impl<'c> Connection<'c> {
         ensures live { OnOk result (IsLive self.new) }
         ensures shorter { IfOk result (λ read. IfPacket read (length self.new.reader.waiting < length
             self.old.reader.waiting)) }
-        ensures polls { IfOk result (λ read. PollsOne (⟦<Parts<A, H, G, R> as Handed>⟧.says self.old.session.config.now
-            parts.old) self.old read self.new) }
-        ensures stops { IfErr result (λ e. Stops (⟦<Parts<A, H, G, R> as Handed>⟧.says self.old.session.config.now
-            parts.old)
-            (⟦<Parts<A, H, G, R> as Handed>⟧.denies parts.old parts.new)
-            (⟦<Parts<A, H, G, R> as Asked>⟧.distrusts parts.old parts.new)
-            (AsksTo self.old.session (⟦<Parts<A, H, G, R> as Asked>⟧.calls parts.old)
-            (⟦<Parts<A, H, G, R> as Asked>⟧.calls parts.new)) self.old e self.new) }
-        ensures wants { result ≡ Err Memory → Wants (⟦<Parts<A, H, G, R> as Handed>⟧.says self.old.session.config.now
-            parts.old) self.old }
+        ensures polls { IfOk result (λ read. ⟦<Parts<A, H, G, R> as Served>⟧.polls_one self.old parts.old read
+            self.new) }
+        ensures stops { IfErr result (λ e. ⟦<Parts<A, H, G, R> as Served>⟧.stops self.old parts.old parts.new e
+            self.new) }
+        ensures wants { result ≡ Err Memory → ⟦<Parts<A, H, G, R> as Served>⟧.wants self.old parts.old }
         ensures fixed { IsFixed self.old.session self.new.session }
         ensures unfailed { self.new.failed ≡ self.old.failed }
         ensures unqueued { self.new.delivered.items ≡ self.old.delivered.items }
         ensures keeps { ⟦<Parts<A, H, G, R> as Handed>⟧.keeps parts.old parts.new }
-        ensures asks { OnOk result (AsksBetween self.old.session self.new.session
-            (⟦<Parts<A, H, G, R> as Asked>⟧.calls parts.old) (⟦<Parts<A, H, G, R> as Asked>⟧.calls parts.new)) }
+        ensures asks { OnOk result (⟦<Parts<A, H, G, R> as Attended>⟧.asks self.old.session self.new.session parts.old
+            parts.new) }
     {
         let Some(handled) = self.take_packet(parts)? else {
             return Ok(PacketRead::Nothing);
@@ -386,20 +348,15 @@ impl<'c> Connection<'c> {
         ensures live { OnOk result (IsLive self.new) }
         ensures within { OnOk result (IsKept self.new) }
         ensures settled { OnOk result (WaitsBehind self.new.session.line self.new.reader.waiting) }
-        ensures took { OnOk result (Takes (⟦<Parts<A, H, G, R> as Handed>⟧.says self.old.session.config.now parts.old)
-            (emptied self.old) (self.old.reader.waiting ++ piece.now) self.new) }
-        ensures fails { IfErr result (λ e. Fails (⟦<Parts<A, H, G, R> as Handed>⟧.says self.old.session.config.now
-            parts.old)
-            (⟦<Parts<A, H, G, R> as Handed>⟧.denies parts.old parts.new)
-            (⟦<Parts<A, H, G, R> as Asked>⟧.distrusts parts.old parts.new)
-            (AsksTo self.old.session (⟦<Parts<A, H, G, R> as Asked>⟧.calls parts.old)
-            (⟦<Parts<A, H, G, R> as Asked>⟧.calls parts.new)) (emptied self.old) (self.old.reader.waiting ++ piece.now)
-            e self.new) }
+        ensures took { OnOk result (⟦<Parts<A, H, G, R> as Served>⟧.takes self.old parts.old
+            (self.old.reader.waiting ++ piece.now) self.new) }
+        ensures fails { IfErr result (λ e. ⟦<Parts<A, H, G, R> as Served>⟧.fails self.old parts.old parts.new
+            (self.old.reader.waiting ++ piece.now) e self.new) }
         ensures fixed { IsFixed self.old.session self.new.session }
         ensures unfailed { self.new.failed ≡ self.old.failed }
         ensures keeps { ⟦<Parts<A, H, G, R> as Handed>⟧.keeps parts.old parts.new }
-        ensures asks { OnOk result (AsksBetween self.old.session self.new.session
-            (⟦<Parts<A, H, G, R> as Asked>⟧.calls parts.old) (⟦<Parts<A, H, G, R> as Asked>⟧.calls parts.new)) }
+        ensures asks { OnOk result (⟦<Parts<A, H, G, R> as Attended>⟧.asks self.old.session self.new.session parts.old
+            parts.new) }
     {
         let kept = self.keep(piece);
         let is_heard = self.hear(&mut parts.rng)?;
@@ -475,20 +432,16 @@ impl<'c> Connection<'c> {
         requires heard { IsHeard self.old.session.line }
         ensures begins { CanBegin self.new.session }
         ensures live { OnOk result (IsLive self.new) }
-        ensures reads { OnOk result (Reads (⟦<Parts<A, H, G, R> as Handed>⟧.says self.old.session.config.now parts.old)
-            (with_more self.old piece.now) self.new) }
+        ensures reads { OnOk result (⟦<Parts<A, H, G, R> as Served>⟧.reads (with_more self.old piece.now) parts.old
+            self.new) }
         ensures part { OnOk result (WaitsInPart (reading_of self.new) self.new.reader.waiting) }
-        ensures stops { IfErr result (λ e. Stops (⟦<Parts<A, H, G, R> as Handed>⟧.says self.old.session.config.now
-            parts.old)
-            (⟦<Parts<A, H, G, R> as Handed>⟧.denies parts.old parts.new)
-            (⟦<Parts<A, H, G, R> as Asked>⟧.distrusts parts.old parts.new)
-            (AsksTo self.old.session (⟦<Parts<A, H, G, R> as Asked>⟧.calls parts.old)
-            (⟦<Parts<A, H, G, R> as Asked>⟧.calls parts.new)) (with_more self.old piece.now) e self.new) }
+        ensures stops { IfErr result (λ e. ⟦<Parts<A, H, G, R> as Served>⟧.stops (with_more self.old piece.now)
+            parts.old parts.new e self.new) }
         ensures fixed { IsFixed self.old.session self.new.session }
         ensures unfailed { self.new.failed ≡ self.old.failed }
         ensures keeps { ⟦<Parts<A, H, G, R> as Handed>⟧.keeps parts.old parts.new }
-        ensures asks { OnOk result (AsksBetween self.old.session self.new.session
-            (⟦<Parts<A, H, G, R> as Asked>⟧.calls parts.old) (⟦<Parts<A, H, G, R> as Asked>⟧.calls parts.new)) }
+        ensures asks { OnOk result (⟦<Parts<A, H, G, R> as Attended>⟧.asks self.old.session self.new.session parts.old
+            parts.new) }
     {
         self.read_packets(parts)?;
         let mut taken = 0;
@@ -508,20 +461,15 @@ impl<'c> Connection<'c> {
         requires heard { IsHeard self.old.session.line }
         ensures begins { CanBegin self.new.session }
         ensures live { OnOk result (IsLive self.new) }
-        ensures reads { OnOk result (Reads (⟦<Parts<A, H, G, R> as Handed>⟧.says self.old.session.config.now parts.old)
-            self.old self.new) }
+        ensures reads { OnOk result (⟦<Parts<A, H, G, R> as Served>⟧.reads self.old parts.old self.new) }
         ensures part { OnOk result (WaitsInPart (reading_of self.new) self.new.reader.waiting) }
-        ensures stops { IfErr result (λ e. Stops (⟦<Parts<A, H, G, R> as Handed>⟧.says self.old.session.config.now
-            parts.old)
-            (⟦<Parts<A, H, G, R> as Handed>⟧.denies parts.old parts.new)
-            (⟦<Parts<A, H, G, R> as Asked>⟧.distrusts parts.old parts.new)
-            (AsksTo self.old.session (⟦<Parts<A, H, G, R> as Asked>⟧.calls parts.old)
-            (⟦<Parts<A, H, G, R> as Asked>⟧.calls parts.new)) self.old e self.new) }
+        ensures stops { IfErr result (λ e. ⟦<Parts<A, H, G, R> as Served>⟧.stops self.old parts.old parts.new e
+            self.new) }
         ensures fixed { IsFixed self.old.session self.new.session }
         ensures unfailed { self.new.failed ≡ self.old.failed }
         ensures keeps { ⟦<Parts<A, H, G, R> as Handed>⟧.keeps parts.old parts.new }
-        ensures asks { OnOk result (AsksBetween self.old.session self.new.session
-            (⟦<Parts<A, H, G, R> as Asked>⟧.calls parts.old) (⟦<Parts<A, H, G, R> as Asked>⟧.calls parts.new)) }
+        ensures asks { OnOk result (⟦<Parts<A, H, G, R> as Attended>⟧.asks self.old.session self.new.session parts.old
+            parts.new) }
     {
         'packets: while self.read_packet(parts)? {}
         Ok(())
@@ -543,22 +491,17 @@ impl<'c> Connection<'c> {
         ensures fixed { IsFixed self.old.session self.new.session }
         ensures unfailed { self.new.failed ≡ self.old.failed }
         ensures keeps { ⟦<Parts<A, H, G, R> as Handed>⟧.keeps parts.old parts.new }
-        ensures asks { OnOk result (AsksBetween self.old.session self.new.session
-            (⟦<Parts<A, H, G, R> as Asked>⟧.calls parts.old) (⟦<Parts<A, H, G, R> as Asked>⟧.calls parts.new)) }
-        ensures took { IfOk result (λ r. IfSome r (λ h. HandlesOne
-            (⟦<Parts<A, H, G, R> as Handed>⟧.says self.old.session.config.now parts.old) self.old h self.new)) }
+        ensures asks { OnOk result (⟦<Parts<A, H, G, R> as Attended>⟧.asks self.old.session self.new.session parts.old
+            parts.new) }
+        ensures took { IfOk result (λ r. IfSome r (λ h. ⟦<Parts<A, H, G, R> as Served>⟧.handles_one self.old parts.old h
+            self.new)) }
         ensures none { result ≡ Ok None → (self.new ≡ record self.old
             { reader = record self.old.reader { handed = [] } }) × WaitsInPart (reading_of self.old)
             self.old.reader.waiting }
         ensures unqueued { self.new.delivered ≡ self.old.delivered }
-        ensures wants { result ≡ Err Memory → Wants (⟦<Parts<A, H, G, R> as Handed>⟧.says self.old.session.config.now
-            parts.old) self.old }
-        ensures stops { IfErr result (λ e. Stops (⟦<Parts<A, H, G, R> as Handed>⟧.says self.old.session.config.now
-            parts.old)
-            (⟦<Parts<A, H, G, R> as Handed>⟧.denies parts.old parts.new)
-            (⟦<Parts<A, H, G, R> as Asked>⟧.distrusts parts.old parts.new)
-            (AsksTo self.old.session (⟦<Parts<A, H, G, R> as Asked>⟧.calls parts.old)
-            (⟦<Parts<A, H, G, R> as Asked>⟧.calls parts.new)) self.old e self.new) }
+        ensures wants { result ≡ Err Memory → ⟦<Parts<A, H, G, R> as Served>⟧.wants self.old parts.old }
+        ensures stops { IfErr result (λ e. ⟦<Parts<A, H, G, R> as Served>⟧.stops self.old parts.old parts.new e
+            self.new) }
     {
         let Some(incoming) = self.reader.next(&mut self.opening)? else {
             return Ok(None);
@@ -580,20 +523,15 @@ impl<'c> Connection<'c> {
         ensures live { OnOk result (IsLive self.new) }
         ensures shorter { IfOk result (λ read. IsTrue read → length self.new.reader.waiting < length
             self.old.reader.waiting) }
-        ensures reads { OnOk result (Reads (⟦<Parts<A, H, G, R> as Handed>⟧.says self.old.session.config.now parts.old)
-            self.old self.new) }
+        ensures reads { OnOk result (⟦<Parts<A, H, G, R> as Served>⟧.reads self.old parts.old self.new) }
         ensures part { result ≡ Ok false → WaitsInPart (reading_of self.new) self.new.reader.waiting }
-        ensures stops { IfErr result (λ e. Stops (⟦<Parts<A, H, G, R> as Handed>⟧.says self.old.session.config.now
-            parts.old)
-            (⟦<Parts<A, H, G, R> as Handed>⟧.denies parts.old parts.new)
-            (⟦<Parts<A, H, G, R> as Asked>⟧.distrusts parts.old parts.new)
-            (AsksTo self.old.session (⟦<Parts<A, H, G, R> as Asked>⟧.calls parts.old)
-            (⟦<Parts<A, H, G, R> as Asked>⟧.calls parts.new)) self.old e self.new) }
+        ensures stops { IfErr result (λ e. ⟦<Parts<A, H, G, R> as Served>⟧.stops self.old parts.old parts.new e
+            self.new) }
         ensures fixed { IsFixed self.old.session self.new.session }
         ensures unfailed { self.new.failed ≡ self.old.failed }
         ensures keeps { ⟦<Parts<A, H, G, R> as Handed>⟧.keeps parts.old parts.new }
-        ensures asks { OnOk result (AsksBetween self.old.session self.new.session
-            (⟦<Parts<A, H, G, R> as Asked>⟧.calls parts.old) (⟦<Parts<A, H, G, R> as Asked>⟧.calls parts.new)) }
+        ensures asks { OnOk result (⟦<Parts<A, H, G, R> as Attended>⟧.asks self.old.session self.new.session parts.old
+            parts.new) }
     {
         let Some(handled) = self.take_packet(parts)? else {
             return Ok(false);

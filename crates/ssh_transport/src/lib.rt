@@ -5,6 +5,7 @@ mod config;
 mod connection;
 mod machine;
 mod message;
+mod served;
 mod session;
 mod transport;
 

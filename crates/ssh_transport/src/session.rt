@@ -1,7 +1,6 @@
 //! What a side says: its version line, its messages of exchanges, the payloads that it seals or holds.
 
 ghost use Rattle.std.specs.Prelude.{◌≡◌, [], ◌++◌, ◌+◌, ◌<◌, ◌≤◌, ◌-◌, if◌then◌else◌, ◌^◌, ◌||◌, ◌&&◌, ◌⊎◌, ℕ, nat_le, not, List, Some, Ok, Err, true, false, IfErr, IfOk, IfSome, OnErr, OnOk, length, take};
-ghost use Rattle.ssh_rules.specs.Asking.{AsksForMessage, AsksForType};
 ghost use Rattle.ssh_rules.specs.MessageTypes.{is_payload_type, is_violation};
 ghost use Rattle.ssh_transport.specs.Asking.{asks_trust};
 ghost use Rattle.ssh_transport.specs.Drawing.{AtMostNext, GoesNext, kexinit_packet, packet_with, writing_at};
@@ -11,7 +10,7 @@ ghost use Rattle.ssh_kex.specs.Parts.{KeepsHosts};
 ghost use Rattle.ssh_packet.specs.Sealing.{next_number};
 ghost use Rattle.ssh_packet.specs.Stream.{message_type as message_type_of};
 ghost use Rattle.ssh_wire.specs.Orders.{is_kex};
-ghost use Rattle.ssh_rules.specs.Machine.{Inside, Outside, cause_of, names_now};
+ghost use Rattle.ssh_rules.specs.Machine.{Outside, cause_of, names_now};
 ghost use Rattle.ssh_rules.specs.Refusing.{untrusted_of};
 ghost use Rattle.ssh_rules.specs.Standing.{is_outside, lets_pass};
 ghost use Rattle.ssh_rules.specs.Valid.{config_fault, is_good_payload};
@@ -22,6 +21,7 @@ ghost use Rattle.ssh_wire.specs.declared.error.ConfigFault.{ConfigFault};
 use crate::config::config_fault;
 use crate::machine::SessionKex;
 use crate::message::{is_idle, is_payload, type_of};
+use crate::served::Attended;
 use rand_core::Rng;
 use ssh_kex::{
     Agreement, Config, FinishedExchange, GroupLookup, Handed, HostKeys, KexProgress, NewKeys,
@@ -29,7 +29,6 @@ use ssh_kex::{
 };
 use ssh_negotiate::KexCause;
 use ssh_packet::{Incoming, OpenKey, PacketWriter};
-use ssh_rules::Asked;
 use ssh_wire::{
     Error, IdProgress, Payload, ReadSshIdBuffer, Side, is_kex_msg, msg,
     validate_client_msg_strict_kex, validate_server_msg_strict_kex,
@@ -64,12 +63,11 @@ pub(crate) enum Handled {
 }
 
 impl<'c> Session<'c> {
-    ghost use Rattle.ssh_transport.specs.Asking.{AsksBetween, MoveAsks};
-    ghost use Rattle.ssh_transport.specs.Handling.{Handles, Installs, IsBegun, IsFor, IsOpen, Moves, Passes, counts_guess, is_ordered, may_deliver_by};
+    ghost use Rattle.ssh_transport.specs.Handling.{Installs, IsBegun, IsFor, IsOpen, Passes, counts_guess, is_ordered, may_deliver_by};
     ghost use Rattle.ssh_transport.specs.Saying.{AreGood, Begins, GoesOn, GoesPart, IsFixed, IsSettled, IsUnsaid, Opens};
     ghost use Rattle.ssh_transport.specs.Hearing.{EndsBy, HearsLine};
     ghost use Rattle.ssh_transport.specs.States.{CanBegin, IsFresh, IsUnheard, WaitsBehind, is_silent, stands_of};
-    ghost use Rattle.ssh_transport.specs.Stopping.{Appends, BeginsAt, BreaksAt, HearsNot, IsAsBefore, IsForNone, Refuses, RefusesMove, WantsKeys};
+    ghost use Rattle.ssh_transport.specs.Stopping.{Appends, BeginsAt, BreaksAt, HearsNot, IsAsBefore, IsForNone, WantsKeys};
     ghost use Rattle.ssh_transport.specs.Submitting.{Submits};
 
     /// A side that has sent its version line. InvalidConfig where the configuration may not be used; Memory.
@@ -278,18 +276,13 @@ impl<'c> Session<'c> {
         ensures unheard { OnOk result (IsUnheard self.new) }
         ensures fixed { IsFixed self.old self.new }
         ensures keeps { ⟦<Parts<A, H, G, R> as Handed>⟧.keeps parts.old parts.new }
-        ensures asks { OnOk result (AsksBetween self.old self.new (⟦<Parts<A, H, G, R> as Asked>⟧.calls parts.old)
-            (⟦<Parts<A, H, G, R> as Asked>⟧.calls parts.new)) }
-        ensures asked { OnErr result (AsksForType (is_kex (message_type_of incoming.entry.payload.now)) self.old.side
-            (stands_of self.old.finished.items self.old.kex)
-            (⟦<Parts<A, H, G, R> as Asked>⟧.calls parts.old) (⟦<Parts<A, H, G, R> as Asked>⟧.calls parts.new)) }
-        ensures handled { IfOk result (λ h. Handles (⟦<Parts<A, H, G, R> as Handed>⟧.says self.old.config.now parts.old)
-            self.old incoming.entry.seqn incoming.entry.payload.now h self.new) }
-        ensures refuses { IfErr result (λ e. Refuses (⟦<Parts<A, H, G, R> as Handed>⟧.says self.old.config.now
-            parts.old)
-            (⟦<Parts<A, H, G, R> as Handed>⟧.denies parts.old parts.new)
-            (⟦<Parts<A, H, G, R> as Asked>⟧.distrusts parts.old parts.new) self.old incoming.entry.seqn
-            incoming.entry.payload.now e) }
+        ensures asks { OnOk result (⟦<Parts<A, H, G, R> as Attended>⟧.asks self.old self.new parts.old parts.new) }
+        ensures asked { OnErr result (⟦<Parts<A, H, G, R> as Attended>⟧.asks_for self.old incoming.entry parts.old
+            parts.new) }
+        ensures handled { IfOk result (λ h. ⟦<Parts<A, H, G, R> as Attended>⟧.handles self.old parts.old incoming.entry
+            h self.new) }
+        ensures refuses { IfErr result (λ e. ⟦<Parts<A, H, G, R> as Attended>⟧.refuses self.old parts.old parts.new
+            incoming.entry e) }
         ensures rests { OnErr result (IsAsBefore self.old self.new) }
         ensures delivers { result ≡ Ok Delivers → self.new ≡ self.old }
         ensures others { OnOk result (is_kex (message_type_of incoming.entry.payload.now) ≡ false → self.new
@@ -332,18 +325,13 @@ impl<'c> Session<'c> {
         ensures unheard { OnOk result (IsUnheard self.new) }
         ensures fixed { IsFixed self.old self.new }
         ensures keeps { ⟦<Parts<A, H, G, R> as Handed>⟧.keeps parts.old parts.new }
-        ensures asks { OnOk result (AsksBetween self.old self.new (⟦<Parts<A, H, G, R> as Asked>⟧.calls parts.old)
-            (⟦<Parts<A, H, G, R> as Asked>⟧.calls parts.new)) }
-        ensures asked { OnErr result (AsksForType (is_kex (message_type_of incoming.entry.payload.now)) self.old.side
-            (stands_of self.old.finished.items self.old.kex)
-            (⟦<Parts<A, H, G, R> as Asked>⟧.calls parts.old) (⟦<Parts<A, H, G, R> as Asked>⟧.calls parts.new)) }
-        ensures handled { IfOk result (λ h. Handles (⟦<Parts<A, H, G, R> as Handed>⟧.says self.old.config.now parts.old)
-            self.old incoming.entry.seqn incoming.entry.payload.now h self.new) }
-        ensures refuses { IfErr result (λ e. Refuses (⟦<Parts<A, H, G, R> as Handed>⟧.says self.old.config.now
-            parts.old)
-            (⟦<Parts<A, H, G, R> as Handed>⟧.denies parts.old parts.new)
-            (⟦<Parts<A, H, G, R> as Asked>⟧.distrusts parts.old parts.new) self.old incoming.entry.seqn
-            incoming.entry.payload.now e) }
+        ensures asks { OnOk result (⟦<Parts<A, H, G, R> as Attended>⟧.asks self.old self.new parts.old parts.new) }
+        ensures asked { OnErr result (⟦<Parts<A, H, G, R> as Attended>⟧.asks_for self.old incoming.entry parts.old
+            parts.new) }
+        ensures handled { IfOk result (λ h. ⟦<Parts<A, H, G, R> as Attended>⟧.handles self.old parts.old incoming.entry
+            h self.new) }
+        ensures refuses { IfErr result (λ e. ⟦<Parts<A, H, G, R> as Attended>⟧.refuses self.old parts.old parts.new
+            incoming.entry e) }
         ensures appends { OnErr result (Appends self.old self.new) }
         ensures delivers { result ≡ Ok Delivers → self.new ≡ self.old }
         ensures others { OnOk result (is_kex (message_type_of incoming.entry.payload.now) ≡ false → self.new
@@ -472,17 +460,12 @@ impl<'c> Session<'c> {
         ensures unheard { OnOk result (IsUnheard self.new) }
         ensures fixed { IsFixed self.old self.new }
         ensures keeps { ⟦<Parts<A, H, G, R> as Handed>⟧.keeps parts.old parts.new }
-        ensures asks { OnOk result (AsksBetween self.old self.new (⟦<Parts<A, H, G, R> as Asked>⟧.calls parts.old)
-            (⟦<Parts<A, H, G, R> as Asked>⟧.calls parts.new)) }
-        ensures asked { OnErr result (AsksForMessage self.old.side (stands_of self.old.finished.items self.old.kex)
-            (⟦<Parts<A, H, G, R> as Asked>⟧.calls parts.old) (⟦<Parts<A, H, G, R> as Asked>⟧.calls parts.new)) }
-        ensures handled { IfOk result (λ h. Handles (⟦<Parts<A, H, G, R> as Handed>⟧.says self.old.config.now parts.old)
-            self.old incoming.entry.seqn incoming.entry.payload.now h self.new) }
-        ensures refuses { IfErr result (λ e. Refuses (⟦<Parts<A, H, G, R> as Handed>⟧.says self.old.config.now
-            parts.old)
-            (⟦<Parts<A, H, G, R> as Handed>⟧.denies parts.old parts.new)
-            (⟦<Parts<A, H, G, R> as Asked>⟧.distrusts parts.old parts.new) self.old incoming.entry.seqn
-            incoming.entry.payload.now e) }
+        ensures asks { OnOk result (⟦<Parts<A, H, G, R> as Attended>⟧.asks self.old self.new parts.old parts.new) }
+        ensures asked { OnErr result (⟦<Parts<A, H, G, R> as Attended>⟧.asks_for_message self.old parts.old parts.new) }
+        ensures handled { IfOk result (λ h. ⟦<Parts<A, H, G, R> as Attended>⟧.handles self.old parts.old incoming.entry
+            h self.new) }
+        ensures refuses { IfErr result (λ e. ⟦<Parts<A, H, G, R> as Attended>⟧.refuses self.old parts.old parts.new
+            incoming.entry e) }
         ensures appends { OnErr result (Appends self.old self.new) }
         ensures takes { result ≡ Ok Delivers → ⊥ }
         ensures opened { OnOk result (IsOpen self.new) }
@@ -507,17 +490,13 @@ impl<'c> Session<'c> {
         ensures unheard { OnOk result (IsUnheard self.new) }
         ensures fixed { IsFixed self.old self.new }
         ensures keeps { ⟦<Parts<A, H, G, R> as Handed>⟧.keeps parts.old parts.new }
-        ensures asks { OnOk result (MoveAsks kex.entry.setting.side kex.entry.stage
-            (stands_of self.new.finished.items self.new.kex)
-            (⟦<Parts<A, H, G, R> as Asked>⟧.calls parts.old) (⟦<Parts<A, H, G, R> as Asked>⟧.calls parts.new)) }
-        ensures asked { OnErr result (AsksForMessage kex.entry.setting.side (Inside kex.entry.stage)
-            (⟦<Parts<A, H, G, R> as Asked>⟧.calls parts.old) (⟦<Parts<A, H, G, R> as Asked>⟧.calls parts.new)) }
-        ensures moves { IfOk result (λ h. Moves (⟦<Parts<A, H, G, R> as Handed>⟧.says kex.entry.setting.config
-            parts.old) self.old kex.entry incoming.entry h self.new) }
-        ensures refuses { IfErr result (λ e. RefusesMove (⟦<Parts<A, H, G, R> as Handed>⟧.says kex.entry.setting.config
-            parts.old)
-            (⟦<Parts<A, H, G, R> as Handed>⟧.denies parts.old parts.new)
-            (⟦<Parts<A, H, G, R> as Asked>⟧.distrusts parts.old parts.new) kex.entry incoming.entry e) }
+        ensures asks { OnOk result (⟦<Parts<A, H, G, R> as Attended>⟧.asks_for_move kex.entry self.new parts.old
+            parts.new) }
+        ensures asked { OnErr result (⟦<Parts<A, H, G, R> as Attended>⟧.asks_inside kex.entry parts.old parts.new) }
+        ensures moves { IfOk result (λ h. ⟦<Parts<A, H, G, R> as Attended>⟧.moves self.old parts.old kex.entry
+            incoming.entry h self.new) }
+        ensures refuses { IfErr result (λ e. ⟦<Parts<A, H, G, R> as Attended>⟧.refuses_move kex.entry parts.old
+            parts.new incoming.entry e) }
         ensures appends { OnErr result (Appends self.old self.new) }
     {
         match kex.step(parts, incoming, &mut self.writer)? {
@@ -548,13 +527,13 @@ impl<'c> Session<'c> {
         ensures held { self.new.held ≡ self.old.held }
         ensures unheard { OnOk result (IsUnheard self.new) }
         ensures fixed { IsFixed self.old self.new }
-        ensures keeps { KeepsHosts H.lawful H.obliging H.accepts H.trusts H.refused_sign H.refused_verify
+        ensures keeps { KeepsHosts H.lawful H.signs H.judges H.accepts H.trusts H.refused_sign H.refused_verify
             H.refused_check H.calls hosts.old hosts.new }
         ensures calls { H.calls hosts.new ≤ H.calls hosts.old + asks_trust host }
         ensures trusted { OnOk result (IfSome host (λ h. H.trusts hosts.old h ≡ true)) }
         ensures installs { IfOk result (λ h. Installs self.old newkeys h self.new) }
         ensures refused { IfErr result (λ e. (e ≡ Memory) ⊎ ((e ≡ UnknownKey) × IsDistrusted
-            (untrusted_of H.obliging H.trusts H.refused_check hosts.old hosts.new) host)) }
+            (untrusted_of H.judges H.trusts H.refused_check hosts.old hosts.new) host)) }
         ensures rests { OnErr result (IsAsBefore self.old self.new) }
     {
         check_host(self.alloc, hosts, host)?;
@@ -639,12 +618,12 @@ fn check_host<H: HostKeys>(
     hosts: &mut H,
     host: Option<ServerHost>,
 ) -> Result<(), Error>
-    ensures keeps { KeepsHosts H.lawful H.obliging H.accepts H.trusts H.refused_sign H.refused_verify H.refused_check
-        H.calls hosts.old hosts.new }
+    ensures keeps { KeepsHosts H.lawful H.signs H.judges H.accepts H.trusts H.refused_sign H.refused_verify
+        H.refused_check H.calls hosts.old hosts.new }
     ensures calls { H.calls hosts.new ≤ H.calls hosts.old + asks_trust host }
     ensures trusted { OnOk result (IfSome host (λ h. H.trusts hosts.old h ≡ true)) }
     ensures refused { IfErr result (λ e. (e ≡ Memory) ⊎ ((e ≡ UnknownKey) × IsDistrusted
-        (untrusted_of H.obliging H.trusts H.refused_check hosts.old hosts.new) host)) }
+        (untrusted_of H.judges H.trusts H.refused_check hosts.old hosts.new) host)) }
 {
     let Some(host) = host else {
         return Ok(());

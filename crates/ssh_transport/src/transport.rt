@@ -16,8 +16,9 @@ use crate::connection::Connection;
 use rand_core::Rng;
 use ssh_kex::{Agreement, Config, FinishedExchange, GroupLookup, Handed, HostKeys, Parts};
 use ssh_rules::Asked;
+use ssh_rules::link::ExchangeList;
 use ssh_wire::{Error, PayloadList, Side};
-use std::alloc::Global;
+use std::alloc::{AllocError, Global};
 use std::marker::Model;
 use std::mem;
 
@@ -294,6 +295,14 @@ impl<'c> Transport<'c> {
         ensures { result ≡ length (unfinished self.now) }
     {
         self.connection.unfinished()
+    }
+
+    /// All finished exchanges, the first one first. Memory.
+    pub fn exchanges(&self) -> Result<ExchangeList, AllocError>
+        ensures { IfOk result (λ list. list ≡ self.now.state.records) }
+    {
+        let finished = self.connection.session.finished.as_slice();
+        Ok(ExchangeList::new(Vec::from_slice(self.connection.alloc, finished)?))
     }
 
     /// A finished exchange, counted from 1.

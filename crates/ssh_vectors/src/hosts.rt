@@ -98,7 +98,9 @@ impl HostKeys for TestHosts {
 
     ghost lawful = { λ v s. Unit {0} };
 
-    ghost obliging = { λ v later s. TrustsAll v.trusted s.server };
+    ghost signs = { λ v later s. Unit {0} };
+
+    ghost judges = { λ v later s. TrustsAll v.trusted s.server };
 
     ghost refused_sign = { λ v. 0 };
 
@@ -108,11 +110,13 @@ impl HostKeys for TestHosts {
 
     ghost calls = { λ v. v.calls };
 
-    ghost obliging_lawful = { λ v later s o. tt };
+    ghost signs_lawful = { λ v later s o. tt };
 
-    ghost obliging_trusts = { λ v later s host key o p. all_trusted v.trusted s.server host key o p };
+    ghost judges_lawful = { λ v later s o. tt };
 
-    ghost obliging_accepts = { λ v later s host hash signature o m.
+    ghost judges_trusts = { λ v later s host key o p. all_trusted v.trusted s.server host key o p };
+
+    ghost judges_accepts = { λ v later s host hash signature o m.
         all_accepted v.trusted s.server host hash signature o m };
 
     fn sign(
@@ -124,8 +128,8 @@ impl HostKeys for TestHosts {
     ) -> Result<Blob, Refusal>
         ensures exact { IfOk result (λ v. v ≡ test_signature algorithm key.now.blob hash.now) }
         ensures small { IfOk result (λ v. IsSmall v) }
-        ensures made { (later : TestHosts) (s : Setup) (host : ServerHost) → TrustsAll self.old.trusted s.server
-            → Presents s.server host key.now algorithm → IfOk result (λ v. Makes s.server host hash.now (judged v)) }
+        ensures made { (s : Setup) (host : ServerHost) → Presents s.server host key.now algorithm
+            → IfOk result (λ v. Makes s.server host hash.now (judged v)) }
         ensures after { self.new ≡ hosts_asked self.old false false }
         ensures err { IfErr result (λ e. e ≡ Memory) }
     {

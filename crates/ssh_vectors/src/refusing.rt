@@ -204,7 +204,9 @@ impl<H: HostKeys> HostKeys for Refusing<H> {
 
     ghost lawful = { Within H.lawful };
 
-    ghost obliging = { Obliges H.obliging };
+    ghost signs = { Obliges H.signs };
+
+    ghost judges = { Obliges H.judges };
 
     ghost refused_sign = { refusals_at 0 H.refused_sign };
 
@@ -214,12 +216,14 @@ impl<H: HostKeys> HostKeys for Refusing<H> {
 
     ghost calls = { λ v. v.calls };
 
-    ghost obliging_lawful = { λ v later s o. H.obliging_lawful v.inner later.inner s o.0 };
+    ghost signs_lawful = { λ v later s o. H.signs_lawful v.inner later.inner s o.0 };
 
-    ghost obliging_trusts = { λ v later s host key o. H.obliging_trusts v.inner later.inner s host key o.0 };
+    ghost judges_lawful = { λ v later s o. H.judges_lawful v.inner later.inner s o.0 };
 
-    ghost obliging_accepts = { λ v later s host hash signature o.
-        H.obliging_accepts v.inner later.inner s host hash signature o.0 };
+    ghost judges_trusts = { λ v later s host key o. H.judges_trusts v.inner later.inner s host key o.0 };
+
+    ghost judges_accepts = { λ v later s host hash signature o.
+        H.judges_accepts v.inner later.inner s host hash signature o.0 };
 
     fn sign(
         &mut self,
@@ -235,18 +239,19 @@ impl<H: HostKeys> HostKeys for Refusing<H> {
         ensures own { CountsCall 0 self.old self.new }
         ensures counts { Counted (refusals_at 0 H.refused_sign self.old) (refusals_at 0 H.refused_sign self.new)
             self.old.calls self.new.calls result }
-        ensures keeps { KeepsHosts (Within H.lawful) (Obliges H.obliging) (λ v. H.accepts v.inner)
+        ensures keeps { KeepsHosts (Within H.lawful) (Obliges H.signs) (Obliges H.judges) (λ v. H.accepts v.inner)
             (λ v. H.trusts v.inner) (refusals_at 0 H.refused_sign) (refusals_at 1 H.refused_verify)
             (refusals_at 2 H.refused_check) (λ v. v.calls) self.old self.new }
         ensures verify { refusals_at 1 H.refused_verify self.new ≡ refusals_at 1 H.refused_verify self.old }
         ensures check { refusals_at 2 H.refused_check self.new ≡ refusals_at 2 H.refused_check self.old }
         ensures values { IfOk result (λ v. IsValue v) }
         ensures small { (s : Setup) → H.lawful self.old.inner s → IfOk result (λ v. IsSmall v) }
-        ensures made { (later : Refusing H) (s : Setup) (host : ServerHost) → Obliges H.obliging self.old later s
+        ensures made { (later : Refusing H) (s : Setup) (host : ServerHost) → Obliges H.signs self.old later s
             → Presents s.server host key.now algorithm → IfOk result (λ v. H.makes s.server host hash.now (judged v)) }
-        ensures only { (s : Setup) → H.obliging self.old.inner self.new.inner s → IsRefused result
-            → refuses_next self.old ≡ true }
-        ensures never { (s : Setup) → Obliges H.obliging self.old self.new s → IsRefused result → ⊥ }
+        ensures only { (s : Setup) (host : ServerHost) → H.signs self.old.inner self.new.inner s
+            → Presents s.server host key.now algorithm → IsRefused result → refuses_next self.old ≡ true }
+        ensures never { (s : Setup) (host : ServerHost) → Obliges H.signs self.old self.new s
+            → Presents s.server host key.now algorithm → IsRefused result → ⊥ }
     {
         if refuses(self.refuse_at, &mut self.calls, &mut self.refusals[0]) {
             return Err(Refusal::Refused);
@@ -268,16 +273,16 @@ impl<H: HostKeys> HostKeys for Refusing<H> {
         ensures own { CountsCall 1 self.old self.new }
         ensures counts { Counted (refusals_at 1 H.refused_verify self.old) (refusals_at 1 H.refused_verify self.new)
             self.old.calls self.new.calls result }
-        ensures keeps { KeepsHosts (Within H.lawful) (Obliges H.obliging) (λ v. H.accepts v.inner)
+        ensures keeps { KeepsHosts (Within H.lawful) (Obliges H.signs) (Obliges H.judges) (λ v. H.accepts v.inner)
             (λ v. H.trusts v.inner) (refusals_at 0 H.refused_sign) (refusals_at 1 H.refused_verify)
             (refusals_at 2 H.refused_check) (λ v. v.calls) self.old self.new }
         ensures sign { refusals_at 0 H.refused_sign self.new ≡ refusals_at 0 H.refused_sign self.old }
         ensures check { refusals_at 2 H.refused_check self.new ≡ refusals_at 2 H.refused_check self.old }
         ensures ok { OnOk result (H.accepts self.old.inner host.now hash.now signature.now ≡ true) }
-        ensures only { (s : Setup) → H.obliging self.old.inner self.new.inner s
+        ensures only { (s : Setup) → H.judges self.old.inner self.new.inner s
             → H.accepts self.old.inner host.now hash.now signature.now ≡ true
             → IsRefused result → refuses_next self.old ≡ true }
-        ensures never { (s : Setup) → Obliges H.obliging self.old self.new s
+        ensures never { (s : Setup) → Obliges H.judges self.old self.new s
             → H.accepts self.old.inner host.now hash.now signature.now ≡ true
             → IsRefused result → ⊥ }
     {
@@ -295,16 +300,16 @@ impl<H: HostKeys> HostKeys for Refusing<H> {
         ensures own { CountsCall 2 self.old self.new }
         ensures counts { Counted (refusals_at 2 H.refused_check self.old) (refusals_at 2 H.refused_check self.new)
             self.old.calls self.new.calls result }
-        ensures keeps { KeepsHosts (Within H.lawful) (Obliges H.obliging) (λ v. H.accepts v.inner)
+        ensures keeps { KeepsHosts (Within H.lawful) (Obliges H.signs) (Obliges H.judges) (λ v. H.accepts v.inner)
             (λ v. H.trusts v.inner) (refusals_at 0 H.refused_sign) (refusals_at 1 H.refused_verify)
             (refusals_at 2 H.refused_check) (λ v. v.calls) self.old self.new }
         ensures sign { refusals_at 0 H.refused_sign self.new ≡ refusals_at 0 H.refused_sign self.old }
         ensures verify { refusals_at 1 H.refused_verify self.new ≡ refusals_at 1 H.refused_verify self.old }
         ensures ok { OnOk result (H.trusts self.old.inner host.now ≡ true) }
-        ensures only { (s : Setup) → H.obliging self.old.inner self.new.inner s
+        ensures only { (s : Setup) → H.judges self.old.inner self.new.inner s
             → H.trusts self.old.inner host.now ≡ true
             → IsRefused result → refuses_next self.old ≡ true }
-        ensures never { (s : Setup) → Obliges H.obliging self.old self.new s → H.trusts self.old.inner host.now ≡ true
+        ensures never { (s : Setup) → Obliges H.judges self.old self.new s → H.trusts self.old.inner host.now ≡ true
             → IsRefused result → ⊥ }
     {
         if refuses(self.refuse_at, &mut self.calls, &mut self.refusals[2]) {

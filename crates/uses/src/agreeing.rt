@@ -69,7 +69,7 @@ pub fn agree_in_group<A: Agreement, H: HostKeys, G: GroupLookup, R: Rng>(
     ensures never { (s : Setup) (key : HostKey)
         → A.obliging client.old.agreement client.new.agreement s
         → A.obliging server.old.agreement server.new.agreement s
-        → H.obliging client.old.hosts client.new.hosts s → G.obliging server.old.groups server.new.groups s
+        → H.judges client.old.hosts client.new.hosts s → G.obliging server.old.groups server.new.groups s
         → A.offered client.old.agreement name ≡ true → A.offered server.old.agreement name ≡ true
         → Presents s.server host.now key host.now.algorithm → IsRefused result → ⊥ }
 {

@@ -13,19 +13,17 @@ use ssh_rules::same_delivered;
 use ssh_wire::Error;
 use std::alloc::Global;
 
-/// Runs two sides of these configurations twice, by either list of steps, each time with parts of their own. What a
-/// side is delivered rests on the bytes that it was fed and on the exchanges that it recorded, and not on where the
-/// bytes were cut.
+/// Runs two sides of these configurations twice, by either list of steps, each time with a client's and a server's
+/// parts of their own. What a side is delivered rests on the bytes that it was fed and on the exchanges that it
+/// recorded, and not on where the bytes were cut.
 ///
 /// InvalidConfig where a configuration falls; Memory.
 pub fn attack_twice<A: Agreement, H: HostKeys, G: GroupLookup, R: Rng>(
     alloc: Global,
     client: &Config,
     server: &Config,
-    client_parts: &mut Parts<A, H, G, R>,
-    server_parts: &mut Parts<A, H, G, R>,
-    other_client: &mut Parts<A, H, G, R>,
-    other_server: &mut Parts<A, H, G, R>,
+    mut parts: (Parts<A, H, G, R>, Parts<A, H, G, R>),
+    mut other_parts: (Parts<A, H, G, R>, Parts<A, H, G, R>),
     steps: &[AttackStep],
     other_steps: &[AttackStep],
 ) -> Result<(AttackReport, AttackReport), Error>
@@ -41,13 +39,13 @@ pub fn attack_twice<A: Agreement, H: HostKeys, G: GroupLookup, R: Rng>(
         → both.0.server.delivered ≡ both.1.server.delivered) }
 {
     same_delivered::<A, H>();
-    let report = run_attacked(alloc, client, server, client_parts, server_parts, steps)?;
+    let report = run_attacked(alloc, client, server, &mut parts.0, &mut parts.1, steps)?;
     let other = run_attacked(
         alloc,
         client,
         server,
-        other_client,
-        other_server,
+        &mut other_parts.0,
+        &mut other_parts.1,
         other_steps,
     )?;
     Ok((report, other))

@@ -198,7 +198,9 @@ impl HostKeys for GivenHosts {
 
     ghost lawful = { λ given setup. ⊥ };
 
-    ghost obliging = { λ given later setup. ⊥ };
+    ghost signs = { λ given later setup. ⊥ };
+
+    ghost judges = { λ given later setup. ⊥ };
 
     ghost refused_sign = { λ given. 0 };
 
@@ -241,11 +243,13 @@ impl HostKeys for GivenHosts {
         Ok(())
     }
 
-    ghost obliging_lawful = { λ v later s obliging. obliging };
+    ghost signs_lawful = { λ v later s signs. signs };
 
-    ghost obliging_trusts = { λ v later s host key obliging. absurd obliging };
+    ghost judges_lawful = { λ v later s judges. judges };
 
-    ghost obliging_accepts = { λ v later s host hash signature obliging. absurd obliging };
+    ghost judges_trusts = { λ v later s host key judges. absurd judges };
+
+    ghost judges_accepts = { λ v later s host hash signature judges. absurd judges };
 }
 
 /// Answers the groups of exchanges, one after the other, whatever sizes are asked; the last one stays. No value of it

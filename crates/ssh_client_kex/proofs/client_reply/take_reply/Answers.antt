@@ -18,10 +18,10 @@ accept_reply-requires-clause-signature g c = (reply_short _ _ _ _ _ _ _ c.requir
 
 pub returns-clause-err : goal.returns-clause-err
 returns-clause-err g c = refuses_signature _ _ _
-    (λ host hash signature. Rose (g.H.HostKeys.refused_verify c.args.hosts.now) (g.H.HostKeys.refused_verify c.accept_reply.new.hosts) × ((s : Setup) → g.H.HostKeys.obliging c.args.hosts.now c.accept_reply.new.hosts s → g.H.HostKeys.accepts c.args.hosts.now host hash signature ≡ true → ⊥))
-    c.args.cause c.args.exchange c.args.names _ _ _ _ _ _ c.in-Ok.ensures.ok c.accept_reply.ensures.err
+    (λ host hash signature. Rose (g.H.HostKeys.refused_verify c.args.parts.now.hosts) (g.H.HostKeys.refused_verify c.accept_reply.new.hosts) × ((s : Setup) → g.H.HostKeys.judges c.args.parts.now.hosts c.accept_reply.new.hosts s → g.H.HostKeys.accepts c.args.parts.now.hosts host hash signature ≡ true → ⊥))
+    c.args.base.cause c.args.base.exchange c.args.names _ _ _ _ _ _ c.in-Ok.ensures.ok c.accept_reply.ensures.err
 
 pub returns-clause-agreed : goal.returns-clause-agreed
 returns-clause-agreed g c =
-    read_whole _ (λ v x. (s : Setup) (public : List ℕ) → g.A.Agreement.lawful c.args.agreement.now s → g.A.Agreement.client_makes c.args.algorithm.name c.args.algorithm.group (local_of c.args.algorithm.local) public → g.A.Agreement.agrees c.args.algorithm.name c.args.algorithm.group public v x)
+    read_whole _ (λ v x. (s : Setup) (public : List ℕ) → g.A.Agreement.lawful c.args.parts.now.agreement s → g.A.Agreement.client_makes c.args.algorithm.name c.args.algorithm.group (local_of c.args.algorithm.local) public → g.A.Agreement.agrees c.args.algorithm.name c.args.algorithm.group public v x)
     c.args.payload.now c.accept_reply.result c.accept_reply.ensures.err

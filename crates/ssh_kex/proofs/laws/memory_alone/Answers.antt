@@ -10,7 +10,7 @@ returns g c = λ setup config a a' h h' gr gr' m i old new p error la lh none sm
       value = λ name group v d. none.agreement d.0;
       reply = λ name group l v d. none.agreement d.0;
       lookup = λ sizes d. none.lookup d.0;
-      sign = λ d. none.sign d.0;
+      sign = λ config d. none.sign d.0;
       verify = λ host hash signature d. none.verify d.0;
     })
     small t r

@@ -9,7 +9,7 @@ returns g c = λ t a b h i gr j w cl sl side took piece old new v v' x x' y y' e
       value = λ name group public d. d.0;
       reply = λ name group local value d. d.0;
       lookup = λ sizes d. d.0;
-      sign = λ d. d.0;
+      sign = λ config d. d.0;
       verify = λ host hash signature d. d.0;
       check = λ host d. d.0;
     })

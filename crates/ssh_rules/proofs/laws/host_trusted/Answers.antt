@@ -12,4 +12,4 @@ returns g c = λ t a b h i gr j names w cl sl item exchange made host la lb lj v
       canonical = λ sizes group f. (f t lj).1;
     })
     next in
-    (p, λ later o. g.met.H.HostKeys.obliging_trusts h later t host p.0 o p.1)
+    (p, λ later o. g.met.H.HostKeys.judges_trusts h later t host p.0 o p.1)

@@ -8,11 +8,11 @@ use Rattle.ssh_rules.proofs.RefusedTurns.{refused_turn}
 use Rattle.ssh_rules.proofs.laws.none_refused_in_link.Goals as goal
 
 pub returns : goal.returns
-returns g c = λ t a a' b b' h h' i i' gr gr' j j' names w cl sl side took piece old new v x y error oa ob oh oi oj valid offers ka kh kg r.
+returns g c = λ t a a' b b' h h' i i' gr gr' j j' names w cl sl side took piece old new v x y error oa ob jh si oj valid offers ka kh kg r.
     let la = g.met.A.Agreement.obliging_lawful a a' t oa in
     let lb = g.met.A.Agreement.obliging_lawful b b' t ob in
-    let lh = g.met.H.HostKeys.obliging_lawful h h' t oh in
-    let li = g.met.H.HostKeys.obliging_lawful i i' t oi in
+    let lh = g.met.H.HostKeys.judges_lawful h h' t jh in
+    let li = g.met.H.HostKeys.signs_lawful i i' t si in
     let lj = g.met.G.GroupLookup.obliging_lawful j j' t oj in
     none_in_link _ _ names side _ _ w error
     (record {
@@ -22,15 +22,15 @@ returns g c = λ t a a' b b' h h' i i' gr gr' j j' names w cl sl side took piece
       secret = λ name group local client server p q cm sm cp sq. g.met.A.Agreement.one_secret a t name group local client server p q la (cm t la) (sm t lb) (cp t la) (sq t lb);
       canonical = λ sizes group f. (f t lj).1;
     })
-    (duties_of _ _ _ _ _ _ _ _ _ _ _ _ _ _ _ _ _ _ _ _ _ _
-    (record { agreement = g.met.A.Agreement.obliging_lawful; lookup = g.met.G.GroupLookup.obliging_lawful; fits = g.met.G.GroupLookup.fitting; accepted = g.met.H.HostKeys.obliging_accepts; trusted = g.met.H.HostKeys.obliging_trusts })
-    t a a' b b' h h' i i' gr gr' j j' names.kex side v x y oa ob oh oi lj (λ k. oj) offers ka kh kg)
-    (small_of g.A.Agreement.lawful g.A.Agreement.offered g.A.Agreement.client_makes g.A.Agreement.server_makes g.A.Agreement.agrees g.H.HostKeys.lawful g.H.HostKeys.obliging g.H.HostKeys.accepts g.H.HostKeys.trusts g.H.HostKeys.makes g.G.GroupLookup.lawful g.G.GroupLookup.group g.met.G.GroupLookup.small t a b h i gr j side la lb lh li lj)
+    (duties_of _ _ _ _ _ _ _ _ _ _ _ _ _ _ _ _ _ _ _ _ _ _ _
+    (record { agreement = g.met.A.Agreement.obliging_lawful; lookup = g.met.G.GroupLookup.obliging_lawful; fits = g.met.G.GroupLookup.fitting; accepted = g.met.H.HostKeys.judges_accepts; trusted = g.met.H.HostKeys.judges_trusts })
+    t a a' b b' h h' i i' gr gr' j j' names.kex side v x y oa ob jh si lj (λ k. oj) offers ka kh kg)
+    (small_of g.A.Agreement.lawful g.A.Agreement.offered g.A.Agreement.client_makes g.A.Agreement.server_makes g.A.Agreement.agrees g.H.HostKeys.lawful g.H.HostKeys.signs g.H.HostKeys.judges g.H.HostKeys.accepts g.H.HostKeys.trusts g.H.HostKeys.makes g.G.GroupLookup.lawful g.G.GroupLookup.group g.met.G.GroupLookup.small t a b h i gr j side la lb lh li lj)
     (λ host key client p d.
-    let k = subst (λ z. KeepsHosts g.H.HostKeys.lawful g.H.HostKeys.obliging g.H.HostKeys.accepts g.H.HostKeys.trusts g.H.HostKeys.refused_sign g.H.HostKeys.refused_verify g.H.HostKeys.refused_check g.H.HostKeys.calls (one_of z h i) x) client kh in
-    let u = subst (λ z. untrusted_of g.H.HostKeys.obliging g.H.HostKeys.trusts g.H.HostKeys.refused_check x (one_of z h' i') host) client d in
-    let o = k.obliging_kept h' t oh in
-    u.1 t o (g.met.H.HostKeys.obliging_trusts x h' t host key o p))
+    let k = subst (λ z. KeepsHosts g.H.HostKeys.lawful g.H.HostKeys.signs g.H.HostKeys.judges g.H.HostKeys.accepts g.H.HostKeys.trusts g.H.HostKeys.refused_sign g.H.HostKeys.refused_verify g.H.HostKeys.refused_check g.H.HostKeys.calls (one_of z h i) x) client kh in
+    let u = subst (λ z. untrusted_of g.H.HostKeys.judges g.H.HostKeys.trusts g.H.HostKeys.refused_check x (one_of z h' i') host) client d in
+    let o = k.judges_kept h' t jh in
+    u.1 t o (g.met.H.HostKeys.judges_trusts x h' t host key o p))
     (refused_turn _ _ _ _ w cl sl side took piece old new error
     (record {
       valid = valid.valid;

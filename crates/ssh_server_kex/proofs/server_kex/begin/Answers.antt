@@ -13,13 +13,13 @@ returns-then-skip_exchange-clause-ok g c =
 
 pub waits-requires : goal.waits-requires
 waits-requires g c =
-    subst (λ b. CanBegin b c.args.config.now c.args.names c.args.exchange)
+    subst (λ b. CanBegin b c.args.base.config.now c.args.names c.args.base.exchange)
     (ap (λ (z : Agreeing). is_gex z.name) (sym c.new-algorithm.ensures) ∙ sym c.is_dh_gex.ensures ∙ c.if-is_dh_gex.true)
     (c.requires (ap (λ (z : Agreeing). (shape_of z.name).skip) (sym c.new-algorithm.ensures) ∙ sym c.skip_exchange.ensures ∙ c.if-skip_exchange.false))
 
 pub waits-requires-2 : goal.waits-requires-2
 waits-requires-2 g c =
-    subst (λ b. CanBegin b c.args.config.now c.args.names c.args.exchange)
+    subst (λ b. CanBegin b c.args.base.config.now c.args.names c.args.base.exchange)
     (ap (λ (z : Agreeing). is_gex z.name) (sym c.new-algorithm.ensures) ∙ sym c.is_dh_gex.ensures ∙ c.if-is_dh_gex.false)
     (c.requires (ap (λ (z : Agreeing). (shape_of z.name).skip) (sym c.new-algorithm.ensures) ∙ sym c.skip_exchange.ensures ∙ c.if-skip_exchange.false))
 

@@ -7,8 +7,8 @@ use Rattle.ssh_server_kex.proofs.server_kex.take_value.Goals as goal
 pub returns-in-Ok-clause-ok : goal.returns-in-Ok-clause-ok
 returns-in-Ok-clause-ok g c =
     record {
-      exchange = c.answer_value.new.exchange;
+      exchange = c.answer_value.new.base.exchange;
       made = (c.in-Ok.made, c.in-Ok.cipher);
       answers = c.in-Ok.ensures.ok;
-      done = c.waits.ensures ∙ ap (NeedsReply (server_machine c.args.config.now c.args.cause c.answer_value.new.exchange (states.AwaitsNewkeys c.in-Ok.made c.in-Ok.cipher))) c.begins_again-is_strict.ensures;
+      done = c.waits.ensures ∙ ap (NeedsReply (server_machine c.args.base.config.now c.args.base.cause c.answer_value.new.base.exchange (states.AwaitsNewkeys c.in-Ok.made c.in-Ok.cipher))) c.begins_again-is_strict.ensures;
     }

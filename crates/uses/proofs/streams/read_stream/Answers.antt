@@ -13,10 +13,10 @@ pieces-preserved g c =
     let within : c.pieces.taken + c.in_ok-taken.field-0 ≤ length c.args.bytes.now =
     (let room = room_within c.pieces.transport (length (drop c.pieces.taken c.args.bytes.now)) in let had = c.pieces.invariant.within in let size = kept.0 in omega (arith, room, had, size, length-drop c.pieces.taken c.args.bytes.now)) in
     record {
-      read = piece_more (λ (x : Config). says_of g.A.Agreement.lawful g.A.Agreement.offered g.A.Agreement.client_makes g.A.Agreement.server_makes g.A.Agreement.agrees g.H.HostKeys.lawful g.H.HostKeys.obliging g.H.HostKeys.accepts g.H.HostKeys.trusts g.H.HostKeys.makes g.G.GroupLookup.lawful g.G.GroupLookup.group x c.args.parts.now.agreement c.args.parts.now.hosts c.args.parts.now.groups) (λ (x : Config). says_of g.A.Agreement.lawful g.A.Agreement.offered g.A.Agreement.client_makes g.A.Agreement.server_makes g.A.Agreement.agrees g.H.HostKeys.lawful g.H.HostKeys.obliging g.H.HostKeys.accepts g.H.HostKeys.trusts g.H.HostKeys.makes g.G.GroupLookup.lawful g.G.GroupLookup.group x c.pieces.parts.agreement c.pieces.parts.hosts c.pieces.parts.groups) (λ (x : Config). kept_weaker _ _ _ _ _ _ _ _ _ g.H.HostKeys.makes _ _ _ _ _ _ _ _ _ _ _ _ _ _ _ _ _ _ _ c.pieces.invariant.agreement c.pieces.invariant.hosts c.pieces.invariant.groups) c.args.transport.now c.pieces.transport c.take_input.new.self c.read_kept-in-pieces.new.transport c.args.bytes.now c.pieces.taken c.in_ok-taken.field-0 c.pieces.lent.items later.0 c.read_kept-in-pieces.new.lent.items c.pieces.invariant.config c.pieces.invariant.read kept.1 later.2 later.1;
+      read = piece_more (λ (x : Config). says_of g.A.Agreement.lawful g.A.Agreement.offered g.A.Agreement.client_makes g.A.Agreement.server_makes g.A.Agreement.agrees g.H.HostKeys.lawful g.H.HostKeys.signs g.H.HostKeys.judges g.H.HostKeys.accepts g.H.HostKeys.trusts g.H.HostKeys.makes g.G.GroupLookup.lawful g.G.GroupLookup.group x c.args.parts.now.agreement c.args.parts.now.hosts c.args.parts.now.groups) (λ (x : Config). says_of g.A.Agreement.lawful g.A.Agreement.offered g.A.Agreement.client_makes g.A.Agreement.server_makes g.A.Agreement.agrees g.H.HostKeys.lawful g.H.HostKeys.signs g.H.HostKeys.judges g.H.HostKeys.accepts g.H.HostKeys.trusts g.H.HostKeys.makes g.G.GroupLookup.lawful g.G.GroupLookup.group x c.pieces.parts.agreement c.pieces.parts.hosts c.pieces.parts.groups) (λ (x : Config). kept_weaker _ _ _ _ _ _ _ _ _ _ g.H.HostKeys.makes _ _ _ _ _ _ _ _ _ _ _ _ _ _ _ _ _ _ _ c.pieces.invariant.agreement c.pieces.invariant.hosts c.pieces.invariant.groups) c.args.transport.now c.pieces.transport c.take_input.new.self c.read_kept-in-pieces.new.transport c.args.bytes.now c.pieces.taken c.in_ok-taken.field-0 c.pieces.lent.items later.0 c.read_kept-in-pieces.new.lent.items c.pieces.invariant.config c.pieces.invariant.read kept.1 later.2 later.1;
       within = within;
       config = c.read_kept-in-pieces.ensures.config ∙ (ap (λ (t : Standing). t.config) kept.1 ∙ c.pieces.invariant.config);
       agreement = agreement_after _ _ _ _ _ _ _ _ c.pieces.invariant.agreement c.read_kept-in-pieces.ensures.keeps.agreement;
-      hosts = hosts_after _ _ _ _ _ _ _ _ _ _ _ c.pieces.invariant.hosts c.read_kept-in-pieces.ensures.keeps.hosts;
+      hosts = hosts_after _ _ _ _ _ _ _ _ _ _ _ _ c.pieces.invariant.hosts c.read_kept-in-pieces.ensures.keeps.hosts;
       groups = groups_after _ _ _ _ _ _ _ _ c.pieces.invariant.groups c.read_kept-in-pieces.ensures.keeps.groups;
     }

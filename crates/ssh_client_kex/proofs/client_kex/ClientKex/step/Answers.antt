@@ -16,43 +16,43 @@ use Rattle.ssh_client_kex.proofs.client_kex.ClientKex.step.Goals as goal
 
 pub waits-requires : goal.waits-requires
 waits-requires g c =
-    subst (ClientHolds c.self.inside.config.now c.self.inside.exchange) (sym c.behind_guess-state.ensures) (still_holds c.self.inside.config.now c.self.inside.exchange c.self.inside.state c.self.invariant)
+    subst (ClientHolds c.self.inside.base.config.now c.self.inside.base.exchange) (sym c.behind_guess-state.ensures) (still_holds c.self.inside.base.config.now c.self.inside.base.exchange c.self.inside.state c.self.invariant)
 
 pub take_kexinit-requires-clause-short : goal.take_kexinit-requires-clause-short
 take_kexinit-requires-clause-short g c = subst (λ o. IfSome o (λ (i : Incoming). length i.payload.now < 2 ^ 31)) c.in-Some.is c.requires
 
 pub take_kexinit-requires-clause-sides : goal.take_kexinit-requires-clause-sides
-take_kexinit-requires-clause-sides g c = (subst (ClientHolds c.self.inside.config.now c.self.inside.exchange) c.in-Created.is c.self.invariant).1
+take_kexinit-requires-clause-sides g c = (subst (ClientHolds c.self.inside.base.config.now c.self.inside.base.exchange) c.in-Created.is c.self.invariant).1
 
 pub take_kexinit-requires-clause-none : goal.take_kexinit-requires-clause-none
-take_kexinit-requires-clause-none g c = (subst (ClientHolds c.self.inside.config.now c.self.inside.exchange) c.in-Created.is c.self.invariant).2
+take_kexinit-requires-clause-none g c = (subst (ClientHolds c.self.inside.base.config.now c.self.inside.base.exchange) c.in-Created.is c.self.invariant).2
 
 pub take_group-requires-clause-short : goal.take_group-requires-clause-short
 take_group-requires-clause-short g c = subst (λ o. IfSome o (λ (i : Incoming). length i.payload.now < 2 ^ 31)) c.in-Some.is c.requires
 
 pub take_group-requires-clause-sides : goal.take_group-requires-clause-sides
-take_group-requires-clause-sides g c = (subst (ClientHolds c.self.inside.config.now c.self.inside.exchange) c.in-AwaitsGroup.is c.self.invariant).0
+take_group-requires-clause-sides g c = (subst (ClientHolds c.self.inside.base.config.now c.self.inside.base.exchange) c.in-AwaitsGroup.is c.self.invariant).0
 
 pub take_group-requires-clause-exchanges : goal.take_group-requires-clause-exchanges
-take_group-requires-clause-exchanges g c = (subst (ClientHolds c.self.inside.config.now c.self.inside.exchange) c.in-AwaitsGroup.is c.self.invariant).1
+take_group-requires-clause-exchanges g c = (subst (ClientHolds c.self.inside.base.config.now c.self.inside.base.exchange) c.in-AwaitsGroup.is c.self.invariant).1
 
 pub take_group-requires-clause-gex : goal.take_group-requires-clause-gex
-take_group-requires-clause-gex g c = (subst (ClientHolds c.self.inside.config.now c.self.inside.exchange) c.in-AwaitsGroup.is c.self.invariant).2
+take_group-requires-clause-gex g c = (subst (ClientHolds c.self.inside.base.config.now c.self.inside.base.exchange) c.in-AwaitsGroup.is c.self.invariant).2
 
 pub take_reply-requires-clause-short : goal.take_reply-requires-clause-short
 take_reply-requires-clause-short g c = subst (λ o. IfSome o (λ (i : Incoming). length i.payload.now < 2 ^ 31)) c.in-Some.is c.requires
 
 pub take_reply-requires-clause-sides : goal.take_reply-requires-clause-sides
-take_reply-requires-clause-sides g c = (subst (ClientHolds c.self.inside.config.now c.self.inside.exchange) c.in-AwaitsReply.is c.self.invariant).0
+take_reply-requires-clause-sides g c = (subst (ClientHolds c.self.inside.base.config.now c.self.inside.base.exchange) c.in-AwaitsReply.is c.self.invariant).0
 
 pub take_reply-requires-clause-value : goal.take_reply-requires-clause-value
-take_reply-requires-clause-value g c = (subst (ClientHolds c.self.inside.config.now c.self.inside.exchange) c.in-AwaitsReply.is c.self.invariant).1
+take_reply-requires-clause-value g c = (subst (ClientHolds c.self.inside.base.config.now c.self.inside.base.exchange) c.in-AwaitsReply.is c.self.invariant).1
 
 pub returns-in-Created-clause-goes : goal.returns-in-Created-clause-goes
 returns-in-Created-clause-goes g c =
     rw (c.in-Some.is)
     (kexinit_progresses _ _ _ _ _ _ c.in-Some.incoming _ _ _ c.self.view_is c.in-Created.is
-    ((subst (ClientHolds c.self.inside.config.now c.self.inside.exchange) c.in-Created.is c.self.invariant).2) c.take_kexinit.ensures.ok)
+    ((subst (ClientHolds c.self.inside.base.config.now c.self.inside.base.exchange) c.in-Created.is c.self.invariant).2) c.take_kexinit.ensures.ok)
 
 pub returns-in-Created-clause-causes : goal.returns-in-Created-clause-causes
 returns-in-Created-clause-causes g c =
@@ -62,7 +62,7 @@ pub returns-in-AwaitsGroup-clause-goes : goal.returns-in-AwaitsGroup-clause-goes
 returns-in-AwaitsGroup-clause-goes g c =
     rw (c.in-Some.is)
     (group_progresses _ _ _ _ c.in-AwaitsGroup.names _ _ c.in-Some.incoming _ _ _ c.self.view_is c.in-AwaitsGroup.is (sym c.drops_guess.ensures ∙ c.if-drops_guess.false)
-    ((subst (ClientHolds c.self.inside.config.now c.self.inside.exchange) c.in-AwaitsGroup.is c.self.invariant).2) c.take_group.ensures.ok)
+    ((subst (ClientHolds c.self.inside.base.config.now c.self.inside.base.exchange) c.in-AwaitsGroup.is c.self.invariant).2) c.take_group.ensures.ok)
 
 pub returns-in-AwaitsGroup-clause-causes : goal.returns-in-AwaitsGroup-clause-causes
 returns-in-AwaitsGroup-clause-causes g c =
@@ -75,7 +75,7 @@ returns-in-AwaitsReply-clause-goes g c =
     (λ k q l v z public h cm s law. h s public law (cm s law))
     _ _ _ c.in-AwaitsReply.names c.in-AwaitsReply.algorithm _ _ c.in-Some.incoming _ _ _ c.self.view_is c.in-AwaitsReply.is (sym c.drops_guess.ensures ∙ c.if-drops_guess.false)
     (subst (λ o. IfSome o (λ (i : Incoming). length i.payload.now < 2 ^ 31)) c.in-Some.is c.requires)
-    ((subst (ClientHolds c.self.inside.config.now c.self.inside.exchange) c.in-AwaitsReply.is c.self.invariant).1) c.take_reply.ensures.ok)
+    ((subst (ClientHolds c.self.inside.base.config.now c.self.inside.base.exchange) c.in-AwaitsReply.is c.self.invariant).1) c.take_reply.ensures.ok)
 
 pub returns-in-AwaitsReply-clause-causes : goal.returns-in-AwaitsReply-clause-causes
 returns-in-AwaitsReply-clause-causes g c =
@@ -83,22 +83,22 @@ returns-in-AwaitsReply-clause-causes g c =
     (reply_refused _ _ (λ k q l v z. (s : Setup) (public : List ℕ) → g.A.Agreement.lawful c.args.parts.now.agreement s → g.A.Agreement.client_makes k q l public → g.A.Agreement.agrees k q public v z)
     (λ k q l v z public h cm s law. h s public law (cm s law))
     _ _ _ c.in-AwaitsReply.names c.in-AwaitsReply.algorithm _ _ c.in-Some.incoming _ c.self.view_is c.in-AwaitsReply.is (sym c.drops_guess.ensures ∙ c.if-drops_guess.false)
-    ((subst (ClientHolds c.self.inside.config.now c.self.inside.exchange) c.in-AwaitsReply.is c.self.invariant).1) c.take_reply.ensures.err)
+    ((subst (ClientHolds c.self.inside.base.config.now c.self.inside.base.exchange) c.in-AwaitsReply.is c.self.invariant).1) c.take_reply.ensures.err)
 
 pub returns-in-AwaitsNewkeys-clause-goes : goal.returns-in-AwaitsNewkeys-clause-goes
 returns-in-AwaitsNewkeys-clause-goes g c =
     rw (c.in-Some.is)
-    (last_done _ Client c.args.self c.in-Some.incoming _ c.self.inside.exchange (Some c.in-AwaitsNewkeys.host) c.in-AwaitsNewkeys.made c.in-AwaitsNewkeys.cipher c.last.result
-    (ap (λ (m : Machine). m.stage) (sym c.self.view_is) ∙ ap (client_stage c.self.inside.exchange) c.in-AwaitsNewkeys.is)
+    (last_done _ Client c.args.self c.in-Some.incoming _ c.self.inside.base.exchange (Some c.in-AwaitsNewkeys.host) c.in-AwaitsNewkeys.made c.in-AwaitsNewkeys.cipher c.last.result
+    (ap (λ (m : Machine). m.stage) (sym c.self.view_is) ∙ ap (client_stage c.self.inside.base.exchange) c.in-AwaitsNewkeys.is)
     (ap (λ (m : Machine). m.setting.side) (sym c.self.view_is))
-    (subst (ClientHolds c.self.inside.config.now c.self.inside.exchange) c.in-AwaitsNewkeys.is c.self.invariant)
+    (subst (ClientHolds c.self.inside.base.config.now c.self.inside.base.exchange) c.in-AwaitsNewkeys.is c.self.invariant)
     c.last.ensures)
 
 pub returns-in-AwaitsNewkeys-clause-causes : goal.returns-in-AwaitsNewkeys-clause-causes
 returns-in-AwaitsNewkeys-clause-causes g c =
     rw (c.in-Some.is)
-    (last_refused_if _ _ c.args.self c.in-Some.incoming c.self.inside.exchange (Some c.in-AwaitsNewkeys.host) c.in-AwaitsNewkeys.made c.in-AwaitsNewkeys.cipher c.last.result
-    (ap (λ (m : Machine). m.stage) (sym c.self.view_is) ∙ ap (client_stage c.self.inside.exchange) c.in-AwaitsNewkeys.is)
+    (last_refused_if _ _ c.args.self c.in-Some.incoming c.self.inside.base.exchange (Some c.in-AwaitsNewkeys.host) c.in-AwaitsNewkeys.made c.in-AwaitsNewkeys.cipher c.last.result
+    (ap (λ (m : Machine). m.stage) (sym c.self.view_is) ∙ ap (client_stage c.self.inside.base.exchange) c.in-AwaitsNewkeys.is)
     c.last.ensures)
 
 pub returns-in-Created-clause-unasked_agreement : goal.returns-in-Created-clause-unasked_agreement
@@ -120,8 +120,8 @@ pub returns-in-AwaitsReply-clause-agreed : goal.returns-in-AwaitsReply-clause-ag
 returns-in-AwaitsReply-clause-agreed g c =
     rw (c.in-Some.is)
     (reply_agreed
-    (says_of g.A.Agreement.lawful g.A.Agreement.offered g.A.Agreement.client_makes g.A.Agreement.server_makes g.A.Agreement.agrees g.H.HostKeys.lawful g.H.HostKeys.obliging g.H.HostKeys.accepts g.H.HostKeys.trusts g.H.HostKeys.makes g.G.GroupLookup.lawful g.G.GroupLookup.group c.args.self.setting.config c.args.parts.now.agreement c.args.parts.now.hosts c.args.parts.now.groups)
+    (says_of g.A.Agreement.lawful g.A.Agreement.offered g.A.Agreement.client_makes g.A.Agreement.server_makes g.A.Agreement.agrees g.H.HostKeys.lawful g.H.HostKeys.signs g.H.HostKeys.judges g.H.HostKeys.accepts g.H.HostKeys.trusts g.H.HostKeys.makes g.G.GroupLookup.lawful g.G.GroupLookup.group c.args.self.setting.config c.args.parts.now.agreement c.args.parts.now.hosts c.args.parts.now.groups)
     (λ k q l v z. (s : Setup) (public : List ℕ) → g.A.Agreement.lawful c.args.parts.now.agreement s → g.A.Agreement.client_makes k q l public → g.A.Agreement.agrees k q public v z)
     (λ k q l v z public h cm s law. h s public law (cm s law))
     _ _ _ c.in-AwaitsReply.names c.in-AwaitsReply.algorithm _ _ c.in-Some.incoming c.take_reply.result c.self.view_is c.in-AwaitsReply.is
-    ((subst (ClientHolds c.self.inside.config.now c.self.inside.exchange) c.in-AwaitsReply.is c.self.invariant).1) c.take_reply.ensures.agreed)
+    ((subst (ClientHolds c.self.inside.base.config.now c.self.inside.base.exchange) c.in-AwaitsReply.is c.self.invariant).1) c.take_reply.ensures.agreed)

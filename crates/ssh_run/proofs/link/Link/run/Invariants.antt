@@ -16,15 +16,15 @@ invariant-loop-step g l = record {
   bound : l.fn.self.bound ≡ 1 → l.self.bound ≡ bound_of (take l.step-index l.steps);
   now : l.self.bound ≡ bound_after l.fn.self.bound (take l.step-index l.steps);
   runs : RunsSoFar
-      (says_of g.A.Agreement.lawful g.A.Agreement.offered g.A.Agreement.client_makes g.A.Agreement.server_makes g.A.Agreement.agrees g.H.HostKeys.lawful g.H.HostKeys.obliging g.H.HostKeys.accepts g.H.HostKeys.trusts g.H.HostKeys.makes g.G.GroupLookup.lawful g.G.GroupLookup.group l.fn.self.client.transport.config l.fn.client_parts.agreement l.fn.client_parts.hosts l.fn.client_parts.groups)
-      (says_of g.A.Agreement.lawful g.A.Agreement.offered g.A.Agreement.client_makes g.A.Agreement.server_makes g.A.Agreement.agrees g.H.HostKeys.lawful g.H.HostKeys.obliging g.H.HostKeys.accepts g.H.HostKeys.trusts g.H.HostKeys.makes g.G.GroupLookup.lawful g.G.GroupLookup.group l.fn.self.server.transport.config l.fn.server_parts.agreement l.fn.server_parts.hosts l.fn.server_parts.groups)
+      (says_of g.A.Agreement.lawful g.A.Agreement.offered g.A.Agreement.client_makes g.A.Agreement.server_makes g.A.Agreement.agrees g.H.HostKeys.lawful g.H.HostKeys.signs g.H.HostKeys.judges g.H.HostKeys.accepts g.H.HostKeys.trusts g.H.HostKeys.makes g.G.GroupLookup.lawful g.G.GroupLookup.group l.fn.self.client.transport.config l.fn.client_parts.agreement l.fn.client_parts.hosts l.fn.client_parts.groups)
+      (says_of g.A.Agreement.lawful g.A.Agreement.offered g.A.Agreement.client_makes g.A.Agreement.server_makes g.A.Agreement.agrees g.H.HostKeys.lawful g.H.HostKeys.signs g.H.HostKeys.judges g.H.HostKeys.accepts g.H.HostKeys.trusts g.H.HostKeys.makes g.G.GroupLookup.lawful g.G.GroupLookup.group l.fn.self.server.transport.config l.fn.server_parts.agreement l.fn.server_parts.hosts l.fn.server_parts.groups)
       l.fn.self.bound (take l.step-index l.steps) (link_of l.fn.self) (link_of l.self) l.marks.items;
   asks_client : SideAsks l.fn.self.client.transport l.self.client.transport (counted_by g.A.Agreement.calls g.H.HostKeys.calls g.G.GroupLookup.calls l.fn.client_parts.agreement l.fn.client_parts.hosts l.fn.client_parts.groups) (counted_by g.A.Agreement.calls g.H.HostKeys.calls g.G.GroupLookup.calls l.client_parts.agreement l.client_parts.hosts l.client_parts.groups);
   asks_server : SideAsks l.fn.self.server.transport l.self.server.transport (counted_by g.A.Agreement.calls g.H.HostKeys.calls g.G.GroupLookup.calls l.fn.server_parts.agreement l.fn.server_parts.hosts l.fn.server_parts.groups) (counted_by g.A.Agreement.calls g.H.HostKeys.calls g.G.GroupLookup.calls l.server_parts.agreement l.server_parts.hosts l.server_parts.groups);
   client_agreement : KeepsAgreement g.A.Agreement.lawful g.A.Agreement.obliging g.A.Agreement.offered g.A.Agreement.refusals g.A.Agreement.calls l.fn.client_parts.agreement l.client_parts.agreement;
-  client_hosts : KeepsHosts g.H.HostKeys.lawful g.H.HostKeys.obliging g.H.HostKeys.accepts g.H.HostKeys.trusts g.H.HostKeys.refused_sign g.H.HostKeys.refused_verify g.H.HostKeys.refused_check g.H.HostKeys.calls l.fn.client_parts.hosts l.client_parts.hosts;
+  client_hosts : KeepsHosts g.H.HostKeys.lawful g.H.HostKeys.signs g.H.HostKeys.judges g.H.HostKeys.accepts g.H.HostKeys.trusts g.H.HostKeys.refused_sign g.H.HostKeys.refused_verify g.H.HostKeys.refused_check g.H.HostKeys.calls l.fn.client_parts.hosts l.client_parts.hosts;
   client_groups : KeepsGroups g.G.GroupLookup.lawful g.G.GroupLookup.obliging g.G.GroupLookup.group g.G.GroupLookup.refusals g.G.GroupLookup.calls l.fn.client_parts.groups l.client_parts.groups;
   server_agreement : KeepsAgreement g.A.Agreement.lawful g.A.Agreement.obliging g.A.Agreement.offered g.A.Agreement.refusals g.A.Agreement.calls l.fn.server_parts.agreement l.server_parts.agreement;
-  server_hosts : KeepsHosts g.H.HostKeys.lawful g.H.HostKeys.obliging g.H.HostKeys.accepts g.H.HostKeys.trusts g.H.HostKeys.refused_sign g.H.HostKeys.refused_verify g.H.HostKeys.refused_check g.H.HostKeys.calls l.fn.server_parts.hosts l.server_parts.hosts;
+  server_hosts : KeepsHosts g.H.HostKeys.lawful g.H.HostKeys.signs g.H.HostKeys.judges g.H.HostKeys.accepts g.H.HostKeys.trusts g.H.HostKeys.refused_sign g.H.HostKeys.refused_verify g.H.HostKeys.refused_check g.H.HostKeys.calls l.fn.server_parts.hosts l.server_parts.hosts;
   server_groups : KeepsGroups g.G.GroupLookup.lawful g.G.GroupLookup.obliging g.G.GroupLookup.group g.G.GroupLookup.refusals g.G.GroupLookup.calls l.fn.server_parts.groups l.server_parts.groups;
 }

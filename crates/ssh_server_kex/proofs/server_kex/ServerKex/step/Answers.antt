@@ -12,19 +12,19 @@ use Rattle.ssh_server_kex.proofs.server_kex.ServerKex.step.Goals as goal
 
 pub waits-requires : goal.waits-requires
 waits-requires g c =
-    subst (ServerKeeps c.self.inside.config.now c.self.inside.exchange) (sym c.behind_guess-state.ensures) (still_keeps c.self.inside.config.now c.self.inside.exchange c.self.inside.state c.self.invariant)
+    subst (ServerKeeps c.self.inside.base.config.now c.self.inside.base.exchange) (sym c.behind_guess-state.ensures) (still_keeps c.self.inside.base.config.now c.self.inside.base.exchange c.self.inside.state c.self.invariant)
 
 pub take_kexinit-requires-clause-short : goal.take_kexinit-requires-clause-short
 take_kexinit-requires-clause-short g c = subst (λ o. IfSome o (λ (i : Incoming). length i.payload.now < 2 ^ 31)) c.in-Some.is c.requires
 
 pub take_kexinit-requires-clause-fresh : goal.take_kexinit-requires-clause-fresh
-take_kexinit-requires-clause-fresh g c = subst (ServerKeeps c.self.inside.config.now c.self.inside.exchange) c.in-Created.is c.self.invariant
+take_kexinit-requires-clause-fresh g c = subst (ServerKeeps c.self.inside.base.config.now c.self.inside.base.exchange) c.in-Created.is c.self.invariant
 
 pub take_request-requires : goal.take_request-requires
-take_request-requires g c = subst (ServerKeeps c.self.inside.config.now c.self.inside.exchange) c.in-AwaitsRequest.is c.self.invariant
+take_request-requires g c = subst (ServerKeeps c.self.inside.base.config.now c.self.inside.base.exchange) c.in-AwaitsRequest.is c.self.invariant
 
 pub take_value-requires-clause-can : goal.take_value-requires-clause-can
-take_value-requires-clause-can g c = subst (ServerKeeps c.self.inside.config.now c.self.inside.exchange) c.in-AwaitsValue.is c.self.invariant
+take_value-requires-clause-can g c = subst (ServerKeeps c.self.inside.base.config.now c.self.inside.base.exchange) c.in-AwaitsValue.is c.self.invariant
 
 pub take_value-requires-clause-short : goal.take_value-requires-clause-short
 take_value-requires-clause-short g c = subst (λ o. IfSome o (λ (i : Incoming). length i.payload.now < 2 ^ 31)) c.in-Some.is c.requires
@@ -32,45 +32,45 @@ take_value-requires-clause-short g c = subst (λ o. IfSome o (λ (i : Incoming).
 pub returns-in-Created-clause-goes : goal.returns-in-Created-clause-goes
 returns-in-Created-clause-goes g c =
     rw (c.in-Some.is)
-    (opening_progresses _ c.self.inside.config.now c.self.inside.cause c.self.inside.exchange c.self.inside.state c.args.self c.in-Some.incoming c.args.output.now _ c.take_kexinit.result
-    c.self.view_is c.in-Created.is (subst (ServerKeeps c.self.inside.config.now c.self.inside.exchange) c.in-Created.is c.self.invariant) c.take_kexinit.ensures.ok)
+    (opening_progresses _ c.self.inside.base.config.now c.self.inside.base.cause c.self.inside.base.exchange c.self.inside.state c.args.self c.in-Some.incoming c.args.output.now _ c.take_kexinit.result
+    c.self.view_is c.in-Created.is (subst (ServerKeeps c.self.inside.base.config.now c.self.inside.base.exchange) c.in-Created.is c.self.invariant) c.take_kexinit.ensures.ok)
 
 pub returns-in-Created-clause-causes : goal.returns-in-Created-clause-causes
 returns-in-Created-clause-causes g c =
     rw (c.in-Some.is)
-    (opening_refused _ _ c.self.inside.config.now c.self.inside.cause c.self.inside.exchange c.self.inside.state c.args.self c.in-Some.incoming c.take_kexinit.result c.self.view_is c.in-Created.is c.take_kexinit.ensures.err)
+    (opening_refused _ _ c.self.inside.base.config.now c.self.inside.base.cause c.self.inside.base.exchange c.self.inside.state c.args.self c.in-Some.incoming c.take_kexinit.result c.self.view_is c.in-Created.is c.take_kexinit.ensures.err)
 
 pub returns-in-AwaitsRequest-clause-goes : goal.returns-in-AwaitsRequest-clause-goes
 returns-in-AwaitsRequest-clause-goes g c =
     rw (c.in-Some.is)
-    (request_progresses _ c.self.inside.config.now c.self.inside.cause c.self.inside.exchange c.self.inside.state c.args.self c.in-AwaitsRequest.names c.in-Some.incoming c.args.output.now _ c.take_request.result
+    (request_progresses _ c.self.inside.base.config.now c.self.inside.base.cause c.self.inside.base.exchange c.self.inside.state c.args.self c.in-AwaitsRequest.names c.in-Some.incoming c.args.output.now _ c.take_request.result
     c.self.view_is c.in-AwaitsRequest.is (sym c.drops_guess.ensures ∙ c.if-drops_guess.false) c.take_request.ensures.ok)
 
 pub returns-in-AwaitsRequest-clause-causes : goal.returns-in-AwaitsRequest-clause-causes
 returns-in-AwaitsRequest-clause-causes g c =
     rw (c.in-Some.is)
-    (request_refused _ _ c.self.inside.config.now c.self.inside.cause c.self.inside.exchange c.self.inside.state c.args.self c.in-AwaitsRequest.names c.in-Some.incoming c.take_request.result c.self.view_is c.in-AwaitsRequest.is (sym c.drops_guess.ensures ∙ c.if-drops_guess.false) c.take_request.ensures.causes)
+    (request_refused _ _ c.self.inside.base.config.now c.self.inside.base.cause c.self.inside.base.exchange c.self.inside.state c.args.self c.in-AwaitsRequest.names c.in-Some.incoming c.take_request.result c.self.view_is c.in-AwaitsRequest.is (sym c.drops_guess.ensures ∙ c.if-drops_guess.false) c.take_request.ensures.causes)
 
 pub returns-in-AwaitsValue-clause-goes : goal.returns-in-AwaitsValue-clause-goes
 returns-in-AwaitsValue-clause-goes g c =
     rw (c.in-Some.is)
-    (value_progresses (λ config. says_of g.A.Agreement.lawful g.A.Agreement.offered g.A.Agreement.client_makes g.A.Agreement.server_makes g.A.Agreement.agrees g.H.HostKeys.lawful g.H.HostKeys.obliging g.H.HostKeys.accepts g.H.HostKeys.trusts g.H.HostKeys.makes g.G.GroupLookup.lawful g.G.GroupLookup.group config c.args.parts.now.agreement c.args.parts.now.hosts c.args.parts.now.groups)
-    c.self.inside.config.now c.self.inside.cause c.self.inside.exchange c.self.inside.state c.args.self c.in-AwaitsValue.names c.in-Some.incoming c.args.output.now _ c.take_value.result c.self.view_is c.in-AwaitsValue.is (sym c.drops_guess.ensures ∙ c.if-drops_guess.false) c.take_value.ensures.ok)
+    (value_progresses (λ config. says_of g.A.Agreement.lawful g.A.Agreement.offered g.A.Agreement.client_makes g.A.Agreement.server_makes g.A.Agreement.agrees g.H.HostKeys.lawful g.H.HostKeys.signs g.H.HostKeys.judges g.H.HostKeys.accepts g.H.HostKeys.trusts g.H.HostKeys.makes g.G.GroupLookup.lawful g.G.GroupLookup.group config c.args.parts.now.agreement c.args.parts.now.hosts c.args.parts.now.groups)
+    c.self.inside.base.config.now c.self.inside.base.cause c.self.inside.base.exchange c.self.inside.state c.args.self c.in-AwaitsValue.names c.in-Some.incoming c.args.output.now _ c.take_value.result c.self.view_is c.in-AwaitsValue.is (sym c.drops_guess.ensures ∙ c.if-drops_guess.false) c.take_value.ensures.ok)
 
 pub returns-in-AwaitsValue-clause-causes : goal.returns-in-AwaitsValue-clause-causes
 returns-in-AwaitsValue-clause-causes g c =
     rw (c.in-Some.is)
-    (value_refused _ _ c.self.inside.config.now c.self.inside.cause c.self.inside.exchange c.self.inside.state c.args.self c.in-AwaitsValue.names c.in-Some.incoming c.take_value.result c.self.view_is c.in-AwaitsValue.is (sym c.drops_guess.ensures ∙ c.if-drops_guess.false) c.take_value.ensures.causes)
+    (value_refused _ _ c.self.inside.base.config.now c.self.inside.base.cause c.self.inside.base.exchange c.self.inside.state c.args.self c.in-AwaitsValue.names c.in-Some.incoming c.take_value.result c.self.view_is c.in-AwaitsValue.is (sym c.drops_guess.ensures ∙ c.if-drops_guess.false) c.take_value.ensures.causes)
 
 pub returns-in-AwaitsNewkeys-clause-goes : goal.returns-in-AwaitsNewkeys-clause-goes
 returns-in-AwaitsNewkeys-clause-goes g c =
     rw (c.in-Some.is)
-    (ended _ c.self.inside.config.now c.self.inside.cause c.self.inside.exchange c.self.inside.state c.args.self c.in-AwaitsNewkeys.made c.in-AwaitsNewkeys.cipher c.in-Some.incoming c.args.output.now c.last.result
-    c.self.view_is c.in-AwaitsNewkeys.is (subst (ServerKeeps c.self.inside.config.now c.self.inside.exchange) c.in-AwaitsNewkeys.is c.self.invariant) c.last.ensures)
+    (ended _ c.self.inside.base.config.now c.self.inside.base.cause c.self.inside.base.exchange c.self.inside.state c.args.self c.in-AwaitsNewkeys.made c.in-AwaitsNewkeys.cipher c.in-Some.incoming c.args.output.now c.last.result
+    c.self.view_is c.in-AwaitsNewkeys.is (subst (ServerKeeps c.self.inside.base.config.now c.self.inside.base.exchange) c.in-AwaitsNewkeys.is c.self.invariant) c.last.ensures)
 
 pub returns-in-AwaitsNewkeys-clause-causes : goal.returns-in-AwaitsNewkeys-clause-causes
 returns-in-AwaitsNewkeys-clause-causes g c =
     rw (c.in-Some.is)
-    (last_refused_if _ _ c.args.self c.in-Some.incoming c.self.inside.exchange None c.in-AwaitsNewkeys.made c.in-AwaitsNewkeys.cipher c.last.result
-    (ap (λ (m : Machine). m.stage) (sym c.self.view_is) ∙ ap (server_stage c.self.inside.exchange) c.in-AwaitsNewkeys.is)
+    (last_refused_if _ _ c.args.self c.in-Some.incoming c.self.inside.base.exchange None c.in-AwaitsNewkeys.made c.in-AwaitsNewkeys.cipher c.last.result
+    (ap (λ (m : Machine). m.stage) (sym c.self.view_is) ∙ ap (server_stage c.self.inside.base.exchange) c.in-AwaitsNewkeys.is)
     c.last.ensures)

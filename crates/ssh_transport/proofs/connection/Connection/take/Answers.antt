@@ -19,7 +19,7 @@ pub returns-then-is_heard-clause-within : goal.returns-then-is_heard-clause-with
 returns-then-is_heard-clause-within g c = kept_all _ (with_more c.hear.new.self _) c.read_all.new.self c.read_all.result (c.hear.ensures.whole (c.in_ok-is_heard.was ∙ ap (λ (b : Bool). Ok b) c.if-is_heard.true)) c.read_all.ensures.begins c.read_all.ensures.live c.read_all.ensures.reads c.read_all.ensures.part
 
 pub returns-then-is_heard-clause-took : goal.returns-then-is_heard-clause-took
-returns-then-is_heard-clause-took g c = takes_read (λ (x : Config). says_of g.A.Agreement.lawful g.A.Agreement.offered g.A.Agreement.client_makes g.A.Agreement.server_makes g.A.Agreement.agrees g.H.HostKeys.lawful g.H.HostKeys.obliging g.H.HostKeys.accepts g.H.HostKeys.trusts g.H.HostKeys.makes g.G.GroupLookup.lawful g.G.GroupLookup.group x c.args.parts.now.agreement c.args.parts.now.hosts c.args.parts.now.groups) (emptied c.args.self.now) (with_more c.hear.new.self (drop c.keep-kept.result c.args.piece.now)) c.read_all.new.self _ c.read_all.result (hears_kept c.args.self.now c.keep-kept.new.self (with_more c.hear.new.self (drop c.keep-kept.result c.args.piece.now)) c.args.piece.now [] c.keep-kept.result _ c.keep-kept.ensures.rest c.keep-kept.ensures.taken (c.hear.ensures.more (c.in_ok-is_heard.was ∙ ap (λ (b : Bool). Ok b) c.if-is_heard.true) (drop c.keep-kept.result c.args.piece.now)))
+returns-then-is_heard-clause-took g c = takes_read (λ (x : Config). says_of g.A.Agreement.lawful g.A.Agreement.offered g.A.Agreement.client_makes g.A.Agreement.server_makes g.A.Agreement.agrees g.H.HostKeys.lawful g.H.HostKeys.signs g.H.HostKeys.judges g.H.HostKeys.accepts g.H.HostKeys.trusts g.H.HostKeys.makes g.G.GroupLookup.lawful g.G.GroupLookup.group x c.args.parts.now.agreement c.args.parts.now.hosts c.args.parts.now.groups) (emptied c.args.self.now) (with_more c.hear.new.self (drop c.keep-kept.result c.args.piece.now)) c.read_all.new.self _ c.read_all.result (hears_kept c.args.self.now c.keep-kept.new.self (with_more c.hear.new.self (drop c.keep-kept.result c.args.piece.now)) c.args.piece.now [] c.keep-kept.result _ c.keep-kept.ensures.rest c.keep-kept.ensures.taken (c.hear.ensures.more (c.in_ok-is_heard.was ∙ ap (λ (b : Bool). Ok b) c.if-is_heard.true) (drop c.keep-kept.result c.args.piece.now)))
     (c.hear.ensures.whole (c.in_ok-is_heard.was ∙ ap (λ (b : Bool). Ok b) c.if-is_heard.true)) (reads_sliced _ c.hear.new.self c.read_all.new.self c.read_all.result _ (drop c.keep-kept.result c.args.piece.now) (slice_behind c.keep-kept.result c.args.piece.now) c.read_all.ensures.reads) c.read_all.ensures.part
 
 pub returns-clause-took : goal.returns-clause-took
@@ -31,7 +31,7 @@ returns-in_err-is_heard-clause-fails g c =
     from_err c.from_residual.result _ c.in_err-is_heard.field-0.0 p.0 p.1 p.2 (fails_kept _ _ _ _ c.args.self.now c.keep-kept.new.self c.hear.new.self c.args.piece.now [] c.keep-kept.result _ c.keep-kept.ensures.rest c.keep-kept.ensures.taken c.in_err-is_heard.field-0.0 (to_still c.args.self.now.session _ _ _) c.requires.live c.in_err-is_heard.ensures.fails)
 
 pub returns-then-is_heard-clause-fails : goal.returns-then-is_heard-clause-fails
-returns-then-is_heard-clause-fails g c = if_err c.read_all.result _ _ (λ e h. fails_read (λ (x : Config). says_of g.A.Agreement.lawful g.A.Agreement.offered g.A.Agreement.client_makes g.A.Agreement.server_makes g.A.Agreement.agrees g.H.HostKeys.lawful g.H.HostKeys.obliging g.H.HostKeys.accepts g.H.HostKeys.trusts g.H.HostKeys.makes g.G.GroupLookup.lawful g.G.GroupLookup.group x c.args.parts.now.agreement c.args.parts.now.hosts c.args.parts.now.groups) _ _ _ _
+returns-then-is_heard-clause-fails g c = if_err c.read_all.result _ _ (λ e h. fails_read (λ (x : Config). says_of g.A.Agreement.lawful g.A.Agreement.offered g.A.Agreement.client_makes g.A.Agreement.server_makes g.A.Agreement.agrees g.H.HostKeys.lawful g.H.HostKeys.signs g.H.HostKeys.judges g.H.HostKeys.accepts g.H.HostKeys.trusts g.H.HostKeys.makes g.G.GroupLookup.lawful g.G.GroupLookup.group x c.args.parts.now.agreement c.args.parts.now.hosts c.args.parts.now.groups) _ _ _ _
     (emptied c.args.self.now) (with_more c.hear.new.self (drop c.keep-kept.result c.args.piece.now)) c.read_all.new.self _ e (to_later c.args.self.now.session c.hear.new.self.session _ _ _ (c.hear.ensures.fixed.0 ∙ ap (λ x. x.session.side) c.keep-kept.ensures.rest) (between_heard (emptied c.args.self.now) (with_more c.hear.new.self (drop c.keep-kept.result c.args.piece.now)) _ _ (hears_kept c.args.self.now c.keep-kept.new.self (with_more c.hear.new.self (drop c.keep-kept.result c.args.piece.now)) c.args.piece.now [] c.keep-kept.result _ c.keep-kept.ensures.rest c.keep-kept.ensures.taken (c.hear.ensures.more (c.in_ok-is_heard.was ∙ ap (λ (b : Bool). Ok b) c.if-is_heard.true) (drop c.keep-kept.result c.args.piece.now))))) (hears_kept c.args.self.now c.keep-kept.new.self (with_more c.hear.new.self (drop c.keep-kept.result c.args.piece.now)) c.args.piece.now [] c.keep-kept.result _ c.keep-kept.ensures.rest c.keep-kept.ensures.taken (c.hear.ensures.more (c.in_ok-is_heard.was ∙ ap (λ (b : Bool). Ok b) c.if-is_heard.true) (drop c.keep-kept.result c.args.piece.now)))
     (c.hear.ensures.whole (c.in_ok-is_heard.was ∙ ap (λ (b : Bool). Ok b) c.if-is_heard.true)) (stops_sliced _ _ _ _ c.hear.new.self c.read_all.new.self _ (drop c.keep-kept.result c.args.piece.now) e (slice_behind c.keep-kept.result c.args.piece.now) h)) c.read_all.ensures.stops
 

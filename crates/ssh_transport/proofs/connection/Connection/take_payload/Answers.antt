@@ -14,7 +14,7 @@ use Rattle.ssh_transport.proofs.Wanting.{may_end, may_want}
 use Rattle.ssh_transport.proofs.connection.Connection.take_payload.Goals as goal
 
 pub returns-then-is_heard-clause-takes : goal.returns-then-is_heard-clause-takes
-returns-then-is_heard-clause-takes g c = takes_polled (λ (x : Config). says_of g.A.Agreement.lawful g.A.Agreement.offered g.A.Agreement.client_makes g.A.Agreement.server_makes g.A.Agreement.agrees g.H.HostKeys.lawful g.H.HostKeys.obliging g.H.HostKeys.accepts g.H.HostKeys.trusts g.H.HostKeys.makes g.G.GroupLookup.lawful g.G.GroupLookup.group x c.args.parts.now.agreement c.args.parts.now.hosts c.args.parts.now.groups) c.args.self.now c.hear.new.self c.read_payload.new.self c.read_payload.result c.in_ok-is_heard.ensures.heard (c.hear.ensures.whole (c.in_ok-is_heard.was ∙ ap (λ (b : Bool). Ok b) c.if-is_heard.true)) c.hear.ensures.unqueued c.read_payload.ensures.reads
+returns-then-is_heard-clause-takes g c = takes_polled (λ (x : Config). says_of g.A.Agreement.lawful g.A.Agreement.offered g.A.Agreement.client_makes g.A.Agreement.server_makes g.A.Agreement.agrees g.H.HostKeys.lawful g.H.HostKeys.signs g.H.HostKeys.judges g.H.HostKeys.accepts g.H.HostKeys.trusts g.H.HostKeys.makes g.G.GroupLookup.lawful g.G.GroupLookup.group x c.args.parts.now.agreement c.args.parts.now.hosts c.args.parts.now.groups) c.args.self.now c.hear.new.self c.read_payload.new.self c.read_payload.result c.in_ok-is_heard.ensures.heard (c.hear.ensures.whole (c.in_ok-is_heard.was ∙ ap (λ (b : Bool). Ok b) c.if-is_heard.true)) c.hear.ensures.unqueued c.read_payload.ensures.reads
 
 pub returns-clause-takes : goal.returns-clause-takes
 returns-clause-takes g c = takes_nothing _ c.args.self.now c.hear.new.self c.in_ok-is_heard.ensures.heard (c.hear.ensures.part (c.in_ok-is_heard.was ∙ ap (λ (b : Bool). Ok b) c.if-is_heard.false)).0 c.hear.ensures.unqueued
@@ -30,12 +30,12 @@ returns-in_err-is_heard-clause-wants g c = λ e.
     may_end _ c.args.self.now (c.hear.ensures.ended (c.in_err-is_heard.was ∙ ap (λ (x : Error). Err x) (sym p.2 ∙ which_error c.from_residual.result p.0 Memory p.1 e)))
 
 pub returns-then-is_heard-clause-fails : goal.returns-then-is_heard-clause-fails
-returns-then-is_heard-clause-fails g c = if_err c.read_payload.result _ _ (λ e h. fails_read (λ (x : Config). says_of g.A.Agreement.lawful g.A.Agreement.offered g.A.Agreement.client_makes g.A.Agreement.server_makes g.A.Agreement.agrees g.H.HostKeys.lawful g.H.HostKeys.obliging g.H.HostKeys.accepts g.H.HostKeys.trusts g.H.HostKeys.makes g.G.GroupLookup.lawful g.G.GroupLookup.group x c.args.parts.now.agreement c.args.parts.now.hosts c.args.parts.now.groups) _ _ _ _
+returns-then-is_heard-clause-fails g c = if_err c.read_payload.result _ _ (λ e h. fails_read (λ (x : Config). says_of g.A.Agreement.lawful g.A.Agreement.offered g.A.Agreement.client_makes g.A.Agreement.server_makes g.A.Agreement.agrees g.H.HostKeys.lawful g.H.HostKeys.signs g.H.HostKeys.judges g.H.HostKeys.accepts g.H.HostKeys.trusts g.H.HostKeys.makes g.G.GroupLookup.lawful g.G.GroupLookup.group x c.args.parts.now.agreement c.args.parts.now.hosts c.args.parts.now.groups) _ _ _ _
     (emptied c.args.self.now) c.hear.new.self c.read_payload.new.self c.args.self.now.reader.waiting e (to_later c.args.self.now.session c.hear.new.self.session _ _ _ c.hear.ensures.fixed.0 (between_heard (emptied c.args.self.now) c.hear.new.self c.args.self.now.reader.waiting _ c.in_ok-is_heard.ensures.heard)) c.in_ok-is_heard.ensures.heard
     (c.hear.ensures.whole (c.in_ok-is_heard.was ∙ ap (λ (b : Bool). Ok b) c.if-is_heard.true)) h) c.read_payload.ensures.stops
 
 pub returns-then-is_heard-clause-wants : goal.returns-then-is_heard-clause-wants
-returns-then-is_heard-clause-wants g c = λ e. may_want (λ (x : Config). says_of g.A.Agreement.lawful g.A.Agreement.offered g.A.Agreement.client_makes g.A.Agreement.server_makes g.A.Agreement.agrees g.H.HostKeys.lawful g.H.HostKeys.obliging g.H.HostKeys.accepts g.H.HostKeys.trusts g.H.HostKeys.makes g.G.GroupLookup.lawful g.G.GroupLookup.group x c.args.parts.now.agreement c.args.parts.now.hosts c.args.parts.now.groups) c.args.self.now c.hear.new.self c.in_ok-is_heard.ensures.heard (c.hear.ensures.whole (c.in_ok-is_heard.was ∙ ap (λ (b : Bool). Ok b) c.if-is_heard.true)) c.hear.ensures.unqueued (c.read_payload.ensures.wants e)
+returns-then-is_heard-clause-wants g c = λ e. may_want (λ (x : Config). says_of g.A.Agreement.lawful g.A.Agreement.offered g.A.Agreement.client_makes g.A.Agreement.server_makes g.A.Agreement.agrees g.H.HostKeys.lawful g.H.HostKeys.signs g.H.HostKeys.judges g.H.HostKeys.accepts g.H.HostKeys.trusts g.H.HostKeys.makes g.G.GroupLookup.lawful g.G.GroupLookup.group x c.args.parts.now.agreement c.args.parts.now.hosts c.args.parts.now.groups) c.args.self.now c.hear.new.self c.in_ok-is_heard.ensures.heard (c.hear.ensures.whole (c.in_ok-is_heard.was ∙ ap (λ (b : Bool). Ok b) c.if-is_heard.true)) c.hear.ensures.unqueued (c.read_payload.ensures.wants e)
 
 pub returns-then-is_heard-clause-asks : goal.returns-then-is_heard-clause-asks
 returns-then-is_heard-clause-asks g c = where_ok c.read_payload.result _ _ (λ a. between_join c.args.self.now.session c.hear.new.self.session c.read_payload.new.self.session _ _ _ c.hear.ensures.fixed.0 (between_heard (emptied c.args.self.now) c.hear.new.self c.args.self.now.reader.waiting _ c.in_ok-is_heard.ensures.heard) a) c.read_payload.ensures.asks
