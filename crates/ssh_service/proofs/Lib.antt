@@ -1,0 +1,3 @@
+pub mod FieldReads
+pub mod MessageLaws
+pub mod StandsLaws
