@@ -1,5 +1,5 @@
 -- What a side answers to the messages that are delivered to it, one after the other.
-use Rattle.std.specs.Prelude.{◌≡◌, ℕ, nat_le, Bool, true, false, if◌then◌else◌, List, [], ◌∷◌, ◌++◌, codes, Result, Ok, Err, IfOk, refl}
+use Rattle.std.specs.Prelude.{◌≡◌, ◌≤◌, ℕ, nat_le, Bool, true, false, if◌then◌else◌, List, [], ◌∷◌, ◌++◌, length, take, codes, Result, Ok, Err, IfOk, refl}
 use Rattle.std.specs.List.{list_any}
 use Rattle.std.specs.Str.{bytes_eq}
 use Rattle.ssh_wire.specs.Fields.{string_at, u32_at}
@@ -91,6 +91,12 @@ pub record StandsFor (s : ServiceState) (payloads : List (List ℕ)) : Type 0 wh
   pub requested : (name : List ℕ) → has_name name s.offered ≡ true
       → has_name name s.requested ≡ list_any (asks_for name) payloads
   pub informed : s.informed ≡ list_any tells_extensions payloads
+
+-- Some of the payloads, from the first one on, were received.
+pub record ReceivesSome (s : ServiceState) (payloads : List (List ℕ)) (t : ServiceState) : Type 0 where
+  pub count : ℕ
+  pub few : count ≤ length payloads
+  pub stands : (earlier : List (List ℕ)) → StandsFor s earlier → StandsFor t (earlier ++ take count payloads)
 
 -- the answer is this one, unless memory is wanting
 abbrev pub IsAnswer : ServiceAnswer → Result ServiceAnswer Error → Type 0

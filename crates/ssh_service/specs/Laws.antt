@@ -3,7 +3,7 @@ use Rattle.std.specs.Prelude.{◌≡◌, true, false, ℕ, List, [], ◌∷◌, 
 use Rattle.std.specs.List.{list_any}
 use Rattle.ssh_wire.specs.Forms.{AreBytes}
 use Rattle.ssh_service.specs.Answers.{answer_after, asks_for, has_name, is_for_above}
-use Rattle.ssh_service.specs.Messages.{message_of, spelling}
+use Rattle.ssh_service.specs.Messages.{IsMessage, message_of, spelling}
 use Rattle.ssh_service.specs.declared.answer.ServiceAnswer.TheVariants.{Accepted}
 use Rattle.ssh_service.specs.declared.message.ServiceMessage.{ServiceMessage}
 use Rattle.ssh_service.specs.declared.message.ServiceMessage.TheVariants.{Accept, Request}
@@ -12,6 +12,10 @@ use Rattle.ssh_service.specs.declared.message.ServiceMessage.TheVariants.{Accept
 abbrev pub OnePayload : Type 0
 OnePayload = (a b : List ℕ) (m : ServiceMessage) → AreBytes a → AreBytes b → message_of a ≡ Ok m → message_of b ≡ Ok m
     → a ≡ b
+
+-- what is spelled is read
+abbrev pub SpelledRead : Type 0
+SpelledRead = (m : ServiceMessage) → IsMessage m → message_of (spelling m) ≡ Ok m
 
 -- no service is accepted twice: behind a payload that is answered by a grant none is answered by the same grant
 abbrev pub AcceptedOnce : Type 0

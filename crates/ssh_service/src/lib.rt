@@ -10,7 +10,7 @@ mod services;
 
 pub use crate::answer::ServiceAnswer;
 pub use crate::info::{ExtInfo, Extension, server_sig_algs};
-pub use crate::laws::{accepted_once, first_accepted, one_payload};
+pub use crate::laws::{accepted_once, first_accepted, one_payload, spelled_read};
 pub use crate::message::ServiceMessage;
 pub use crate::name::ServiceName;
 pub use crate::services::Services;

@@ -1,7 +1,7 @@
 //! The machine that grants services, each once (RFC 4253 section 10).
 
 ghost use Rattle.std.specs.Prelude.{◌≡◌, ◌++◌, ◌∷◌, [], List, ℕ, OnOk, OnErr, IfErr, IfOk, true, if◌then◌else◌};
-ghost use Rattle.ssh_service.specs.Answers.{IsAnswer, StandsFor, answer_after, has_name, is_for_above};
+ghost use Rattle.ssh_service.specs.Answers.{IsAnswer, ReceivesSome, StandsFor, answer_after, answers_from, has_name, is_for_above};
 ghost use Rattle.ssh_service.specs.Steps.{RepliesGrant, answer_to, moves};
 ghost use Rattle.ssh_service.specs.ServiceNames.{IsServiceName};
 ghost use Rattle.ssh_service.specs.Messages.{IsMessage};
@@ -12,7 +12,7 @@ ghost use Rattle.ssh_service.specs.declared.answer.ServiceAnswer.TheVariants.{Ba
 use crate::answer::ServiceAnswer;
 use crate::message::{ServiceMessage, granting};
 use crate::name::ServiceName;
-use ssh_wire::{Disconnect, Error};
+use ssh_wire::{Disconnect, Error, Payload};
 use std::alloc::Global;
 use std::marker::Model;
 
@@ -33,7 +33,10 @@ impl Model for Services {
     ghost Value = { ServiceState };
 
     ghost view = { λ s. record {
-        offered = s.offered.items; requested = s.requested.items; informed = s.informed } };
+      offered = s.offered.items;
+      requested = s.requested.items;
+      informed = s.informed;
+    } };
 }
 
 impl Services {
@@ -78,6 +81,25 @@ impl Services {
             Err(Error::Memory) => Err(Error::Memory),
             Err(error) => Ok(ServiceAnswer::Bad(error)),
         }
+    }
+
+    /// The answers to the next payloads that were delivered, in their order. Memory: some of them, from the first one on,
+    /// were received.
+    pub fn receive_all(&mut self, payloads: &[Payload]) -> Result<Vec<ServiceAnswer>, Error>
+        ensures answers { IfOk result (λ v. (earlier : List (List ℕ)) → StandsFor self.old earlier
+            → v.items ≡ answers_from self.old.offered earlier payloads.now) }
+        ensures stands { OnOk result ((earlier : List (List ℕ)) → StandsFor self.old earlier
+            → StandsFor self.new (earlier ++ payloads.now)) }
+        ensures so_far { OnErr result (ReceivesSome self.old payloads.now self.new) }
+        ensures offered { self.new.offered ≡ self.old.offered }
+        ensures err { IfErr result (λ e. e ≡ Memory) }
+    {
+        let mut answers = Vec::new(*self.offered.allocator());
+        for payload in payloads {
+            let answer = self.receive(payload.as_slice())?;
+            answers.push(answer)?;
+        }
+        Ok(answers)
     }
 
     /// The answer to a message.
