@@ -53,12 +53,14 @@ def comment_before(lines, at):
 def end_of_call(lines, at):
     """The last line of a function's head, without the brace that opens its body."""
     indent = re.match(r" *", lines[at]).group()
-    in_clauses = False
+    in_clauses, opened = False, 0
     for i in range(at, len(lines)):
         in_clauses = in_clauses or bool(CLAUSE.match(lines[i]))
         if lines[i] in (f"{indent}{{", f"{indent}{{}}"):
             return i, lines[at:i]
-        if lines[i].endswith(";"):
+        # A record in a clause has lines that end so, too.
+        opened += lines[i].count("{") - lines[i].count("}")
+        if lines[i].endswith(";") and not opened:
             return i + 1, [*lines[at:i], lines[i][:-1]]
         if not in_clauses and re.search(r" \{(\})?$", lines[i]):
             return i, [*lines[at:i], re.sub(r" \{(\})?$", "", lines[i])]
