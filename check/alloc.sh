@@ -1,11 +1,12 @@
 #!/usr/bin/env bash
 # Usage: check/alloc.sh [--program FILE] [--bound N STEP] [SCRIPT..]
-# Lets each allocation of the program fail in turn, on each script (those of examples/ if none is given), by the command
-# `run` or `attack` where the script's name begins so and by `clear` elsewhere. Each run has to end with status 6 and
-# nothing written, or, where a growth has another way, with the report and status that it has without a failure. Without
-# one it has to agree with the .stdout and .status beside the script, where these are. How many runs ended either way is
-# printed for each script, and each run that did neither with its number. With --bound only the first N allocations fail,
-# and each STEP-th after them. The program is the proved one if none is given. Needs cc, and glibc.
+# Lets each allocation of the program fail in turn, on each script (those of examples/ if none is given), by the
+# command `run` or `attack` where the script's name begins so and by `clear` elsewhere. Each run has to end with
+# status 6 and nothing written, or, where a growth has another way, with the report and status that it has without a
+# failure. Without one it has to agree with the .stdout and .status beside the script, where these are. How many runs
+# ended either way is printed for each script, and each run that did neither with its number. With --bound only the
+# first N allocations fail, and each STEP-th after them. The program is the proved one if none is given. Needs cc, and
+# glibc.
 set -u
 usage() { sed -n '2,/^[^#]/s/^# \{0,1\}//p' "$0"; }
 top=$(cd "$(dirname "${BASH_SOURCE[0]}")/.." && pwd)
@@ -15,7 +16,11 @@ step=1
 while [ $# -gt 0 ]; do
   case $1 in
   --help) usage; exit ;;
-  --program) program=${2:-}; shift; [ -x "$program" ] || { echo "there is no program $program" >&2; exit 2; } ;;
+  --program)
+    program=$(realpath "${2:-}" 2>/dev/null)
+    [ -x "$program" ] || { echo "there is no program ${2:-}" >&2; exit 2; }
+    shift
+    ;;
   --bound)
     [[ ${2:-} =~ ^[0-9]{1,9}$ && ${3:-} =~ ^[1-9][0-9]{0,8}$ ]] || { usage >&2; exit 2; }
     bound=$2 step=$3
@@ -32,7 +37,6 @@ done
 [ $# -gt 0 ] || set -- "$top"/examples/*.txt
 command -v cc >/dev/null || { echo "alloc: passed over, since there is no cc"; exit 0; }
 [ -x "$program" ] || "$top/sshlink" --prove || exit 1
-program=$(realpath "$program")
 workers=$(nproc)
 room=$(mktemp -d) || exit 1
 trap 'rm -rf "$room"' EXIT
@@ -63,7 +67,8 @@ work() {
       same=$((same + 1))
     else
       wrong=$((wrong + 1))
-      echo "$script: allocation $n: status $ended, $(wc -c <"$written") bytes written $(head -n 1 "$room/$worker.err")" >&2
+      echo "$script: allocation $n: status $ended, $(wc -c <"$written") bytes written" >&2
+      head -n 1 "$room/$worker.err" >&2
     fi
   done
   echo "$none $same $wrong" >"$room/$worker.counts"
@@ -88,13 +93,14 @@ for script in "$@"; do
     fi
   fi
   for ((worker = 0; worker < workers; worker++)); do
-    work "$worker" "$word" "$script" < <(numbers "$allocations" | awk -v w="$worker" -v all="$workers" 'NR % all == w') &
+    numbers "$allocations" | awk -v w="$worker" -v all="$workers" 'NR % all == w' >"$room/$worker.numbers"
+    work "$worker" "$word" "$script" <"$room/$worker.numbers" &
   done
   wait
-  read -r none same wrong < <(awk '{ for (i = 1; i <= 3; i++) sum[i] += $i } END { print sum[1], sum[2], sum[3] }' "$room"/*.counts)
+  read -r none same wrong < <(awk '{ n += $1; s += $2; w += $3 } END { print n, s, w }' "$room"/*.counts)
   rm "$room"/*.counts
-  echo "$(realpath --relative-to="$top" "$script"): $allocations allocations, $((none + same + wrong)) failed in turn:" \
-    "$none times status 6 and nothing written, $same times the same report, $wrong times neither"
+  echo "$(realpath --relative-to="$top" "$script"): $allocations allocations, $((none + same + wrong)) failed in" \
+    "turn: $none times status 6, $same times the same report, $wrong times neither"
   scripts=$((scripts + 1))
   runs=$((runs + none + same + wrong))
   failures=$((failures + wrong))

@@ -147,7 +147,8 @@ def faulty_answers():
             named_calls, named = (named, []) if "the law" in part else (calls, named)
             for call in named_calls:
                 there = clauses_of(crate, call)
-                yield from (f"docs/ANSWERS.md: {call} of {crate} has no clause {name}" for name in named if name not in there)
+                lacking = (name for name in named if name not in there)
+                yield from (f"docs/ANSWERS.md: {call} of {crate} has no clause {name}" for name in lacking)
                 if not there or (not named and "" not in there and part == clauses):
                     yield f"docs/ANSWERS.md: {crate} has no {call}, or no clause of it without a name"
             yield from (f"docs/ANSWERS.md: no definition is called {name}" for name in cited if name not in words)
@@ -181,7 +182,8 @@ def main():
     if sys.argv[1:]:
         print(__doc__)
         sys.exit(0 if sys.argv[1:] == ["--help"] else 2)
-    checks = (faulty_definitions, faulty_snippets, faulty_links, faulty_protocol, faulty_answers, faulty_bytes, faulty_names)
+    checks = (faulty_definitions, faulty_snippets, faulty_links, faulty_protocol, faulty_answers, faulty_bytes,
+              faulty_names)
     faults = [fault for check in checks for fault in check()]
     print("\n".join(faults) if faults else "documents: what they show stands where they say")
     sys.exit(1 if faults else 0)

@@ -1,9 +1,9 @@
 #!/usr/bin/env bash
 # Usage: check/outside.sh [--program FILE] [TABLE]
 # Tries each row of the table (cases/outside/table.txt if none is given), whose head says what its columns are: the
-# program's words, what outside it refuses, the script, the status, and what is written. Prints each row that is answered
-# otherwise. Where there is no cc, rows in which a call is refused by its number are passed over. The program is the
-# proved one if none is given.
+# program's words, what outside it refuses, the script, the status, and what is written. Prints each row that is
+# answered otherwise. Where there is no cc, rows in which a call is refused by its number are passed over. The program
+# is the proved one if none is given.
 set -u
 usage() { sed -n '2,/^[^#]/s/^# \{0,1\}//p' "$0"; }
 top=$(cd "$(dirname "${BASH_SOURCE[0]}")/.." && pwd)
@@ -11,7 +11,11 @@ program=$top/crates/sshlink/out/sshlink
 while [ $# -gt 0 ]; do
   case $1 in
   --help) usage; exit ;;
-  --program) program=$(realpath "${2:-}" 2>/dev/null); shift; [ -x "$program" ] || { echo "there is no program ${1:-}" >&2; exit 2; } ;;
+  --program)
+    program=$(realpath "${2:-}" 2>/dev/null)
+    [ -x "$program" ] || { echo "there is no program ${2:-}" >&2; exit 2; }
+    shift
+    ;;
   -*) usage >&2; exit 2 ;;
   *) break ;;
   esac

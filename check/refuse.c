@@ -1,5 +1,5 @@
-/* What check/alloc.sh and check/outside.sh put under a program, by LD_PRELOAD: something outside it refuses a call. Calls
-   are counted from 1, from the start of `main` on; what comes before is the C library's own.
+/* What check/alloc.sh and check/outside.sh put under a program, by LD_PRELOAD: something outside it refuses a call.
+   Calls are counted from 1, from the start of `main` on; what comes before is the C library's own.
    REFUSE_ALLOC=N   the Nth of malloc, calloc, realloc, aligned_alloc and posix_memalign together gives no memory
    REFUSE_READ=N    the Nth read from standard input fails
    REFUSE_WRITE=N   the Nth write to standard output fails
@@ -68,7 +68,8 @@ static int counted_main(int count, char **words, char **environment) {
   return status;
 }
 
-int __libc_start_main(main_function main, int count, char **words, hook init, hook fini, hook linker_fini, void *stack) {
+int __libc_start_main(main_function main, int count, char **words, hook init, hook fini, hook linker_fini,
+                      void *stack) {
   int (*start)(main_function, int, char **, hook, hook, hook, void *);
   *(void **)&start = dlsym(RTLD_NEXT, "__libc_start_main");
   main_of_program = main;
