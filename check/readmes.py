@@ -27,8 +27,9 @@ LAYERS = [
     ("Encodings and version lines, AES, HMAC", ["ssh_wire", "ssh_aes", "ssh_mac"]),
     ("Proved callers", ["uses"]),
     ("Rows of values, and the programs that compare them",
-     ["vector_rows", "machine_rows", "vector_check", "exchange_check", "machine_check", "transport_check", "replay_check"]),
-    ("Programs that are measured", ["aes_speed", "packet_speed", "link_speed"]),
+     ["vector_rows", "machine_rows", "check_vectors", "check_exchange", "check_machines", "check_transport",
+      "check_replay"]),
+    ("Programs that are measured", ["speed_aes", "speed_packets", "speed_link"]),
 ]
 
 
