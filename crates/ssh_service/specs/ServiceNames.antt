@@ -38,7 +38,8 @@ unless_fault (Some fault) x = Err fault
 unfoldable pub name_at : List ℕ → Result (List ℕ × List ℕ) EncodingFault
 name_at bytes = string_at bytes >>= λ s. unless_fault (name_fault s.0) s
 
--- a read at the front of bytes, its value seen by `view`, unless memory is wanting; after a refusal the reader isn't used
+-- A read at the front of bytes, its value seen by `view`, unless memory is wanting. After a refusal the reader isn't
+-- used.
 abbrev pub Reads : {X Y : Type 0} → (X → Y) → Result (Y × List ℕ) EncodingFault → Result X Error → List ℕ → Type 0
 Reads view read (Ok x) new = read ≡ Ok (view x, new)
 Reads view read (Err e) new = (e ≡ Memory) ⊎ (answer_of read ≡ Err e)

@@ -59,7 +59,7 @@ impl Services {
     /// - Refused(ProtocolError) at each later one, Refused(ServiceNotAvailable) where it isn't offered;
     /// - Extensions at the first extension info;
     /// - Other for a message number of at least 50;
-    /// - Bad for all else: the refusal of `ServiceMessage::decode`, or Inconsistent at an accept or a later extension info.
+    /// - Bad for all else: what `ServiceMessage::decode` answers, or Inconsistent at an accept and at later extensions.
     ///
     /// Memory, which leaves the machine as it was.
     pub fn receive(&mut self, payload: &[u8]) -> Result<ServiceAnswer, Error>
@@ -83,8 +83,8 @@ impl Services {
         }
     }
 
-    /// The answers to the next payloads that were delivered, in their order. Memory: some of them, from the first one on,
-    /// were received.
+    /// The answers to the next payloads that were delivered, in their order. Memory: some of them, from the first one
+    /// on, were received.
     pub fn receive_all(&mut self, payloads: &[Payload]) -> Result<Vec<ServiceAnswer>, Error>
         ensures answers { IfOk result (λ v. (earlier : List (List ℕ)) → StandsFor self.old earlier
             → v.items ≡ answers_from self.old.offered earlier payloads.now) }
