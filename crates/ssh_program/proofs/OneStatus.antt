@@ -1,16 +1,11 @@
 -- Where each answer of a command has one status, its call ends with that status.
-use Rattle.std.proofs.Common.{◌≡◌, ◌≢◌, ◌⊎◌, inl, inr, ◌∙◌, ℕ, Bool, true, false, List, [], Option, Some, None, IfSome, sym, subst}
-use Rattle.ssh_wire.specs.Outside.{Appends, AppendsFront, Rose}
-use Rattle.ssh_program.specs.Programs.{AnswersBy, AnswersWords, HasOneStatus, IsAnswer, IsWritten, status_told}
+use Rattle.std.proofs.Common.{◌≡◌, ◌≢◌, inl, inr, ◌∙◌, ℕ, Bool, true, false, List, [], Option, Some, IfSome, sym, subst}
+use Rattle.ssh_program.specs.Programs.{AnswersBy, AnswersWords, HasOneStatus, IsWritten}
 use Rattle.ssh_program.specs.Statuses.{sink_failed}
 
-written_told : {A : Type 0} (status_for : A → ℕ) (answer : A) (text : List ℕ) (status told : ℕ) (held now : Option (List ℕ)) (faults faults_now : ℕ) → IsWritten text (status_for answer) status held now faults faults_now → status_for answer ≡ told → status ≢ sink_failed → status ≡ told
+pub written_told : {A : Type 0} (status_for : A → ℕ) (answer : A) (text : List ℕ) (status told : ℕ) (held now : Option (List ℕ)) (faults faults_now : ℕ) → IsWritten text (status_for answer) status held now faults faults_now → status_for answer ≡ told → status ≢ sink_failed → status ≡ told
 written_told status_for answer text status told held now faults faults_now (inl h) e sink = h.0 ∙ e
 written_told status_for answer text status told held now faults faults_now (inr h) e sink = absurd (sink h.0)
-
-pub one_status : {C A : Type 0} (command_in : List (List ℕ) → Option C) (reads : C → Bool) (answers : C → List ℕ → A → Type 0) (status_for : A → ℕ) (words : List (List ℕ)) (left left_now : Option (List ℕ)) (answer : Option A) (text : List ℕ) (status told : ℕ) (held now : Option (List ℕ)) (faults faults_now : ℕ) → HasOneStatus command_in reads answers status_for words left told → IsAnswer command_in reads answers words left left_now answer → IsWritten text (status_told status_for answer) status held now faults faults_now → status ≢ sink_failed → status ≡ told
-one_status command_in reads answers status_for words left left_now None text status told held now faults faults_now one is written sink = absurd (is one.0)
-one_status command_in reads answers status_for words left left_now (Some answer) text status told held now faults faults_now one is written sink = written_told status_for answer text status told held now faults faults_now written (one.1 left_now answer is) sink
 
 pub one_of : {T : Type 0} (a b : T) (o : Option T) → o ≡ Some a → o ≡ Some b → a ≡ b
 one_of a b o e f = cc
