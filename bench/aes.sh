@@ -3,7 +3,7 @@
 # Encrypts messages of 32 KiB under a key of 32 bytes by each mode of ssh_aes for about two seconds, and by
 # OpenSSL with its AES and carry-less product instructions switched off, and prints bytes per second of both.
 # Where valgrind is installed, it also prints how many instructions ssh_aes runs for each byte of 1 MiB, less
-# what a run of no message takes. Needs rt (once, to build crates/aes_speed), openssl and python3.
+# what a run of no message takes. Needs rt (once, to build crates/speed_aes), openssl and python3.
 set -eu
 case ${1:-} in
 '') ;;
@@ -11,8 +11,8 @@ case ${1:-} in
 *) echo "$0 takes no words: $*" >&2; exit 2 ;;
 esac
 cd "$(dirname "$0")/.."
-[ -x crates/aes_speed/out/aes_speed ] || (cd crates/aes_speed && rt run -- ctr 1 >/dev/null 2>&1)
-python3 - crates/aes_speed/out/aes_speed <<'PYTHON'
+[ -x crates/speed_aes/out/speed_aes ] || (cd crates/speed_aes && rt run -- ctr 1 >/dev/null 2>&1)
+python3 - crates/speed_aes/out/speed_aes <<'PYTHON'
 import os, re, shutil, subprocess, sys, time
 
 program = sys.argv[1]

@@ -5,7 +5,7 @@
 # Beside them it prints the bytes per second of OpenSSL's cipher and then its HMAC over as many bytes, with its AES
 # and carry-less product instructions switched off; and, where valgrind is installed, how many instructions sealing
 # and opening run for each byte of 1 MiB, less what a run of no packet takes. Needs rt (once, to build
-# crates/packet_speed), openssl and python3.
+# crates/speed_packets), openssl and python3.
 set -eu
 case ${1:-} in
 '') ;;
@@ -13,8 +13,8 @@ case ${1:-} in
 *) echo "$0 takes no words: $*" >&2; exit 2 ;;
 esac
 cd "$(dirname "$0")/.."
-[ -x crates/packet_speed/out/packet_speed ] || (cd crates/packet_speed && rt run >/dev/null 2>&1)
-python3 - crates/packet_speed/out/packet_speed <<'PYTHON'
+[ -x crates/speed_packets/out/speed_packets ] || (cd crates/speed_packets && rt run >/dev/null 2>&1)
+python3 - crates/speed_packets/out/speed_packets <<'PYTHON'
 import functools, os, re, shutil, subprocess, sys, time
 
 program = sys.argv[1]

@@ -4,8 +4,8 @@
 # 64 MB of payloads of 32 KiB, and 25,000 and 100,000 payloads of 64 bytes. It prints seconds, nanoseconds for a byte of
 # payload and how often that is what sealing and opening the same packets takes, how the time grows by four times the
 # load, and the peak of memory for a byte on the wires. Then the same of `sshlink gen 1 10000` and `gen 1 100000`, with the
-# instructions for a byte of payload where valgrind is there. Needs rt (once, to build crates/link_speed,
-# crates/packet_speed and crates/sshlink) and python3.
+# instructions for a byte of payload where valgrind is there. Needs rt (once, to build crates/speed_link,
+# crates/speed_packets and crates/sshlink) and python3.
 set -eu
 case ${1:-} in
 '') ;;
@@ -13,10 +13,10 @@ case ${1:-} in
 *) echo "$0 takes no words: $*" >&2; exit 2 ;;
 esac
 cd "$(dirname "$0")/.."
-for program in link_speed packet_speed sshlink; do
+for program in speed_link speed_packets sshlink; do
   [ -x "crates/$program/out/$program" ] || (cd "crates/$program" && rt run >/dev/null 2>&1)
 done
-python3 - crates/link_speed/out/link_speed crates/packet_speed/out/packet_speed crates/sshlink/out/sshlink <<'PYTHON'
+python3 - crates/speed_link/out/speed_link crates/speed_packets/out/speed_packets crates/sshlink/out/sshlink <<'PYTHON'
 import os, shutil, subprocess, sys, time
 
 link, packets, sshlink = sys.argv[1:]

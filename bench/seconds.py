@@ -19,8 +19,9 @@ def modules(folder):
 
 
 def main():
-    if len(sys.argv) not in (2, 3) or sys.argv[1] in ("-h", "--help"):
-        sys.exit(__doc__)
+    if len(sys.argv) not in (2, 3) or "--help" in sys.argv:
+        print(__doc__)
+        sys.exit(0 if "--help" in sys.argv else 2)
     written = sorted(modules(pathlib.Path(sys.argv[1])))
     if not written:
         sys.exit(f"{sys.argv[1]}: no module is kept there")

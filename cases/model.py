@@ -1,5 +1,5 @@
 #!/usr/bin/env python3
-"""Usage: cases/model.py [FOLDER..]
+"""Usage: cases/model.py [--write] [FOLDER..]
 
 A plain model of the program, written from docs/SCRIPTS.md and RFC 4253 alone, by which the values of the cases are
 made, those of the commands `run` and `attack` aside. It computes stdout and status of each other case below the folders
@@ -124,7 +124,14 @@ def answer(case):
 
 
 def main():
+    if "--help" in sys.argv:
+        print(__doc__)
+        return
     folders = [pathlib.Path(word) for word in sys.argv[1:] if word != "--write"] or [HERE]
+    for folder in folders:
+        if not folder.is_dir():
+            print("there is no folder", folder, file=sys.stderr)
+            sys.exit(2)
     differ = 0
     for args in sorted(args for folder in folders for args in folder.rglob("args")):
         case = args.parent

@@ -8,9 +8,11 @@ Checks what the documents show, prints what isn't so, and ends with status 1 the
 - The first script and report of README.md are those of examples/clear.
 - Each link of a page leads to a file. Each page of docs/ is in its index, and each example in its own.
 - Each row of docs/PROTOCOL.md names definitions of its crates, functions of some source, and files of rows.
+- Each row of docs/ANSWERS.md names clauses of each of its calls, definitions, laws, edits, and files of rows or cases.
 - The bytes of docs/REPORT.md stand where it says.
 - Names in backticks are those of some source, script or file.
 """
+import functools
 import pathlib
 import re
 import sys
@@ -105,6 +107,58 @@ def faulty_protocol():
         yield from (f"docs/PROTOCOL.md: there is no {file}" for file in files if not (TOP / "vectors" / file).exists())
 
 
+@functools.cache
+def sources_of(crate):
+    return [path.read_text(encoding="utf-8") for path in TOP.glob(f"crates/{crate}/src/*.rt")]
+
+
+@functools.cache
+def clauses_of(crate, call):
+    """The names of the clauses of a call, of all functions of that name in the files that name its type."""
+    kind, _, name = call.rpartition("::")
+    found = set()
+    for text in sources_of(crate):
+        if kind in text:
+            for behind in re.split(rf"\bfn {name}\b", text)[1:]:
+                head = re.split(r"\n *\{\}?\n|\bfn ", behind)[0]
+                found |= set(re.findall(r"\bensures\*? (\w*) ?\{", head))
+    return found
+
+
+def answer_rows():
+    """Crate, calls, and the cells for clauses and for what shows them, of each row of the page of answers."""
+    crate, calls = None, []
+    for line in (TOP / "docs/ANSWERS.md").read_text(encoding="utf-8").split("\n"):
+        heading = re.match(r"## (?:`(\w+)`)?", line)
+        crate = heading.group(1) if heading else crate
+        cells = [cell.strip() for cell in line.strip("|").split("|")]
+        if line.startswith("|") and len(cells) > 3 and "`" in line:
+            first, _, of = cells[0].partition(" of ")
+            calls = re.findall(r"`([^`]+)`", first) or calls
+            yield crate or of.strip("`"), calls, cells[-2], cells[-1]
+
+
+def faulty_answers():
+    words = set().union(*(defined(path) for path in TOP.glob("crates/*/specs/*.antt")))
+    edits = {path.stem for kind in ("must-fail", "planted") for path in TOP.glob(f"crates/*/{kind}/*.edit")}
+    for crate, calls, clauses, shown in answer_rows():
+        for part in clauses.split(";"):
+            named, _, cited = (re.findall(r"`([^`]+)`", text) for text in part.partition("by "))
+            named_calls, named = (named, []) if "the law" in part else (calls, named)
+            for call in named_calls:
+                there = clauses_of(crate, call)
+                lacking = (name for name in named if name not in there)
+                yield from (f"docs/ANSWERS.md: {call} of {crate} has no clause {name}" for name in lacking)
+                if not there or (not named and "" not in there and part == clauses):
+                    yield f"docs/ANSWERS.md: {crate} has no {call}, or no clause of it without a name"
+            yield from (f"docs/ANSWERS.md: no definition is called {name}" for name in cited if name not in words)
+        names = re.findall(r"`([^`]+)`", shown)
+        faulty = (name for name in names if name not in edits and not ("/" in name and (TOP / name).exists()))
+        yield from (f"docs/ANSWERS.md: there is no {name}" for name in faulty)
+        if not names and shown != "no edit":
+            yield f"docs/ANSWERS.md: nothing shows what {', '.join(calls)} of {crate} answers by {clauses}"
+
+
 def faulty_names():
     """Names in backticks that no source, script or file has, but for fronts of names, as `x_..`. DIFFERENCES names what the
     ported crate has, and the crates' pages are made of the sources."""
@@ -128,7 +182,8 @@ def main():
     if sys.argv[1:]:
         print(__doc__)
         sys.exit(0 if sys.argv[1:] == ["--help"] else 2)
-    checks = (faulty_definitions, faulty_snippets, faulty_links, faulty_protocol, faulty_bytes, faulty_names)
+    checks = (faulty_definitions, faulty_snippets, faulty_links, faulty_protocol, faulty_answers, faulty_bytes,
+              faulty_names)
     faults = [fault for check in checks for fault in check()]
     print("\n".join(faults) if faults else "documents: what they show stands where they say")
     sys.exit(1 if faults else 0)

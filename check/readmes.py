@@ -28,8 +28,9 @@ LAYERS = [
     ("Encodings and version lines, AES, HMAC", ["ssh_wire", "ssh_aes", "ssh_mac"]),
     ("Proved callers", ["uses"]),
     ("Rows of values, and the programs that compare them",
-     ["vector_rows", "machine_rows", "vector_check", "exchange_check", "machine_check", "transport_check", "replay_check"]),
-    ("Programs that are measured", ["aes_speed", "packet_speed", "link_speed"]),
+     ["vector_rows", "machine_rows", "check_vectors", "check_exchange", "check_machines", "check_transport",
+      "check_replay"]),
+    ("Programs that are measured", ["speed_aes", "speed_packets", "speed_link"]),
 ]
 
 
@@ -54,12 +55,14 @@ def comment_before(lines, at):
 def end_of_call(lines, at):
     """The last line of a function's head, without the brace that opens its body."""
     indent = re.match(r" *", lines[at]).group()
-    in_clauses = False
+    in_clauses, opened = False, 0
     for i in range(at, len(lines)):
         in_clauses = in_clauses or bool(CLAUSE.match(lines[i]))
         if lines[i] in (f"{indent}{{", f"{indent}{{}}"):
             return i, lines[at:i]
-        if lines[i].endswith(";"):
+        # A record in a clause has lines that end so, too.
+        opened += lines[i].count("{") - lines[i].count("}")
+        if lines[i].endswith(";") and not opened:
             return i + 1, [*lines[at:i], lines[i][:-1]]
         if not in_clauses and re.search(r" \{(\})?$", lines[i]):
             return i, [*lines[at:i], re.sub(r" \{(\})?$", "", lines[i])]

@@ -3,9 +3,9 @@
 # Compares the rows of the files (each *.txt at or below vectors/ if none is given) with what the crates' public calls
 # answer, and prints each row that differs and how many passed and failed. Then each file is read again with all wanted
 # answers spoiled, of which none may pass: no contract says what these programs answer, so this shows that they compare.
-# Files of vectors/exchange/ are read by the program crates/exchange_check, vectors/machines/steps.txt by
-# crates/machine_check, vectors/machines/transport.txt by crates/transport_check, those of vectors/peers/ by
-# crates/replay_check and by crates/vector_check, all others by the latter.
+# Files of vectors/exchange/ are read by the program crates/check_exchange, vectors/machines/steps.txt by
+# crates/check_machines, vectors/machines/transport.txt by crates/check_transport, those of vectors/peers/ by
+# crates/check_replay and by crates/check_vectors, all others by the latter.
 # Where a program is missing, or older than its sources, it is proved and built first.
 set -u
 case ${1:-} in
@@ -43,9 +43,9 @@ read_by() {
     echo "$2: no answer of $1"
   fi
   [ "$written" = "${written##*$'\n'}" ] || { echo "$2"; echo "${written%$'\n'*}"; }
-  # replay_check learns from the rows of what stood on a wire, and answers the four others
+  # check_replay learns from the rows of what stood on a wire, and answers the four others
   local rows='^[a-z]'
-  [ "$1" != replay_check ] || rows='^(agreed|carried|polled|damaged) '
+  [ "$1" != check_replay ] || rows='^(agreed|carried|polled|damaged) '
   written=$(sed -E "/$rows/s/ = /&spoiled /" "$2" | "$top/crates/$1/out/$1")
   if [[ ! ${written##*$'\n'} =~ ^0\ passed,\ [1-9] ]]; then
     failed=$((failed + 1))
@@ -53,7 +53,7 @@ read_by() {
   fi
 }
 
-for program in vector_check exchange_check machine_check transport_check replay_check; do
+for program in check_vectors check_exchange check_machines check_transport check_replay; do
   build "$program"
 done
 if [ $# = 0 ]; then
@@ -63,11 +63,11 @@ else
 fi
 for file in "${files[@]}"; do
   case $(realpath "$file") in
-    */exchange/*) read_by exchange_check "$file" ;;
-    */machines/transport.txt) read_by transport_check "$file" ;;
-    */machines/*) read_by machine_check "$file" ;;
-    */peers/*) read_by vector_check "$file"; read_by replay_check "$file" ;;
-    *) read_by vector_check "$file" ;;
+    */exchange/*) read_by check_exchange "$file" ;;
+    */machines/transport.txt) read_by check_transport "$file" ;;
+    */machines/*) read_by check_machines "$file" ;;
+    */peers/*) read_by check_vectors "$file"; read_by check_replay "$file" ;;
+    *) read_by check_vectors "$file" ;;
   esac
 done
 echo "vectors: $passed passed, $failed failed"

@@ -8,6 +8,7 @@ under keys. In clear, the exchange hash covers the payloads, and their order is 
 padding alone, and all of a guessed packet but its packet length, since that packet is ignored (RFC 4253 section 7.1).
 """
 
+import os
 import sys
 
 
@@ -41,8 +42,14 @@ def worked_out(lines, side):
 
 
 def main():
+    if "--help" in sys.argv:
+        print(__doc__)
+        return 0
     differ = 0
     for name in sys.argv[1:]:
+        if not os.path.isfile(name):
+            print("there is no file", name, file=sys.stderr)
+            return 2
         with open(name) as file:
             lines = file.read().splitlines()
         side = next(line.split()[1] for line in lines if line.startswith("carried "))

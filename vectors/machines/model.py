@@ -16,6 +16,7 @@ that comes for one that nobody sealed. All that is drawn is zeros.
 `exchange.py` has the machines, `transport.py` the transport, `galois.py` the cipher, and this file the rows.
 """
 
+import os
 import sys
 
 sys.dont_write_bytecode = True
@@ -186,8 +187,14 @@ KINDS = {"play": play, "calls": calls}
 
 
 def main(files):
+    if "--help" in files:
+        print(__doc__)
+        return 0
     agreed = differed = 0
     for file in files:
+        if not os.path.isfile(file):
+            print("there is no file", file, file=sys.stderr)
+            return 2
         with open(file, encoding="utf-8") as rows:
             for at, row in enumerate(rows, 1):
                 row = row.rstrip("\n")

@@ -1,4 +1,6 @@
-use Rattle.std.proofs.Common.{◌∙◌, ap}
+use Rattle.std.proofs.Common.{◌∙◌, ◌||◌, ap}
+use Rattle.ssh_negotiate.specs.Causes.{was_strict}
+use Rattle.ssh_kex.specs.declared.base.KexBase.{KexBase}
 use Rattle.ssh_server_kex.specs.ServerViews.{server_machine}
 use Rattle.ssh_kex.specs.declared.progress.KexProgress.TheVariants.{NeedsReply}
 use Rattle.ssh_server_kex.specs.declared.server_kex.ServerState.TheVariants as states
@@ -10,5 +12,9 @@ returns-in-Ok-clause-ok g c =
       exchange = c.answer_value.new.base.exchange;
       made = (c.in-Ok.made, c.in-Ok.cipher);
       answers = c.in-Ok.ensures.ok;
-      done = c.waits.ensures ∙ ap (NeedsReply (server_machine c.args.base.config.now c.args.base.cause c.answer_value.new.base.exchange (states.AwaitsNewkeys c.in-Ok.made c.in-Ok.cipher))) c.begins_again-is_strict.ensures;
+      done =
+          c.waits.ensures
+          ∙ (ap (λ (b : KexBase). NeedsReply (server_machine b.config.now b.cause c.answer_value.new.base.exchange (states.AwaitsNewkeys c.in-Ok.made c.in-Ok.cipher)) c.begins_again-is_strict.result) c.in-Ok.ensures.base
+          ∙ ap (NeedsReply (server_machine c.args.base.config.now c.args.base.cause c.answer_value.new.base.exchange (states.AwaitsNewkeys c.in-Ok.made c.in-Ok.cipher)))
+          (c.begins_again-is_strict.ensures ∙ ap (λ (b : KexBase). c.in-Ok.made.names.strict_kex || was_strict b.cause) c.in-Ok.ensures.base));
     }

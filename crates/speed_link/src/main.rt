@@ -1,4 +1,4 @@
-//! Carries payloads from a client to a server, for measuring: `link_speed CIPHER MAC LENGTH COUNT PIECE REKEY` with
+//! Carries payloads from a client to a server, for measuring: `speed_link CIPHER MAC LENGTH COUNT PIECE REKEY` with
 //! names of RFC 4253: COUNT payloads of LENGTH bytes, carried in pieces of PIECE bytes, under new keys behind each
 //! REKEY bytes of payload. Writes how many bytes were delivered, and how long both wires are.
 #![tactic(auto)]

@@ -1,4 +1,4 @@
-//! Encrypts a message of 32 KiB again and again, for measuring: `aes_speed MODE COUNT`, where MODE is
+//! Encrypts a message of 32 KiB again and again, for measuring: `speed_aes MODE COUNT`, where MODE is
 //! `ctr`, `cbc` or `gcm`, each under a key of 32 bytes. Writes a byte of the last message.
 #![tactic(auto)]
 

@@ -1,4 +1,4 @@
-//! Seals packets again and again, and opens them, for measuring: `packet_speed CIPHER MAC HOW LENGTH COUNT`
+//! Seals packets again and again, and opens them, for measuring: `speed_packets CIPHER MAC HOW LENGTH COUNT`
 //! with names of RFC 4253, HOW `seal` or `open`, and COUNT payloads of LENGTH bytes. `open` seals too.
 //! Writes how many payload bytes came out.
 #![tactic(auto)]
