@@ -3,8 +3,9 @@ use Rattle.std.proofs.Common.{◌≡◌, ℕ, Bool, true, false, List, [], Optio
 use Rattle.ssh_wire.specs.Outside.{ReachesEnd}
 use Rattle.ssh_program.specs.Programs.{AnswersBy, AnswersLeft, AnswersWords, IsAnswer, IsReading, is_too_long}
 use Rattle.ssh_program.proofs.OneStatus.{one_of}
-use Rattle.ssh_script.specs.declared.script.ScriptFault.{ScriptFault}
-use Rattle.ssh_link.specs.Alike.{link_too_long, over_long, too_long}
+use Rattle.ssh_lines.specs.declared.script.ScriptFault.{ScriptFault}
+use Rattle.ssh_lines.specs.OverLong.{over_long}
+use Rattle.ssh_link.specs.Alike.{link_too_long, too_long}
 use Rattle.ssh_link.specs.Program.{AnswersAttackScript, AnswersCommand, AnswersLinkScript, AnswersScript, AnswersText, IsReadWhole, command_in, reads, shown_attack, shown_clear, shown_fault, shown_refused, shown_report}
 use Rattle.ssh_link.specs.declared.answer.Answer.{Answer}
 use Rattle.ssh_link.specs.declared.answer.Answer.TheVariants.{Faulty, Refused, Ran, RanLink, RanGen, RanAttack}

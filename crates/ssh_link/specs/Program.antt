@@ -14,8 +14,10 @@ use Rattle.ssh_link.specs.PlanRun.{IsAttackedPlan, IsLinkRun}
 use Rattle.ssh_script.specs.Plans.{Plan}
 use Rattle.ssh_script.specs.RunReport.{attack_report_text, link_report_text}
 use Rattle.ssh_script.specs.RunScript.{link_script}
-use Rattle.ssh_script.specs.Report.{clear_report_text, fault_line, refusal_line}
-use Rattle.ssh_script.specs.Script.{clear_script, number_of}
+use Rattle.ssh_lines.specs.Printed.{fault_line, refusal_line}
+use Rattle.ssh_script.specs.Report.{clear_report_text}
+use Rattle.ssh_lines.specs.Fields.{number_of}
+use Rattle.ssh_script.specs.Script.{clear_script}
 use Rattle.ssh_script.specs.Summary.{summary_text}
 use Rattle.ssh_script.specs.Generated.{generated_plan}
 use Rattle.ssh_program.specs.Programs.{IsReading}
@@ -28,7 +30,7 @@ use Rattle.ssh_link.specs.declared.command.Command.TheVariants.{Script, Gen}
 use Rattle.ssh_link.specs.declared.command.ScriptCommand.{ScriptCommand}
 use Rattle.ssh_link.specs.declared.command.ScriptCommand.TheVariants as command
 use Rattle.ssh_script.specs.declared.report.ClearReport.{ClearReport}
-use Rattle.ssh_script.specs.declared.script.ScriptFault.{ScriptFault}
+use Rattle.ssh_lines.specs.declared.script.ScriptFault.{ScriptFault}
 use Rattle.ssh_script.specs.declared.step.ClearStep.{ClearStep}
 
 -- the command of a word

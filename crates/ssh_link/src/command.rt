@@ -2,7 +2,7 @@
 
 ghost use Rattle.std.specs.Prelude.{◌≡◌};
 ghost use Rattle.ssh_link.specs.Program.{command_in, command_named, gen_by};
-ghost use Rattle.ssh_script.specs.Script.{number_of};
+ghost use Rattle.ssh_lines.specs.Fields.{number_of};
 
 use ssh_program::Word;
 use ssh_script::number;

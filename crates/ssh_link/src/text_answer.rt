@@ -2,7 +2,7 @@
 
 ghost use Rattle.std.specs.Prelude.{◌≡◌, Ok, IfOk, IfErr, true, false};
 ghost use Rattle.ssh_wire.specs.declared.ssh_id.SshId.TheVariants.{Standard};
-ghost use Rattle.ssh_script.specs.Parsing.{IsRefusal as IsScriptRefusal};
+ghost use Rattle.ssh_lines.specs.LineFaults.{IsRefusal as IsScriptRefusal};
 ghost use Rattle.ssh_script.specs.Plans.{HasSmallGroups};
 ghost use Rattle.ssh_script.specs.Generated.{generated_plan};
 ghost use Rattle.ssh_link.specs.Program.{AnswersAttack, AnswersAttackScript, AnswersGen, AnswersSteps, AnswersScript, AnswersLinkScript, AnswersPlan, AnswersText, IsRefusal};
