@@ -25,6 +25,8 @@ LAYERS = [
     ("Services and extension info", ["ssh_service"]),
     ("KEXINIT, and the choice of names", ["ssh_negotiate"]),
     ("Packets", ["ssh_packet"]),
+    ("The lines of scripts, and what is printed", ["ssh_lines"]),
+    ("The outer part of a program", ["ssh_program"]),
     ("Encodings and version lines, AES, HMAC", ["ssh_wire", "ssh_aes", "ssh_mac"]),
     ("Proved callers", ["uses"]),
     ("Rows of values, and the programs that compare them",

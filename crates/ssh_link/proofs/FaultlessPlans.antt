@@ -29,7 +29,6 @@ use Rattle.ssh_link.specs.Program.{AnswersGen, IsRefusal}
 use Rattle.ssh_script.specs.RunScript.{host_key}
 use Rattle.ssh_run.specs.RunCauses.{all_submits_good}
 use Rattle.ssh_link.specs.declared.answer.Answer.{Answer}
-use Rattle.ssh_link.specs.declared.stream.ReadError.{ReadError}
 
 -- ---- the payloads
 
@@ -143,6 +142,6 @@ generated_faultless seed count =
 generated_answer : (plan : Plan) (seed count : ℕ) (e : Error) (answer : Answer) → plan ≡ generated_plan seed count → (IsFaultlessPlan plan → e ≡ Memory) → IsRefusal e answer → AnswersGen (generated_plan seed count) answer
 generated_answer plan seed count e answer same h r = absurd (r.1 (h (subst IsFaultlessPlan (sym same) (generated_faultless seed count))))
 
-pub generated_refused : (plan : Plan) (seed count : ℕ) (e : Error) (r : Result Answer ReadError) → plan ≡ generated_plan seed count → (IsFaultlessPlan plan → e ≡ Memory) → IfOk r (IsRefusal e) → IfOk r (λ answer. AnswersGen (generated_plan seed count) answer)
+pub generated_refused : {E : Type 0} → (plan : Plan) (seed count : ℕ) (e : Error) (r : Result Answer E) → plan ≡ generated_plan seed count → (IsFaultlessPlan plan → e ≡ Memory) → IfOk r (IsRefusal e) → IfOk r (λ answer. AnswersGen (generated_plan seed count) answer)
 generated_refused plan seed count e (Ok answer) same h r = generated_answer plan seed count e answer same h r
 generated_refused plan seed count e (Err f) same h r = tt

@@ -1,4 +1,3 @@
-pub mod Taking
 pub mod Answering
 pub mod Commands
 pub mod PlanRuns
@@ -6,3 +5,5 @@ pub mod FaultlessPlans
 pub mod RefusedPlans
 pub mod SmallGroups
 pub mod AttackedPlans
+pub mod WholeSources
+pub mod SureStatuses

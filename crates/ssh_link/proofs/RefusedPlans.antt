@@ -20,7 +20,6 @@ use Rattle.ssh_link.specs.PlanParts.{IsCallOf, IsFaultlessPlan, IsPlanCause, Tru
 use Rattle.ssh_script.specs.Plans.{Plan}
 use Rattle.ssh_link.specs.Program.{AnswersPlan, IsRefusal}
 use Rattle.ssh_link.specs.declared.answer.Answer.{Answer}
-use Rattle.ssh_link.specs.declared.stream.ReadError.{ReadError}
 use Rattle.ssh_run.specs.RunCauses.{IsPartsCause, IsRunCause, IsValidRun, all_submits_good, offered_by, rises_by}
 
 -- ---- calls that are refused by their number
@@ -196,6 +195,6 @@ kept_fault (Some f) e kept (inr h) = h
 refused_answer : (plan : Plan) (e : Error) (answer : Answer) → IsPlanCause plan e → IfSome (fault_of plan) (λ f. (e ≡ errors.Memory) ⊎ (e ≡ errors.InvalidConfig f)) → (IsFaultlessPlan plan → e ≡ errors.Memory) → IsRefusal e answer → AnswersPlan plan answer
 refused_answer plan e answer cause configs complete r = subst (AnswersPlan plan) (sym r.0) (record { kept = r.1; cause = cause; config = kept_fault (fault_of plan) e r.1 configs; faulty = λ f. r.1 (complete f) })
 
-pub plan_refused : (plan : Plan) (e : Error) (r : Result Answer ReadError) → IsPlanCause plan e → IfSome (fault_of plan) (λ f. (e ≡ errors.Memory) ⊎ (e ≡ errors.InvalidConfig f)) → (IsFaultlessPlan plan → e ≡ errors.Memory) → IfOk r (IsRefusal e) → IfOk r (λ answer. AnswersPlan plan answer)
+pub plan_refused : {E : Type 0} → (plan : Plan) (e : Error) (r : Result Answer E) → IsPlanCause plan e → IfSome (fault_of plan) (λ f. (e ≡ errors.Memory) ⊎ (e ≡ errors.InvalidConfig f)) → (IsFaultlessPlan plan → e ≡ errors.Memory) → IfOk r (IsRefusal e) → IfOk r (λ answer. AnswersPlan plan answer)
 plan_refused plan e (Ok answer) cause configs complete r = refused_answer plan e answer cause configs complete r
 plan_refused plan e (Err f) cause configs complete r = tt

@@ -1,11 +1,11 @@
 //! What the program answers, and how it ends.
 
-ghost use Rattle.std.specs.Prelude.{◌≡◌, [], ◌++◌, IfOk, IfErr};
-ghost use Rattle.ssh_link.specs.Program.{answer_text, answer_status, Shows, ShowsNone};
+ghost use Rattle.std.specs.Prelude.{◌≡◌, ◌≤◌, [], ◌++◌, IfOk, IfErr};
+ghost use Rattle.ssh_program.specs.Statuses.{script_faulty};
+ghost use Rattle.ssh_link.specs.Program.{answer_text, answer_status, Shows};
 ghost use Rattle.ssh_wire.specs.declared.error.Error.TheVariants.{Memory};
 
-use crate::command::USAGE;
-use crate::status::{NO_COMMAND, REPORT_WRITTEN, RUN_REFUSED, SCRIPT_FAULTY};
+use ssh_program::{REPORT_WRITTEN, RUN_REFUSED, SCRIPT_FAULTY};
 use ssh_rules::link::{AttackReport, LinkReport};
 use ssh_script::{
     ClearReport, ScriptFault, print_attack, print_clear, print_fault, print_refusal, print_report,
@@ -17,8 +17,6 @@ use std::alloc::Global;
 /// What the program answers.
 #[derive(Debug, Drop)]
 pub enum Answer {
-    /// The words are no command.
-    Usage,
     /// The script breaks its grammar.
     Faulty(ScriptFault),
     /// The run was refused.
@@ -52,34 +50,26 @@ pub struct MainEnd {
 }
 
 impl MainEnd {
-    /// An end without an answer.
-    pub fn without(status: u8) -> MainEnd
+    /// An end with what was answered, if anything was.
+    pub fn with(answer: Option<Answer>, status: u8) -> MainEnd
         ensures status { result.status ≡ status }
-        ensures none { ShowsNone result }
+        ensures shown { Shows answer result }
     {
-        MainEnd {
+        let mut end = MainEnd {
             status,
             clear: None,
             report: None,
             attack: None,
             refused: None,
             fault: None,
-        }
-    }
-
-    /// An end with an answer.
-    pub fn with(answer: Answer, status: u8) -> MainEnd
-        ensures status { result.status ≡ status }
-        ensures shown { Shows answer result }
-    {
-        let mut end = MainEnd::without(status);
+        };
         match answer {
-            Answer::Usage => {}
-            Answer::Faulty(fault) => end.fault = Some(fault),
-            Answer::Refused(error) => end.refused = Some(error),
-            Answer::Ran(report) => end.clear = Some(report),
-            Answer::RanLink(report) | Answer::RanGen(report) => end.report = Some(report),
-            Answer::RanAttack(report) => end.attack = Some(report),
+            None => {}
+            Some(Answer::Faulty(fault)) => end.fault = Some(fault),
+            Some(Answer::Refused(error)) => end.refused = Some(error),
+            Some(Answer::Ran(report)) => end.clear = Some(report),
+            Some(Answer::RanLink(report) | Answer::RanGen(report)) => end.report = Some(report),
+            Some(Answer::RanAttack(report)) => end.attack = Some(report),
         }
         end
     }
@@ -88,10 +78,10 @@ impl MainEnd {
 impl Answer {
     /// The exit status, once all is written.
     pub fn status(&self) -> u8
-        ensures { result ≡ answer_status self.now }
+        ensures status { result ≡ answer_status self.now }
+        ensures within { result ≤ script_faulty }
     {
         match self {
-            Answer::Usage => NO_COMMAND,
             Answer::Faulty(_) => SCRIPT_FAULTY,
             Answer::Refused(_) => RUN_REFUSED,
             Answer::Ran(_) | Answer::RanLink(_) | Answer::RanGen(_) | Answer::RanAttack(_) => {
@@ -106,7 +96,6 @@ impl Answer {
         ensures err { IfErr result (λ e. e ≡ Memory) }
     {
         match self {
-            Answer::Usage => Ok(Vec::from_slice(alloc, USAGE)?),
             Answer::Faulty(fault) => print_fault(alloc, *fault),
             Answer::Refused(error) => print_refusal(alloc, error),
             Answer::Ran(report) => print_clear(alloc, report),

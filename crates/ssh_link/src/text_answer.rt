@@ -2,19 +2,17 @@
 
 ghost use Rattle.std.specs.Prelude.{◌≡◌, Ok, IfOk, IfErr, true, false};
 ghost use Rattle.ssh_wire.specs.declared.ssh_id.SshId.TheVariants.{Standard};
-ghost use Rattle.ssh_script.specs.Parsing.{IsRefusal as IsScriptRefusal};
+ghost use Rattle.ssh_lines.specs.LineFaults.{IsRefusal as IsScriptRefusal};
 ghost use Rattle.ssh_script.specs.Plans.{HasSmallGroups};
 ghost use Rattle.ssh_script.specs.Generated.{generated_plan};
 ghost use Rattle.ssh_link.specs.Program.{AnswersAttack, AnswersAttackScript, AnswersGen, AnswersSteps, AnswersScript, AnswersLinkScript, AnswersPlan, AnswersText, IsRefusal};
 ghost use Rattle.ssh_script.specs.Script.{clear_script};
 ghost use Rattle.ssh_script.specs.RunScript.{link_script};
 ghost use Rattle.ssh_vectors.specs.Primes.{IsLawful};
-ghost use Rattle.ssh_link.specs.declared.stream.ReadError.TheVariants.{Memory};
 
 use crate::answer::Answer;
 use crate::command::ScriptCommand;
 use crate::script_run::{run_attack, run_script};
-use crate::stream::ReadError;
 use ssh_run::run_clear;
 use ssh_script::{ClearStep, Script, ScriptError, generated_script, parse_clear, parse_script};
 use ssh_wire::{Error, SshId, Text};
@@ -25,9 +23,8 @@ pub(crate) fn text_answer(
     alloc: Global,
     command: ScriptCommand,
     text: Vec<u8>,
-) -> Result<Answer, ReadError>
+) -> Result<Answer, AllocError>
     ensures answer { IfOk result (λ answer. AnswersText command text.items answer) }
-    ensures err { IfErr result (λ e. e ≡ Memory) }
 {
     match command {
         ScriptCommand::Clear => clear_answer(alloc, text),
@@ -37,14 +34,13 @@ pub(crate) fn text_answer(
 }
 
 /// What is answered to a script of the command `clear`.
-fn clear_answer(alloc: Global, text: Vec<u8>) -> Result<Answer, ReadError>
+fn clear_answer(alloc: Global, text: Vec<u8>) -> Result<Answer, AllocError>
     ensures answer { IfOk result (λ answer. AnswersScript (clear_script text.items) answer) }
-    ensures err { IfErr result (λ e. e ≡ Memory) }
 {
     match take_steps(alloc, text) {
         Ok(steps) => run_answer(alloc, steps),
         Err(ScriptError::Fault(fault)) => Ok(Answer::Faulty(fault)),
-        Err(ScriptError::Memory) => Err(ReadError::Memory),
+        Err(ScriptError::Memory) => Err(AllocError),
     }
 }
 
@@ -57,15 +53,14 @@ fn take_steps(alloc: Global, text: Vec<u8>) -> Result<Vec<ClearStep>, ScriptErro
 }
 
 /// Runs the steps, which are freed before the report is printed.
-fn run_answer(alloc: Global, steps: Vec<ClearStep>) -> Result<Answer, ReadError>
+fn run_answer(alloc: Global, steps: Vec<ClearStep>) -> Result<Answer, AllocError>
     ensures answer { IfOk result (λ answer. AnswersSteps steps.items answer) }
-    ensures err { IfErr result (λ e. e ≡ Memory) }
 {
     let client_id = standard_id(alloc, "SSH-2.0-sshlink_client")?;
     let server_id = standard_id(alloc, "SSH-2.0-sshlink_server")?;
     match run_clear(alloc, &client_id, &server_id, steps.as_slice()) {
         Ok(report) => Ok(Answer::Ran(report)),
-        Err(Error::Memory) => Err(ReadError::Memory),
+        Err(Error::Memory) => Err(AllocError),
         Err(error) => Ok(Answer::Refused(error)),
     }
 }
@@ -78,26 +73,24 @@ fn standard_id(alloc: Global, text: &str) -> Result<SshId, AllocError>
 
 /// What is answered to a script of the command `run`.
 #[tactic(auto, using(crate::proofs::SmallGroups::script_lawful))]
-fn link_answer(alloc: Global, text: Vec<u8>) -> Result<Answer, ReadError>
+fn link_answer(alloc: Global, text: Vec<u8>) -> Result<Answer, AllocError>
     ensures answer { IfOk result (λ answer. AnswersLinkScript (link_script false text.items) answer) }
-    ensures err { IfErr result (λ e. e ≡ Memory) }
 {
     match take_script(alloc, false, text) {
         Ok(script) => script_answer(alloc, script),
         Err(ScriptError::Fault(fault)) => Ok(Answer::Faulty(fault)),
-        Err(ScriptError::Memory) => Err(ReadError::Memory),
+        Err(ScriptError::Memory) => Err(AllocError),
     }
 }
 
 /// What is answered to a script of the command `attack`.
-fn attack_answer(alloc: Global, text: Vec<u8>) -> Result<Answer, ReadError>
+fn attack_answer(alloc: Global, text: Vec<u8>) -> Result<Answer, AllocError>
     ensures answer { IfOk result (λ answer. AnswersAttackScript (link_script true text.items) answer) }
-    ensures err { IfErr result (λ e. e ≡ Memory) }
 {
     match take_script(alloc, true, text) {
         Ok(script) => attacked_answer(alloc, script),
         Err(ScriptError::Fault(fault)) => Ok(Answer::Faulty(fault)),
-        Err(ScriptError::Memory) => Err(ReadError::Memory),
+        Err(ScriptError::Memory) => Err(AllocError),
     }
 }
 
@@ -112,12 +105,11 @@ fn take_script(alloc: Global, attacked: bool, text: Vec<u8>) -> Result<Script, S
 
 /// What is answered to a seed and a number of turns.
 #[tactic(auto, using(crate::proofs::PlanRuns::generated_link))]
-pub(crate) fn gen_answer(alloc: Global, seed: u64, count: u64) -> Result<Answer, ReadError>
+pub(crate) fn gen_answer(alloc: Global, seed: u64, count: u64) -> Result<Answer, AllocError>
     ensures answer { IfOk result (λ answer. AnswersGen (generated_plan seed count) answer) }
-    ensures err { IfErr result (λ e. e ≡ Memory) }
 {
     let Ok(script) = generated_script(alloc, seed, count) else {
-        return Err(ReadError::Memory);
+        return Err(AllocError);
     };
     match run_script(alloc, &script) {
         Ok(report) => Ok(Answer::RanGen(report)),
@@ -127,10 +119,9 @@ pub(crate) fn gen_answer(alloc: Global, seed: u64, count: u64) -> Result<Answer,
 
 /// Runs the script, which is freed before the report is printed.
 #[tactic(auto, using(crate::proofs::PlanRuns::lawful_link))]
-fn script_answer(alloc: Global, script: Script) -> Result<Answer, ReadError>
+fn script_answer(alloc: Global, script: Script) -> Result<Answer, AllocError>
     requires { IsLawful script.server.group_bits script.client.config.gex }
     ensures answer { IfOk result (λ answer. AnswersPlan script answer) }
-    ensures err { IfErr result (λ e. e ≡ Memory) }
 {
     match run_script(alloc, &script) {
         Ok(report) => Ok(Answer::RanLink(report)),
@@ -139,9 +130,8 @@ fn script_answer(alloc: Global, script: Script) -> Result<Answer, ReadError>
 }
 
 /// Runs the script of any bytes, which is freed before the report is printed.
-fn attacked_answer(alloc: Global, script: Script) -> Result<Answer, ReadError>
+fn attacked_answer(alloc: Global, script: Script) -> Result<Answer, AllocError>
     ensures answer { IfOk result (λ answer. AnswersAttack script answer) }
-    ensures err { IfErr result (λ e. e ≡ Memory) }
 {
     match run_attack(alloc, &script) {
         Ok(report) => Ok(Answer::RanAttack(report)),
@@ -150,12 +140,11 @@ fn attacked_answer(alloc: Global, script: Script) -> Result<Answer, ReadError>
 }
 
 /// What is answered to a refused run; want of memory is no refusal.
-fn refused(error: Error) -> Result<Answer, ReadError>
+fn refused(error: Error) -> Result<Answer, AllocError>
     ensures answer { IfOk result (IsRefusal error) }
-    ensures err { IfErr result (λ e. e ≡ Memory) }
 {
     match error {
-        Error::Memory => Err(ReadError::Memory),
+        Error::Memory => Err(AllocError),
         error => Ok(Answer::Refused(error)),
     }
 }

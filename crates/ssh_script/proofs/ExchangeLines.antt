@@ -5,7 +5,7 @@ use Rattle.ssh_script.proofs.Names.{join_with_byte-first}
 use Rattle.std.specs.List.{flat_map, join_with_byte}
 use Rattle.ssh_wire.specs.declared.side.Side.{Side}
 use Rattle.ssh_kex.specs.declared.exchange.FinishedExchange.{FinishedExchange}
-use Rattle.ssh_script.specs.Report.{side_name, hex_word}
+use Rattle.ssh_lines.specs.Printed.{side_name, hex_word}
 use Rattle.ssh_script.specs.RunReport.{names_words, exchange_line}
 
 cons_append : (b : ℕ) (xs ys : List ℕ) → (b ∷ xs) ++ ys ≡ b ∷ (xs ++ ys)

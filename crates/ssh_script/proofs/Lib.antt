@@ -1,9 +1,7 @@
-pub mod Cutting
 pub mod GeneratedTurns
 pub mod GivenBlobs
 pub mod Judging
 pub mod Names
-pub mod Numbers
 pub mod Texts
 pub mod ExchangeLines
 pub mod SummaryLines

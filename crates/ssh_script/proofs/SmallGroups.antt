@@ -1,5 +1,5 @@
 -- The sizes of groups that a script sets are at most 65536.
-use Rattle.std.proofs.Common.{◌≡◌, ℕ, ◌+◌, ◌≤◌, Bool, true, false, if◌then◌else◌, nat_lt, List, [], ◌∷◌, ◌++◌, codes, Option, Some, None, Result, Ok, Err, refl, sym, subst, arith}
+use Rattle.std.proofs.Common.{◌≡◌, ℕ, ◌+◌, ◌≤◌, Bool, true, false, if◌then◌else◌, nat_lt, List, [], ◌∷◌, ◌++◌, codes, Option, Some, None, Result, Ok, Err, OnOk, refl, sym, subst, arith}
 use Rattle.std.proofs.lemmas.Bool.Decides.{nat_tests}
 use Rattle.std.specs.Option.{option_map}
 use Rattle.std.specs.Str.{bytes_eq}
@@ -9,9 +9,11 @@ use Rattle.ssh_kex.specs.declared.group.GexParams.{GexParams}
 use Rattle.ssh_rules.specs.declared.link.AttackStep.{AttackStep}
 use Rattle.ssh_rules.specs.declared.link.Step.{Step}
 use Rattle.ssh_script.specs.Plans.{Plan, HasSmallGroups, HasSmallSizes}
-use Rattle.ssh_script.specs.RunScript.{all_three, attack_step, both, first_plan, form_makes, from_three, from_two, from_word, link_form, link_line, plan_from, plan_then, part_of, run_step, set_before, set_by, set_server, set_side, set_words, setting_of, size_from, size_of, sizes, with_attack, with_default_key, with_limits, with_refusal, with_step}
-use Rattle.ssh_script.specs.Script.{is_comment, number_of, pieces, side_of, words_of}
-use Rattle.ssh_script.specs.declared.script.ScriptKind.{ScriptKind}
+use Rattle.ssh_script.specs.RunScript.{attack_step, first_plan, link_form, part_of, run_step, set_before, set_by, set_server, set_side, set_words, setting_of, sizes, with_attack, with_default_key, with_limits, with_refusal, with_step}
+use Rattle.ssh_lines.specs.Fields.{all_three, both, form_makes, from_three, from_two, from_word, size_from, size_of}
+use Rattle.ssh_lines.specs.Fields.{number_of, side_of}
+use Rattle.ssh_lines.specs.Lines.{is_comment, pieces, words_of}
+use Rattle.ssh_lines.specs.declared.script.ScriptKind.{ScriptKind}
 use Rattle.ssh_script.specs.declared.setting.Part.{Part}
 use Rattle.ssh_script.specs.declared.setting.Part.TheVariants as part
 use Rattle.ssh_script.specs.declared.setting.Setting.{Setting}
@@ -133,6 +135,11 @@ before_small [] [] words p p' h e = set_small words p p' h e
 before_small [] (step ∷ steps) words p p' h e = cc
 before_small (step ∷ steps) attacks words p p' h e = cc
 
+-- a line that sets something, beside what else it keeps
+pub set_keeps : {A E : Type 0} (r : Result A E) (B : Type 0) (steps : List Step) (attacks : List AttackStep) (words : List (List ℕ)) (p p' : Plan) → HasSmallGroups p → OnOk r B → OnOk r (set_before steps attacks words p ≡ Some p') → OnOk r (B × HasSmallGroups p')
+set_keeps (Ok x) B steps attacks words p p' h b e = (b, before_small steps attacks words p p' h e)
+set_keeps (Err x) B steps attacks words p p' h b e = tt
+
 step_small : (r : Result Step ScriptKind) (p p' : Plan) → HasSmallGroups p → with_step p r ≡ Ok p' → HasSmallGroups p'
 step_small (Err kind) p p' h e = cc
 step_small (Ok step) p p' h e = let q : record p { steps = p.steps ++ step ∷ [] } ≡ p' = cc in subst HasSmallGroups q (record { client = h.client; server = h.server })
@@ -141,24 +148,10 @@ attack_small : (r : Result AttackStep ScriptKind) (p p' : Plan) → HasSmallGrou
 attack_small (Err kind) p p' h e = cc
 attack_small (Ok step) p p' h e = let q : record p { attack = p.attack ++ step ∷ [] } ≡ p' = cc in subst HasSmallGroups q (record { client = h.client; server = h.server })
 
-form_small : (attacked : Bool) (p : Plan) (word : List ℕ) (words : List (List ℕ)) (p' : Plan) → HasSmallGroups p → link_form attacked p word words ≡ Ok p' → HasSmallGroups p'
+pub form_small : (attacked : Bool) (p : Plan) (word : List ℕ) (words : List (List ℕ)) (p' : Plan) → HasSmallGroups p → link_form attacked p word words ≡ Ok p' → HasSmallGroups p'
 form_small attacked p word words p' h e =
     if_ok HasSmallGroups (bytes_eq word (codes "set")) _ _ p' (some_ok HasSmallGroups (set_before p.steps p.attack words p) p' (before_small p.steps p.attack words p p' h))
     (if_ok HasSmallGroups attacked _ _ p' (attack_small (attack_step word words) p p' h) (step_small (run_step word words) p p' h)) e
-
-line_small : (attacked : Bool) (words : List (List ℕ)) (p p' : Plan) → HasSmallGroups p → link_line attacked p words ≡ Ok p' → HasSmallGroups p'
-line_small attacked [] p p' h e = let same : p ≡ p' = cc in subst HasSmallGroups same h
-line_small attacked (word ∷ words) p p' h e = if_ok HasSmallGroups (is_comment word) _ _ p' (λ f. let same : p ≡ p' = cc in subst HasSmallGroups same h) (form_small attacked p word words p' h) e
-
-lines_small : (attacked : Bool) (lines : List (List ℕ)) (n : ℕ) (p p' : Plan) → HasSmallGroups p → plan_from attacked n p lines ≡ Ok p' → HasSmallGroups p'
-lines_small attacked [] n p p' h e = let same : p ≡ p' = cc in subst HasSmallGroups same h
-lines_small attacked (line ∷ lines) n p p' h e = by_line (link_line attacked p (words_of line)) (line_small attacked (words_of line) p) (λ q k. lines_small attacked lines (n + 1) q p' k) e
-  where
-    by_line : (r : Result Plan ScriptKind) → ((q : Plan) → HasSmallGroups p → r ≡ Ok q → HasSmallGroups q)
-        → ((q : Plan) → HasSmallGroups q → plan_from attacked (n + 1) q lines ≡ Ok p' → HasSmallGroups p')
-        → plan_then n r (λ (q : Plan). plan_from attacked (n + 1) q lines) ≡ Ok p' → HasSmallGroups p'
-    by_line (Err kind) f more e = cc
-    by_line (Ok q) f more e = more q (f q h refl) e
 
 default_small : (s : ℕ) → s ≡ 3072 → s ≤ 65536
 default_small s e = omega (arith, e)
@@ -169,8 +162,9 @@ first_small = record {
   server = record { preferred = default_small 3072 refl; group = omega arith };
 }
 
--- what all lines make of the first plan, with the key of a server that no line gives one
-pub taken_small : (attacked : Bool) (text : List ℕ) (first q p : Plan) → first ≡ first_plan → plan_from attacked 1 first (pieces 10 text) ≡ Ok q → p ≡ with_default_key q → HasSmallGroups p
-taken_small attacked text first q p b e d =
-    let h = lines_small attacked (pieces 10 text) 1 first q (subst HasSmallGroups (sym b) first_small) e in
-    subst HasSmallGroups (sym d) (record { client = h.client; server = record { preferred = h.server.preferred; group = h.server.group } })
+pub first_is_small : (p : Plan) → p ≡ first_plan → HasSmallGroups p
+first_is_small p e = subst HasSmallGroups (sym e) first_small
+
+-- with the key of a server that no line gives one
+pub completed_small : (p q : Plan) → HasSmallGroups p → q ≡ with_default_key p → HasSmallGroups q
+completed_small p q h e = subst HasSmallGroups (sym e) (record { client = h.client; server = record { preferred = h.server.preferred; group = h.server.group } })

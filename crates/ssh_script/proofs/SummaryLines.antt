@@ -3,7 +3,7 @@ use Rattle.std.proofs.Common.{◌≡◌, ℕ, ◌+◌, ◌<◌, ◌≤◌, min, 
 use Rattle.std.proofs.lemmas.Bool.Decides.{nat_tests}
 use Rattle.ssh_wire.specs.declared.side.Side.{Side}
 use Rattle.ssh_rules.specs.declared.link.SideReport.{SideReport}
-use Rattle.ssh_script.specs.Report.{side_name}
+use Rattle.ssh_lines.specs.Printed.{side_name}
 use Rattle.ssh_script.specs.Summary.{bytes_in, largest, side_summary}
 
 min_small : (a b : ℕ) → a ≤ b → min (a + 0) b ≡ a

@@ -1,7 +1,5 @@
-pub mod Parsing
 pub mod Report
 pub mod Script
-pub mod LineFaults
 pub mod Plans
 pub mod RunReport
 pub mod Generated

@@ -16,7 +16,8 @@ use Rattle.ssh_rules.specs.declared.link.SideReport.{SideReport}
 use Rattle.ssh_rules.specs.declared.link.LinkReport.{LinkReport}
 use Rattle.ssh_wire.specs.declared.error.Error.{Error}
 use Rattle.ssh_wire.specs.declared.error.Error.TheVariants as errors
-use Rattle.ssh_script.specs.Report.{side_name, hex_word, report_line, room_for, delivered_lines, error_text}
+use Rattle.ssh_script.specs.Report.{report_line, room_for, delivered_lines}
+use Rattle.ssh_lines.specs.Printed.{side_name, hex_word, error_text}
 
 -- KEY: the type of the certificate where one was chosen
 abbrev pub key_word : Names → List ℕ

@@ -1,5 +1,5 @@
 -- The text of a script of the commands `run` and `attack`: what each line says, and what it makes of those before it.
-use Rattle.std.specs.Prelude.{◌≡◌, ℕ, ◌+◌, ◌^◌, ◌||◌, nat_lt, Bool, true, false, ◌++◌, refl, if◌then◌else◌, List, [], ◌∷◌, length, find, codes, Option, Some, None, Result, Ok, Err}
+use Rattle.std.specs.Prelude.{◌≡◌, ℕ, ◌^◌, ◌||◌, Bool, true, false, ◌++◌, refl, if◌then◌else◌, List, [], ◌∷◌, find, codes, Option, Some, None, Result, Ok, Err}
 use Rattle.std.specs.List.{list_any}
 use Rattle.std.specs.Option.{option_map}
 use Rattle.std.specs.Str.{bytes_eq, is_utf8}
@@ -29,10 +29,11 @@ use Rattle.ssh_rules.specs.declared.link.AttackStep.TheVariants as fed
 use Rattle.ssh_rules.specs.declared.link.Step.{Step}
 use Rattle.ssh_rules.specs.declared.link.Step.TheVariants.{Submit, Deliver, Rekey, Settle}
 use Rattle.ssh_script.specs.Plans.{Plan}
-use Rattle.ssh_script.specs.Script.{pieces, words_of, is_comment, side_of, hex_of, number_of, longest_script}
-use Rattle.ssh_script.specs.declared.script.ScriptFault.{ScriptFault}
-use Rattle.ssh_script.specs.declared.script.ScriptKind.{ScriptKind}
-use Rattle.ssh_script.specs.declared.script.ScriptKind.TheVariants.{NotBuilt, Malformed, TooLong}
+use Rattle.ssh_lines.specs.Fields.{form_makes, from_three, from_two, from_word, hex_of, number_of, side_bytes, side_number, side_of, size_of}
+use Rattle.ssh_lines.specs.Lines.{pieces, said_by}
+use Rattle.ssh_lines.specs.declared.script.ScriptFault.{ScriptFault}
+use Rattle.ssh_lines.specs.declared.script.ScriptKind.{ScriptKind}
+use Rattle.ssh_lines.specs.declared.script.ScriptKind.TheVariants.{NotBuilt, Malformed}
 use Rattle.ssh_script.specs.declared.setting.Part.{Part}
 use Rattle.ssh_script.specs.declared.setting.Part.TheVariants as part
 use Rattle.ssh_script.specs.declared.setting.Setting.{Setting}
@@ -99,14 +100,6 @@ part_of word =
     else if bytes_eq word (codes "groups") then Some part.Groups
     else None
 
--- N of at most 65536
-abbrev pub size_from : Option ℕ → Option ℕ
-size_from None = None
-size_from (Some n) = if nat_lt 65536 n then None else Some n
-
-abbrev pub size_of : List ℕ → Option ℕ
-size_of word = size_from (number_of word)
-
 -- bytes that are UTF-8
 abbrev pub utf8_of : List ℕ → Option (List ℕ)
 utf8_of bytes = if is_utf8 bytes then Some bytes else None
@@ -122,38 +115,6 @@ raw_from (Some bytes) = option_map Raw (utf8_of bytes)
 -- HEX, of a text that is sent as it is
 abbrev pub raw_of : List ℕ → Option SshId
 raw_of word = raw_from (hex_of word)
-
--- one word that is read
-abbrev pub from_word : {X : Type 0} → (List ℕ → Option X) → List (List ℕ) → Option X
-from_word read [] = None
-from_word read (word ∷ []) = read word
-from_word read (word ∷ more ∷ words) = None
-
-abbrev pub both : {X Y Z : Type 0} → (X → Y → Z) → Option X → Option Y → Option Z
-both make None y = None
-both make (Some x) None = None
-both make (Some x) (Some y) = Some (make x y)
-
--- two words that are read
-abbrev pub from_two : {X Y Z : Type 0} → (X → Y → Z) → (List ℕ → Option X) → (List ℕ → Option Y) → List (List ℕ) → Option Z
-from_two make first second [] = None
-from_two make first second (a ∷ []) = None
-from_two make first second (a ∷ b ∷ []) = both make (first a) (second b)
-from_two make first second (a ∷ b ∷ more ∷ words) = None
-
-abbrev pub all_three : {X Y Z W : Type 0} → (X → Y → Z → W) → Option X → Option Y → Option Z → Option W
-all_three make None y z = None
-all_three make (Some x) None z = None
-all_three make (Some x) (Some y) None = None
-all_three make (Some x) (Some y) (Some z) = Some (make x y z)
-
--- three words that are read
-abbrev pub from_three : {X Y Z W : Type 0} → (X → Y → Z → W) → (List ℕ → Option X) → (List ℕ → Option Y) → (List ℕ → Option Z) → List (List ℕ) → Option W
-from_three make first second third [] = None
-from_three make first second third (a ∷ []) = None
-from_three make first second third (a ∷ b ∷ []) = None
-from_three make first second third (a ∷ b ∷ c ∷ []) = all_three make (first a) (second b) (third c)
-from_three make first second third (a ∷ b ∷ c ∷ more ∷ words) = None
 
 abbrev pub with_config : SideSetup → Config → SideSetup
 with_config s config = record s { config = config }
@@ -258,23 +219,11 @@ abbrev pub settle_of : List (List ℕ) → Option Step
 settle_of [] = Some Settle
 settle_of (word ∷ words) = None
 
--- a form's words make something, or are wrong
-abbrev pub form_makes : {X : Type 0} → Option X → Result X ScriptKind
-form_makes None = Err Malformed
-form_makes (Some made) = Ok made
-
-abbrev pub side_with : Side → List ℕ → Side × List ℕ
-side_with side bytes = (side, bytes)
-
--- SIDE HEX
-abbrev pub side_bytes : List (List ℕ) → Option (Side × List ℕ)
-side_bytes words = from_two side_with side_of hex_of words
-
 -- a line of the command `run` that sets nothing, by its first word and those behind it
 abbrev pub run_step : List ℕ → List (List ℕ) → Result Step ScriptKind
 run_step word words =
     if bytes_eq word (codes "submit") then form_makes (option_map (λ said. Submit said.0 said.1) (side_bytes words))
-    else if bytes_eq word (codes "deliver") then form_makes (from_two Deliver side_of number_of words)
+    else if bytes_eq word (codes "deliver") then form_makes (option_map (λ said. Deliver said.0 said.1) (side_number words))
     else if bytes_eq word (codes "rekey") then form_makes (from_word (λ word. option_map Rekey (side_of word)) words)
     else if bytes_eq word (codes "settle") then form_makes (settle_of words)
     else Err NotBuilt
@@ -302,22 +251,6 @@ link_form attacked plan word words =
     if bytes_eq word (codes "set") then form_makes (set_before plan.steps plan.attack words plan)
     else if attacked then with_attack plan (attack_step word words)
     else with_step plan (run_step word words)
-
--- what the words of a line make of a plan
-abbrev pub link_line : Bool → Plan → List (List ℕ) → Result Plan ScriptKind
-link_line attacked plan [] = Ok plan
-link_line attacked plan (word ∷ words) = if is_comment word then Ok plan else link_form attacked plan word words
-
--- line n, before the lines behind it: the first faulty line decides
-abbrev pub plan_then : ℕ → Result Plan ScriptKind → (Plan → Result Plan ScriptFault) → Result Plan ScriptFault
-plan_then n (Err kind) more = Err (record { line = n; kind = kind })
-plan_then n (Ok plan) more = more plan
-
--- what lines that count from n make of a plan
-abbrev pub plan_from : Bool → ℕ → Plan → List (List ℕ) → Result Plan ScriptFault
-plan_from attacked n plan [] = Ok plan
-plan_from attacked n plan (line ∷ lines) =
-    plan_then n (link_line attacked plan (words_of line)) (λ next. plan_from attacked (n + 1) next lines)
 
 -- a side of which a script says nothing
 abbrev pub first_setup : List ℕ → ℕ → SideSetup
@@ -359,9 +292,7 @@ completed (Ok plan) = Ok (with_default_key plan)
 
 -- what a whole script asks for, or its fault
 abbrev pub link_script : Bool → List ℕ → Result Plan ScriptFault
-link_script attacked text =
-    if nat_lt longest_script (length text) then Err (record { line = 0; kind = TooLong })
-    else completed (plan_from attacked 1 first_plan (pieces 10 text))
+link_script attacked text = completed (said_by (link_form attacked) first_plan text)
 
 -- a step of each kind, behind a line that sets the client's seed
 plan-example : link_script false (codes "set client seed 7\nrekey server\nsettle")

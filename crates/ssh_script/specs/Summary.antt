@@ -5,7 +5,7 @@ use Rattle.ssh_wire.specs.declared.side.Side.{Side}
 use Rattle.ssh_wire.specs.declared.side.Side.TheVariants.{Client, Server}
 use Rattle.ssh_rules.specs.declared.link.SideReport.{SideReport}
 use Rattle.ssh_rules.specs.declared.link.LinkReport.{LinkReport}
-use Rattle.ssh_script.specs.Report.{side_name}
+use Rattle.ssh_lines.specs.Printed.{side_name}
 
 -- how many bytes the payloads have together
 abbrev pub bytes_in : List (List ℕ) → ℕ

@@ -1,16 +1,15 @@
 //! Scripts of the command `clear`.
 
 ghost use Rattle.std.specs.Prelude.{◌≡◌, Ok, IfOk, IfErr};
-ghost use Rattle.ssh_script.specs.Script.{submit_of, deliver_of, clear_form, clear_script};
-ghost use Rattle.ssh_script.specs.Parsing.{IsRefusal};
+ghost use Rattle.ssh_lines.specs.LineFaults.{IsLineFault, IsRefusal};
+ghost use Rattle.ssh_script.specs.Script.{clear_script, clear_step};
 
-use crate::fields::{hex_bytes, number, side};
-use crate::lines::{Forms, LineSays, read_script};
-use crate::script::{ScriptError, ScriptKind};
 use crate::step::ClearStep;
-use crate::words::Words;
+use ssh_lines::{
+    LineFault, LineForms, ScriptError, Words, side_and_bytes, side_and_number, take_script,
+};
 use ssh_wire::Payload;
-use std::alloc::{AllocError, Global};
+use std::alloc::Global;
 
 const SUBMIT: &[u8] = b"submit";
 
@@ -30,52 +29,50 @@ pub fn parse_clear(alloc: Global, text: &[u8]) -> Result<Vec<ClearStep>, ScriptE
     ensures read { IfOk result (λ steps. clear_script text.now ≡ Ok steps.items) }
     ensures fault { IfErr result (λ error. IsRefusal (clear_script text.now) error) }
 {
-    read_script::<ClearForms>(alloc, text)
+    let mut forms = ClearForms {
+        steps: Vec::new(alloc),
+    };
+    take_script(alloc, &mut forms, text)?;
+    Ok(forms.steps)
 }
 
-/// The forms `submit` and `deliver`.
-struct ClearForms;
+/// The forms `submit` and `deliver`, with the steps of the lines so far.
+#[derive(Drop)]
+pub struct ClearForms {
+    steps: Vec<ClearStep>,
+}
 
-impl Forms for ClearForms {
-    type Step = ClearStep;
+impl LineForms for ClearForms {
+    ghost use Rattle.std.specs.Prelude.{List};
+    ghost use Rattle.ssh_script.specs.Script.{clear_form};
+    ghost use Rattle.ssh_script.specs.declared.step.ClearStep.{ClearStep};
+
+    ghost Said = { List ClearStep };
 
     ghost form = { clear_form };
 
-    fn read(alloc: Global, word: &[u8], words: Words) -> Result<LineSays<ClearStep>, AllocError> {
-        let step = if word == SUBMIT {
-            submit(alloc, words)?
-        } else if word == DELIVER {
-            deliver(words)
-        } else {
-            return Ok(Err(ScriptKind::NotBuilt));
-        };
-        Ok(step.map(Some).ok_or(ScriptKind::Malformed))
+    ghost said = { λ f. f.steps.items };
+
+    ghost holds = { λ _. Unit {0} };
+
+    fn take(&mut self, alloc: Global, word: &[u8], words: Words) -> Result<(), LineFault> {
+        self.steps.push(clear_step(alloc, word, words)?)?;
+        Ok(())
     }
 }
 
-/// SIDE HEX
-fn submit(alloc: Global, mut words: Words) -> Result<Option<ClearStep>, AllocError>
-    ensures { IfOk result (λ step. step ≡ submit_of words.entry) }
+/// A step of a script of `clear`.
+fn clear_step(alloc: Global, word: &[u8], words: Words) -> Result<ClearStep, LineFault>
+    ensures ok { IfOk result (λ made. clear_step word.now words.entry ≡ Ok made) }
+    ensures fault { IfErr result (IsLineFault (clear_step word.now words.entry)) }
 {
-    let (Some(side_word), Some(hex_word), None) = (words.take(), words.take(), words.take()) else {
-        return Ok(None);
-    };
-    let Some(side) = side(side_word) else {
-        return Ok(None);
-    };
-    let Some(bytes) = hex_bytes(alloc, hex_word)? else {
-        return Ok(None);
-    };
-    Ok(Some(ClearStep::Submit(side, Payload::new(bytes))))
-}
-
-/// SIDE N
-fn deliver(mut words: Words) -> Option<ClearStep>
-    ensures { result ≡ deliver_of words.entry }
-{
-    let (Some(side_word), Some(count_word), None) = (words.take(), words.take(), words.take())
-    else {
-        return None;
-    };
-    Some(ClearStep::Deliver(side(side_word)?, number(count_word)?))
+    if word == SUBMIT {
+        let (side, bytes) = side_and_bytes(alloc, words)?;
+        Ok(ClearStep::Submit(side, Payload::new(bytes)))
+    } else if word == DELIVER {
+        let (side, count) = side_and_number(words)?;
+        Ok(ClearStep::Deliver(side, count))
+    } else {
+        Err(LineFault::NotBuilt)
+    }
 }

@@ -5,12 +5,11 @@ ghost use Rattle.std.specs.List.{flat_map};
 ghost use Rattle.ssh_wire.specs.declared.error.Error.TheVariants.{Memory};
 ghost use Rattle.ssh_script.specs.RunReport.{key_word, names_words, exchange_line, exchange_lines, link_side_lines, link_report_text, link_room, answer_line, answer_lines, answer_word, attack_report_text};
 
-use crate::print::{push_decimal, push_hex, push_numbered, push_text};
-use crate::refusal::push_error;
 use crate::report_line::{
     push_delivered, push_hex_line, push_line_head, push_number_line, room_of,
 };
 use ssh_kex::FinishedExchange;
+use ssh_lines::{push_decimal, push_error, push_hex, push_numbered, push_text};
 use ssh_negotiate::Names;
 use ssh_rules::link::{AttackReport, LinkReport, SideReport};
 use ssh_wire::{Error, Side, put_u8};

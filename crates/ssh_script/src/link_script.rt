@@ -1,24 +1,21 @@
 //! Scripts of the commands `run` and `attack`.
 
-ghost use Rattle.std.specs.Prelude.{◌≡◌, ◌≤◌, Some, Ok, IfOk, IfErr, OnOk, length};
-ghost use Rattle.ssh_script.specs.GivenBlobs.{AreBlobsOf};
-ghost use Rattle.ssh_script.specs.LineFaults.{AreWrong, IsLineFault};
-ghost use Rattle.ssh_script.specs.Parsing.{IsRefusal};
+ghost use Rattle.std.specs.Prelude.{◌≡◌, Some, Ok, IfOk, IfErr, OnOk, true, false};
+ghost use Rattle.ssh_lines.specs.LineFaults.{AreWrong, IsLineFault, IsRefusal};
+ghost use Rattle.ssh_lines.specs.Lines.{said_by};
+ghost use Rattle.ssh_lines.specs.declared.script.ScriptError.TheVariants.{Memory};
 ghost use Rattle.ssh_script.specs.Plans.{HasSmallGroups};
-ghost use Rattle.ssh_script.specs.RunScript.{link_script, plan_from, link_line, link_form, run_step, attack_step, from_two, from_word, settle_of, side_bytes};
-ghost use Rattle.ssh_script.specs.Script.{pieces, words_of, side_of, number_of, longest_script};
-ghost use Rattle.ssh_rules.specs.declared.link.Step.TheVariants as step;
+ghost use Rattle.ssh_script.specs.RunScript.{attack_step, first_plan, link_form, link_script, run_step, settle_of};
 
-use crate::fields::{hex_bytes, number, side};
 use crate::given_blobs::GivenBlobs;
-use crate::line_fault::LineFault;
-use crate::lines::{LONGEST_SCRIPT, begins_comment};
-use crate::script::{ScriptError, ScriptFault, ScriptKind};
 use crate::setting::set;
 use crate::setup::Script;
-use crate::words::{Words, cut};
+use ssh_lines::{
+    LineFault, LineForms, ScriptError, Words, one_side, side_and_bytes, side_and_number,
+    take_script,
+};
 use ssh_rules::link::{AttackStep, Step};
-use ssh_wire::{Blob, Side};
+use ssh_wire::Blob;
 use std::alloc::Global;
 
 const SUBMIT: &[u8] = b"submit";
@@ -43,104 +40,122 @@ const SET: &[u8] = b"set";
 /// Fault names the first line that is none of the command's, counted from 1: NotBuilt where its first word is none of
 /// the forms', Malformed where the words behind it are wrong, where it sets something behind a step, or where it gives
 /// a blob again. A text over 67108864 bytes is TooLong, with the line 0. Memory where an allocation failed.
+#[tactic(auto, using(crate::proofs::SmallGroups::completed_small))]
 pub fn parse_script(alloc: Global, attacked: bool, text: &[u8]) -> Result<Script, ScriptError>
     ensures read { IfOk result (λ script. link_script attacked text.now ≡ Ok script) }
     ensures small { IfOk result HasSmallGroups }
     ensures fault { IfErr result (λ error. IsRefusal (link_script attacked text.now) error) }
 {
-    if text.len() > LONGEST_SCRIPT {
-        return Err(ScriptError::Fault(ScriptFault {
-            line: 0,
-            kind: ScriptKind::TooLong,
-        }));
-    }
-    let mut script = match Script::new(alloc) {
-        Ok(script) => script,
-        Err(_) => return Err(ScriptError::Memory),
+    let mut script = if attacked {
+        attack_lines(alloc, text)?
+    } else {
+        run_lines(alloc, text)?
     };
-    take_lines(
-        alloc,
-        attacked,
-        &mut script,
-        &mut GivenBlobs::new(alloc),
-        text,
-    )?;
     script.complete(alloc)?;
     Ok(script)
 }
 
-/// Takes all lines, in order.
-fn take_lines(
-    alloc: Global,
-    attacked: bool,
-    script: &mut Script,
-    given: &mut GivenBlobs,
-    text: &[u8],
-) -> Result<(), ScriptError>
-    requires small { length text.now ≤ longest_script }
-    requires given { AreBlobsOf script.old.server.config.host given.old }
-    ensures read { OnOk result (plan_from attacked 1 script.old (pieces 10 text.now) ≡ Ok script.new) }
-    ensures fault { IfErr result (λ error. IsRefusal (plan_from attacked 1 script.old (pieces 10 text.now)) error) }
+/// What all lines of a script of `run` say.
+#[tactic(auto, using(crate::proofs::SmallGroups::first_is_small))]
+fn run_lines(alloc: Global, text: &[u8]) -> Result<Script, ScriptError>
+    ensures read { IfOk result (λ script. said_by (link_form false) first_plan text.now ≡ Ok script) }
+    ensures small { IfOk result HasSmallGroups }
+    ensures fault { IfErr result (λ error. IsRefusal (said_by (link_form false) first_plan text.now) error) }
 {
-    let mut line_number = 1;
-    let mut rest = Some(text);
-    while let Some(lines) = rest {
-        let (line, behind) = cut(lines, b'\n');
-        match take_line(alloc, attacked, script, given, line) {
-            Ok(()) => {}
-            Err(fault) => return Err(fault.at(line_number)),
-        }
-        line_number += 1;
-        rest = behind;
-    }
-    Ok(())
+    let mut forms = RunForms {
+        script: first_script(alloc)?,
+        given: GivenBlobs::new(alloc),
+    };
+    take_script(alloc, &mut forms, text)?;
+    Ok(forms.script)
 }
 
-/// Takes one line.
-fn take_line(
-    alloc: Global,
-    attacked: bool,
-    script: &mut Script,
-    given: &mut GivenBlobs,
-    line: &[u8],
-) -> Result<(), LineFault>
-    requires { AreBlobsOf script.old.server.config.host given.old }
-    ensures given { OnOk result (AreBlobsOf script.new.server.config.host given.new) }
-    ensures ok { OnOk result (link_line attacked script.old (words_of line.now) ≡ Ok script.new) }
-    ensures fault { IfErr result (IsLineFault (link_line attacked script.old (words_of line.now))) }
+/// What all lines of a script of `attack` say.
+#[tactic(auto, using(crate::proofs::SmallGroups::first_is_small))]
+fn attack_lines(alloc: Global, text: &[u8]) -> Result<Script, ScriptError>
+    ensures read { IfOk result (λ script. said_by (link_form true) first_plan text.now ≡ Ok script) }
+    ensures small { IfOk result HasSmallGroups }
+    ensures fault { IfErr result (λ error. IsRefusal (said_by (link_form true) first_plan text.now) error) }
 {
-    let mut words = Words::of(line);
-    match words.take() {
-        Some(word) if !begins_comment(word) => {
-            take_form(alloc, attacked, script, given, word, words)
-        }
-        _ => Ok(()),
+    let mut forms = AttackForms {
+        script: first_script(alloc)?,
+        given: GivenBlobs::new(alloc),
+    };
+    take_script(alloc, &mut forms, text)?;
+    Ok(forms.script)
+}
+
+/// A script without lines. Memory.
+fn first_script(alloc: Global) -> Result<Script, ScriptError>
+    ensures ok { IfOk result (λ script. script ≡ first_plan) }
+    ensures err { IfErr result (λ e. e ≡ Memory) }
+{
+    match Script::new(alloc) {
+        Ok(script) => Ok(script),
+        Err(_) => Err(ScriptError::Memory),
     }
 }
 
-/// Takes a line that has words and is no comment.
-fn take_form(
-    alloc: Global,
-    attacked: bool,
-    script: &mut Script,
-    given: &mut GivenBlobs,
-    word: &[u8],
-    words: Words,
-) -> Result<(), LineFault>
-    requires { AreBlobsOf script.old.server.config.host given.old }
-    ensures given { OnOk result (AreBlobsOf script.new.server.config.host given.new) }
-    ensures ok { OnOk result (link_form attacked script.old word.now words.entry ≡ Ok script.new) }
-    ensures fault { IfErr result (IsLineFault (link_form attacked script.old word.now words.entry)) }
-{
-    if word == SET {
-        return set(alloc, script, given, words);
+/// The forms of `run`, with what the lines so far said.
+#[derive(Drop)]
+pub struct RunForms {
+    script: Script,
+    given: GivenBlobs,
+}
+
+impl LineForms for RunForms {
+    ghost use Rattle.std.specs.Prelude.{false};
+    ghost use Rattle.ssh_script.specs.GivenBlobs.{AreBlobsOf};
+    ghost use Rattle.ssh_script.specs.Plans.{HasSmallGroups, Plan};
+    ghost use Rattle.ssh_script.specs.RunScript.{link_form};
+
+    ghost Said = { Plan };
+
+    ghost form = { link_form false };
+
+    ghost said = { λ f. f.script };
+
+    ghost holds = { λ f. AreBlobsOf f.script.server.config.host f.given × HasSmallGroups f.script };
+
+    #[tactic(auto, using(crate::proofs::SmallGroups::form_small))]
+    fn take(&mut self, alloc: Global, word: &[u8], words: Words) -> Result<(), LineFault> {
+        if word == SET {
+            return set(alloc, &mut self.script, &mut self.given, words);
+        }
+        self.script.steps.push(run_step(alloc, word, words)?)?;
+        Ok(())
     }
-    if attacked {
-        script.attack.push(attack_step(alloc, word, words)?)?;
-    } else {
-        script.steps.push(run_step(alloc, word, words)?)?;
+}
+
+/// The forms of `attack`, with what the lines so far said.
+#[derive(Drop)]
+pub struct AttackForms {
+    script: Script,
+    given: GivenBlobs,
+}
+
+impl LineForms for AttackForms {
+    ghost use Rattle.std.specs.Prelude.{true};
+    ghost use Rattle.ssh_script.specs.GivenBlobs.{AreBlobsOf};
+    ghost use Rattle.ssh_script.specs.Plans.{HasSmallGroups, Plan};
+    ghost use Rattle.ssh_script.specs.RunScript.{link_form};
+
+    ghost Said = { Plan };
+
+    ghost form = { link_form true };
+
+    ghost said = { λ f. f.script };
+
+    ghost holds = { λ f. AreBlobsOf f.script.server.config.host f.given × HasSmallGroups f.script };
+
+    #[tactic(auto, using(crate::proofs::SmallGroups::form_small))]
+    fn take(&mut self, alloc: Global, word: &[u8], words: Words) -> Result<(), LineFault> {
+        if word == SET {
+            return set(alloc, &mut self.script, &mut self.given, words);
+        }
+        self.script.attack.push(attack_step(alloc, word, words)?)?;
+        Ok(())
     }
-    Ok(())
 }
 
 /// A step of a script of `run`.
@@ -152,7 +167,8 @@ fn run_step(alloc: Global, word: &[u8], words: Words) -> Result<Step, LineFault>
         let (side, bytes) = side_and_bytes(alloc, words)?;
         Ok(Step::Submit(side, Blob::new(bytes)))
     } else if word == DELIVER {
-        deliver(words)
+        let (side, count) = side_and_number(words)?;
+        Ok(Step::Deliver(side, count))
     } else if word == REKEY {
         Ok(Step::Rekey(one_side(words)?))
     } else if word == SETTLE {
@@ -178,49 +194,6 @@ fn attack_step(alloc: Global, word: &[u8], words: Words) -> Result<AttackStep, L
     } else {
         Err(LineFault::NotBuilt)
     }
-}
-
-/// SIDE HEX
-fn side_and_bytes(alloc: Global, mut words: Words) -> Result<(Side, Vec<u8>), LineFault>
-    ensures ok { IfOk result (λ made. side_bytes words.entry ≡ Some (made.0, made.1.items)) }
-    ensures fault { IfErr result (AreWrong (side_bytes words.entry)) }
-{
-    let (Some(side_word), Some(hex_word), None) = (words.take(), words.take(), words.take()) else {
-        return Err(LineFault::Malformed);
-    };
-    let Some(side) = side(side_word) else {
-        return Err(LineFault::Malformed);
-    };
-    let Some(bytes) = hex_bytes(alloc, hex_word)? else {
-        return Err(LineFault::Malformed);
-    };
-    Ok((side, bytes))
-}
-
-/// SIDE
-fn one_side(mut words: Words) -> Result<Side, LineFault>
-    ensures ok { IfOk result (λ made. from_word side_of words.entry ≡ Some made) }
-    ensures fault { IfErr result (AreWrong (from_word side_of words.entry)) }
-{
-    let (Some(side_word), None) = (words.take(), words.take()) else {
-        return Err(LineFault::Malformed);
-    };
-    side(side_word).ok_or(LineFault::Malformed)
-}
-
-/// SIDE N
-fn deliver(mut words: Words) -> Result<Step, LineFault>
-    ensures ok { IfOk result (λ made. from_two step.Deliver side_of number_of words.entry ≡ Some made) }
-    ensures fault { IfErr result (AreWrong (from_two step.Deliver side_of number_of words.entry)) }
-{
-    let (Some(side_word), Some(count_word), None) = (words.take(), words.take(), words.take())
-    else {
-        return Err(LineFault::Malformed);
-    };
-    let (Some(side), Some(count)) = (side(side_word), number(count_word)) else {
-        return Err(LineFault::Malformed);
-    };
-    Ok(Step::Deliver(side, count))
 }
 
 /// No words.

@@ -3,9 +3,9 @@
 ghost use Rattle.std.specs.Prelude.{◌≡◌, IfOk};
 ghost use Rattle.std.specs.Option.{option_map};
 ghost use Rattle.ssh_script.specs.RunScript.{named_by, all_named, list_of};
-ghost use Rattle.ssh_script.specs.Script.{pieces};
+ghost use Rattle.ssh_lines.specs.Lines.{pieces};
 
-use crate::words::cut;
+use ssh_lines::cut;
 use ssh_negotiate::{AsName, kex};
 use ssh_packet::cipher;
 use ssh_wire::{Algorithm, EcdsaCurve, HashAlg};

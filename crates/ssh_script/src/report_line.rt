@@ -2,9 +2,10 @@
 
 ghost use Rattle.std.specs.Prelude.{◌≡◌, ◌∷◌, [], ◌++◌, ◌-◌, ◌^◌, decimal, min, IfErr, OnOk};
 ghost use Rattle.ssh_wire.specs.declared.error.Error.TheVariants.{Memory};
-ghost use Rattle.ssh_script.specs.Report.{side_name, hex_word, report_line, room_for, delivered_lines};
+ghost use Rattle.ssh_script.specs.Report.{report_line, room_for, delivered_lines};
+ghost use Rattle.ssh_lines.specs.Printed.{side_name, hex_word};
 
-use crate::print::{push_decimal, push_hex};
+use ssh_lines::{name_of_side, push_decimal, push_hex};
 use ssh_wire::{Error, Payload, Side, put_u8};
 
 /// More than the length of what is printed of a wire, a number and payloads; it stops at its end.
@@ -75,13 +76,4 @@ pub(crate) fn push_line_head(out: &mut Vec<u8>, side: Side, name: &[u8]) -> Resu
     put_u8(out, b' ')?;
     out.extend_from_slice(name)?;
     put_u8(out, b' ')
-}
-
-pub(crate) fn name_of_side(side: Side) -> &'static [u8]
-    ensures { result.now ≡ side_name side }
-{
-    match side {
-        Side::Client => b"client",
-        Side::Server => b"server",
-    }
 }

@@ -2,17 +2,16 @@
 
 ghost use Rattle.std.specs.Prelude.{◌≡◌, ◌∷◌, [], Some, IfOk, IfErr, OnOk};
 ghost use Rattle.ssh_script.specs.GivenBlobs.{AreBlobsOf};
-ghost use Rattle.ssh_script.specs.LineFaults.{AreWrong};
-ghost use Rattle.ssh_script.specs.RunScript.{setting_of, part_of, set_before, set_server, set_side, with_refusal, with_limits, with_key, with_certificate, host_key, host_certificate, from_word, from_two, from_three, sizes, size_of, standard_of, raw_of, algorithm_of, utf8_of, list_of};
-ghost use Rattle.ssh_script.specs.Script.{hex_of, number_of};
+ghost use Rattle.ssh_lines.specs.LineFaults.{AreWrong};
+ghost use Rattle.ssh_script.specs.RunScript.{setting_of, part_of, set_before, set_server, set_side, with_refusal, with_limits, with_key, with_certificate, host_key, host_certificate, sizes, standard_of, raw_of, algorithm_of, utf8_of, list_of};
+ghost use Rattle.ssh_lines.specs.Fields.{from_word, from_two, from_three, size_of};
+ghost use Rattle.ssh_lines.specs.Fields.{hex_of, number_of};
 
-use crate::fields::{hex_bytes, number, side, size};
 use crate::given_blobs::GivenBlobs;
-use crate::line_fault::LineFault;
 use crate::name_lists::{HOST_KEY_NAMES, KEX_NAMES, named, names};
 use crate::setup::{Script, SideSetup};
-use crate::words::Words;
 use ssh_kex::GexParams;
+use ssh_lines::{LineFault, Words, hex_bytes, number, side, size};
 use ssh_mac::mac;
 use ssh_negotiate::{AsName, HostCertificate, HostKey, ServerKeys};
 use ssh_packet::cipher;

@@ -4,8 +4,7 @@ ghost use Rattle.std.specs.Prelude.{◌≡◌, ◌++◌, ◌-◌, min, length, I
 ghost use Rattle.ssh_wire.specs.declared.error.Error.TheVariants.{Memory};
 ghost use Rattle.ssh_script.specs.Summary.{bytes_in, largest, side_summary, summary_text};
 
-use crate::print::{push_numbered, push_text};
-use crate::report_line::name_of_side;
+use ssh_lines::{name_of_side, push_numbered, push_text};
 use ssh_rules::link::{LinkReport, SideReport};
 use ssh_wire::{Error, Payload, Side, put_u8};
 use std::alloc::Global;

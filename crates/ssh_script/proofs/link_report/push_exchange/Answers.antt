@@ -1,6 +1,6 @@
 use Rattle.std.proofs.Common.{◌++◌, ◌∙◌, ap}
 use Rattle.std.proofs.lemmas.Result.{on_ok_weaker}
-use Rattle.ssh_script.specs.Report.{hex_word}
+use Rattle.ssh_lines.specs.Printed.{hex_word}
 use Rattle.ssh_script.proofs.ExchangeLines.{exchange_behind}
 use Rattle.ssh_script.proofs.link_report.push_exchange.Goals as goal
 

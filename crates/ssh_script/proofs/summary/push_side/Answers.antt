@@ -1,6 +1,6 @@
 use Rattle.std.proofs.Common.{rules, ◌≡◌, ◌++◌, min, codes, decimal, length}
 use Rattle.std.proofs.lemmas.Result.{on_ok_weaker}
-use Rattle.ssh_script.specs.Report.{side_name}
+use Rattle.ssh_lines.specs.Printed.{side_name}
 use Rattle.ssh_script.specs.Summary.{bytes_in, largest}
 use Rattle.ssh_script.proofs.SummaryLines.{summary_behind}
 use Rattle.ssh_script.proofs.summary.push_side.Goals as goal

@@ -1,0 +1,4 @@
+pub mod Cutting
+pub mod Names
+pub mod Numbers
+pub mod LinesLeft

@@ -1,0 +1,5 @@
+pub mod Lines
+pub mod OverLong
+pub mod Fields
+pub mod LineFaults
+pub mod Printed

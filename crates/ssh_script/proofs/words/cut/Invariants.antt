@@ -1,5 +1,0 @@
-use Rattle.ssh_script.proofs.Cutting.{IsFreeBelow}
-use Rattle.ssh_script.proofs.words.cut.Given as goal
-
-abbrev pub invariant-loop-i : goal.invariant-loop-i
-invariant-loop-i l = IsFreeBelow l.separator l.text l.i
