@@ -18,11 +18,11 @@ LAYERS = [
     ("The program", ["sshlink"]),
     ("From a script's text to a report's text", ["ssh_link"]),
     ("Two sides joined, two sides fed any bytes, scripts and reports", ["ssh_run", "ssh_attack", "ssh_script"]),
+    ("Services and extension info over a transport", ["ssh_service"]),
     ("One side of a connection", ["ssh_transport"]),
     ("One exchange of keys", ["ssh_client_kex", "ssh_server_kex"]),
     ("The rules without code, and parts for tests", ["ssh_rules", "ssh_vectors"]),
     ("The exchange hash, keys, and what is handed in", ["ssh_kex"]),
-    ("Services and extension info", ["ssh_service"]),
     ("KEXINIT, and the choice of names", ["ssh_negotiate"]),
     ("Packets", ["ssh_packet"]),
     ("The lines of scripts, and what is printed", ["ssh_lines"]),
@@ -31,7 +31,7 @@ LAYERS = [
     ("Proved callers", ["uses"]),
     ("Rows of values, and the programs that compare them",
      ["vector_rows", "machine_rows", "check_vectors", "check_exchange", "check_machines", "check_transport",
-      "check_replay"]),
+      "check_replay", "check_services"]),
     ("Programs that are measured", ["speed_aes", "speed_packets", "speed_link"]),
 ]
 

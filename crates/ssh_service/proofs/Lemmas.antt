@@ -2,4 +2,5 @@
 pub use Rattle.ssh_service.proofs.AnswersLaws.{answers_more, answers_next, stands_with, taken_next}
 pub use Rattle.ssh_service.proofs.FieldReads.{named_short}
 pub use Rattle.ssh_service.proofs.MessageLaws.{message_again, message_takes, one_payload}
+pub use Rattle.ssh_service.proofs.ServingLaws.{grant_good, replies_next, submits_join, submits_keep}
 pub use Rattle.ssh_service.proofs.StandsLaws.{accepted_is, accepted_once, first_accepted}

@@ -2,4 +2,5 @@ pub mod FieldReads
 pub mod MessageLaws
 pub mod StandsLaws
 pub mod AnswersLaws
+pub mod ServingLaws
 pub mod Lemmas

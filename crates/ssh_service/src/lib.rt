@@ -7,6 +7,7 @@ mod laws;
 mod message;
 mod name;
 mod services;
+mod serving;
 
 pub use crate::answer::ServiceAnswer;
 pub use crate::info::{ExtInfo, Extension, server_sig_algs};
@@ -14,3 +15,4 @@ pub use crate::laws::{accepted_once, first_accepted, one_payload, spelled_read};
 pub use crate::message::ServiceMessage;
 pub use crate::name::ServiceName;
 pub use crate::services::Services;
+pub use crate::serving::serve;
