@@ -7,8 +7,8 @@ use Rattle.ssh_link.proofs.program.exit_code.Goals as goal
 pub returns-clause-answered : goal.returns-clause-answered
 returns-clause-answered g c read memory =
     let a = c.exit_code.ensures.answered read memory in
-    let whole = answer_whole a.0 (g.S.Source.left c.args.source.now) (g.S.Source.left c.exit_code.new.source) a.2 a.3 in
-    (a.0, a.1, (a.2, a.3, whole, a.4))
+    let whole = answer_whole a.0 (g.S.Source.left c.args.source.now) (g.S.Source.left c.exit_code.new.source) a.2.0 a.2.1 in
+    (a.0, a.1, (a.2.0, a.2.1, whole, a.2.2))
 
 pub returns-clause-cleared : goal.returns-clause-cleared
 returns-clause-cleared g c words are is read sink = c.exit_code.ensures.one words report_written are (clear_sure words (g.S.Source.left c.args.source.now) is) read sink
