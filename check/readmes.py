@@ -22,6 +22,7 @@ LAYERS = [
     ("One exchange of keys", ["ssh_client_kex", "ssh_server_kex"]),
     ("The rules without code, and parts for tests", ["ssh_rules", "ssh_vectors"]),
     ("The exchange hash, keys, and what is handed in", ["ssh_kex"]),
+    ("Services and extension info", ["ssh_service"]),
     ("KEXINIT, and the choice of names", ["ssh_negotiate"]),
     ("Packets", ["ssh_packet"]),
     ("The lines of scripts, and what is printed", ["ssh_lines"]),
