@@ -32,7 +32,7 @@ untold p O S = record p { rises = untold_rises; obliging = O; signs = S }
 
 denies_untold : (p : PartsDo) (O S : Type 0) (f : O → p.obliging) (g : S → p.signs) (v : Seen) (items : List Item) (i : Item) (due : Due) → PartDeniesNow p v items i due → PartDeniesNow (untold p O S) v items i due
 denies_untold p O S f g v items i KexinitDue (n, reads, plain, d) = (n, reads, plain, record { client = d.client; rose = tt; only = λ o. d.only (f o) })
-denies_untold p O S f g v items i GroupDue (g, read, inside, d) = (g, read, inside, record { client = d.client; rose = tt; only = λ o. d.only (f o) })
+denies_untold p O S f g v items i GroupDue (q, read, inside, d) = (q, read, inside, record { client = d.client; rose = tt; only = λ o. d.only (f o) })
 denies_untold p O S f g v items i RequestDue (sizes, read, rose, only) = (sizes, read, tt, only)
 denies_untold p O S f g v items i ValueDue (n, names, d) = (n, names, record { exchange = d.exchange; host = d.host; signature = d.signature; speaks = d.speaks; value_is = d.value_is; rose = tt; only = λ o. d.only (f o) })
 denies_untold p O S f g v items i ReplyDue (n, names, d) = (n, names, record { front = d.front; read = d.read; exchange = d.exchange; host = d.host; signature = d.signature; speaks = d.speaks; value_is = d.value_is; rose = tt; only = λ o. d.only (f o) })

@@ -22,8 +22,8 @@ pub fn attack_twice<A: Agreement, H: HostKeys, G: GroupLookup, R: Rng>(
     alloc: Global,
     client: &Config,
     server: &Config,
-    mut parts: (Parts<A, H, G, R>, Parts<A, H, G, R>),
-    mut other_parts: (Parts<A, H, G, R>, Parts<A, H, G, R>),
+    parts: &mut (Parts<A, H, G, R>, Parts<A, H, G, R>),
+    other_parts: &mut (Parts<A, H, G, R>, Parts<A, H, G, R>),
     steps: &[AttackStep],
     other_steps: &[AttackStep],
 ) -> Result<(AttackReport, AttackReport), Error>
