@@ -70,11 +70,7 @@ fn say_extensions(extensions: &[Extension], found: &mut String) -> Result<(), Fa
 }
 
 /// Appends what a message is written as, or `same` where that is this payload.
-fn say_written(
-    message: &ServiceMessage,
-    payload: &[u8],
-    found: &mut String,
-) -> Result<(), Fault> {
+fn say_written(message: &ServiceMessage, payload: &[u8], found: &mut String) -> Result<(), Fault> {
     let mut out = Vec::new(*found.allocator());
     message.encode(&mut out)?;
     if out.as_slice() == payload {

@@ -30,17 +30,18 @@ always_err (Ok x) P h = tt
 always_err (Err e) P h = h
 
 -- all up to this one were received
-pub received_all : (s t : ServiceState) (payloads : List (List ℕ)) (i : ℕ) → i ≤ length payloads
+abbrev pub received_all : (s t : ServiceState) (payloads : List (List ℕ)) (i : ℕ) → i ≤ length payloads
     → ((earlier : List (List ℕ)) → StandsFor s earlier → StandsFor t (earlier ++ take i payloads)) → ReceivesSome s payloads t
 received_all s t payloads i few stands = record { count = i; few = few; stands = stands }
 
 -- where a call received nothing
-pub received_same : (s t t' : ServiceState) (payloads : List (List ℕ)) (i : ℕ) → t' ≡ t → i ≤ length payloads
+abbrev pub received_same : (s t t' : ServiceState) (payloads : List (List ℕ)) (i : ℕ) → t' ≡ t → i ≤ length payloads
     → ((earlier : List (List ℕ)) → StandsFor s earlier → StandsFor t (earlier ++ take i payloads)) → ReceivesSome s payloads t'
-received_same s t t' payloads i same few stands = subst (λ x. ReceivesSome s payloads x) (sym same) (received_all s t payloads i few stands)
+received_same s t t' payloads i same few stands =
+    received_all s t' payloads i few (λ earlier st. subst (λ x. StandsFor x (earlier ++ take i payloads)) (sym same) (stands earlier st))
 
 -- where it received one more
-pub received_next : (s t t' : ServiceState) (all : List (List ℕ)) (payload : List ℕ) (i : ℕ) → i + 1 ≤ length all → take (i + 1) all ≡ take i all ++ payload ∷ []
+abbrev pub received_next : (s t t' : ServiceState) (all : List (List ℕ)) (payload : List ℕ) (i : ℕ) → i + 1 ≤ length all → take (i + 1) all ≡ take i all ++ payload ∷ []
     → ((earlier : List (List ℕ)) → StandsFor s earlier → StandsFor t (earlier ++ take i all)) → ((earlier : List (List ℕ)) → StandsFor t earlier → StandsFor t' (earlier ++ payload ∷ []))
     → ReceivesSome s all t'
 received_next s t t' all payload i few done before moved =
