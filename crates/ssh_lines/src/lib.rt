@@ -10,9 +10,7 @@ mod refusal;
 mod script;
 mod words;
 
-pub use crate::fields::{
-    hex_bytes, number, one_side, side, side_and_bytes, side_and_number, size,
-};
+pub use crate::fields::{hex_bytes, number, one_side, side, side_and_bytes, side_and_number, size};
 pub use crate::line_fault::LineFault;
 pub use crate::lines::{LONGEST_SCRIPT, LineForms, take_script};
 pub use crate::print::{push_decimal, push_hex, push_named, push_names, push_numbered, push_text};
