@@ -2,3 +2,5 @@ pub mod Carrying
 pub mod Lines
 pub mod Joining
 pub mod FedAlike
+pub mod Settling
+pub mod Granting

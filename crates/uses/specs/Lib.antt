@@ -4,3 +4,5 @@ pub mod OneGroupLaws
 pub mod Streams
 pub mod FedAlike
 pub mod TwoSides
+pub mod Settled
+pub mod Granted

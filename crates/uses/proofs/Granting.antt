@@ -1,0 +1,106 @@
+-- A service that is asked for over a link.
+use Rattle.std.proofs.Common.{◌≡◌, ℕ, suc, zero, ◌+◌, ◌*◌, ◌<◌, ◌≤◌, List, [], ◌∷◌, ◌++◌, length, take, map, get_or, Bool, true, false, ◌&&◌, not, nat_lt, Result, Ok, Err, IfErr, IfOk, refl, sym, ◌∙◌, ap, subst, arith, length-append, inl, inr, ◌⊎◌}
+use Rattle.std.proofs.lemmas.Bool.Decides.{nat_tests}
+use Rattle.std.specs.List.{flat_map}
+use Rattle.ssh_rules.specs.MessageTypes.{is_payload_type}
+use Rattle.ssh_rules.specs.Valid.{is_bad_size, is_good_payload}
+use Rattle.ssh_rules.specs.declared.link.LinkReport.{LinkReport}
+use Rattle.ssh_run.specs.RunCauses.{all_submits_good}
+use Rattle.ssh_service.proofs.Lemmas.{first_accepted, message_again, named_short}
+use Rattle.ssh_service.specs.Answers.{answers_from, has_name}
+use Rattle.ssh_service.specs.Extensions.{AllExtensions, AreExtensions, extension}
+use Rattle.ssh_service.specs.Messages.{IsMessage, IsReadAs, spelling}
+use Rattle.ssh_service.specs.ServiceNames.{IsServiceName}
+use Rattle.ssh_service.specs.declared.answer.ServiceAnswer.{ServiceAnswer}
+use Rattle.ssh_service.specs.declared.answer.ServiceAnswer.TheVariants.{Accepted}
+use Rattle.ssh_service.specs.declared.info.Extension.{Extension}
+use Rattle.ssh_service.specs.declared.message.ServiceMessage.{ServiceMessage}
+use Rattle.ssh_service.specs.declared.message.ServiceMessage.TheVariants.{Accept, Info, Request}
+use Rattle.ssh_wire.specs.Forms.{string, u32be}
+use Rattle.ssh_wire.specs.declared.error.Error.{Error}
+use Rattle.ssh_wire.specs.declared.error.Error.TheVariants.{Memory}
+use Rattle.uses.specs.Granted.{AreMessages, granting_steps}
+use Rattle.uses.specs.Settled.{AllDelivered}
+
+-- ---- messages one after the other
+
+-- the next one, and what is read so far with it
+pub record NextMessage (messages : List ServiceMessage) (i : ℕ) (payload : List ℕ) : Type 0 where
+  pub message : ServiceMessage
+  pub is : IsMessage message
+  pub spelled : payload ≡ spelling message
+  pub more : take (i + 1) messages ≡ take i messages ++ message ∷ []
+
+next_in : (messages : List ServiceMessage) (i : ℕ) (item : List ℕ) → AreMessages messages → i < length (map spelling messages) → item ≡ get_or (map spelling messages) i item → NextMessage messages i item
+next_in [] i item are h is = absurd (omega (arith, h))
+next_in (m ∷ messages) zero item are h is = record { message = m; is = are.0; spelled = is; more = refl }
+next_in (m ∷ messages) (suc i) item are h is =
+    let r = next_in messages i item are.1 (omega (arith, h)) is in
+    record { message = r.message; is = r.is; spelled = r.spelled; more = ap (λ t. m ∷ t) r.more }
+
+pub next_message : (messages : List ServiceMessage) (payloads items : List (List ℕ)) (i : ℕ) (payload item : List ℕ) → AreMessages messages → payloads ≡ map spelling messages → items ≡ payloads → i < length items → item ≡ get_or items i item → payload ≡ item → NextMessage messages i payload
+next_message messages payloads items i payload item are e same h is p =
+    subst (λ x. NextMessage messages i x) (sym p) (next_in messages i item are (subst (λ l. i < length l) (same ∙ e) h) (subst (λ l. item ≡ get_or l i item) (same ∙ e) is))
+
+-- what was read as a message is it
+pub read_is : (m n : ServiceMessage) → IsReadAs (Ok m) (Ok n) → n ≡ m
+read_is m n h = cc
+
+pub read_refuses : (m : ServiceMessage) (e : Error) → IsReadAs (Ok m) (Err e) → e ≡ Memory
+read_refuses m e (inl h) = h
+read_refuses m e (inr h) = cc
+
+pub take_whole : (messages : List ServiceMessage) (payloads : List (List ℕ)) (i : ℕ) → payloads ≡ map spelling messages → length payloads ≤ i → take i messages ≡ messages
+take_whole messages payloads i e h = go messages i (subst (λ l. length l ≤ i) e h) where
+  go : (ms : List ServiceMessage) (i : ℕ) → length (map spelling ms) ≤ i → take i ms ≡ ms
+  go [] zero h = refl
+  go [] (suc i) h = refl
+  go (m ∷ ms) zero h = absurd (omega (arith, h))
+  go (m ∷ ms) (suc i) h = ap (λ t. m ∷ t) (go ms i (omega (arith, h)))
+
+-- ---- the steps may be taken
+
+string_length : (s : List ℕ) → length (string s) ≡ 4 + length s
+string_length s = length-append (u32be (length s)) s
+
+extension_length : (e : Extension) (short : length e.name ≤ 255) (value : length e.value ≤ 8192) → length (extension e) ≤ 8455
+extension_length e short value = omega (arith, length-append (string e.name) (string e.value), string_length e.name, string_length e.value, short, value)
+
+extensions_length : (es : List Extension) → AllExtensions es → length (flat_map extension es) ≤ 8455 * length es
+extensions_length [] all = omega arith
+extensions_length (e ∷ es) all =
+    omega (arith, length-append (extension e) (flat_map extension es), extension_length e (named_short e.name all.0.name.no_fault) all.0.value, extensions_length es all.1)
+
+spelling_good : (t : ℕ) (rest : List ℕ) → is_payload_type t ≡ true → length rest < 262157 → is_good_payload (t ∷ rest) ≡ true
+spelling_good t rest type short = go (is_bad_size (length (t ∷ rest))) (is_payload_type t) size type where
+  size : is_bad_size (length (t ∷ rest)) ≡ false
+  size = grind (arith, nat_tests)
+  go : (a b : Bool) → a ≡ false → b ≡ true → (not a && b) ≡ true
+  go true b e f = cc
+  go false true e f = refl
+  go false false e f = cc
+
+pub steps_good : (name : List ℕ) (extensions : List Extension) → IsServiceName name → AreExtensions extensions → all_submits_good (granting_steps name extensions) ≡ true
+steps_good name extensions is are =
+    go _ _ _
+    (spelling_good 7 _ refl (omega (arith, length-append (u32be (length extensions)) (flat_map extension extensions), extensions_length extensions are.each, are.few)))
+    (spelling_good 5 _ refl (omega (arith, string_length name, named_short name is.no_fault)))
+    (spelling_good 6 _ refl (omega (arith, string_length name, named_short name is.no_fault)))
+  where
+    go : (a b c : Bool) → a ≡ true → b ≡ true → c ≡ true → (true && (a && (b && (true && (c && (true && true)))))) ≡ true
+    go true true true e f g = refl
+    go true true false e f g = cc
+    go true false c e f g = cc
+    go false b c e f g = cc
+
+-- ---- what comes of them
+
+-- the server's answer to the request
+pub granted_once : (offered : List (List ℕ)) (name : List ℕ) (extensions : List Extension) (report : LinkReport) → IsServiceName name → has_name name offered ≡ true → AllDelivered (granting_steps name extensions) report → answers_from offered [] report.server.delivered ≡ Accepted (spelling (Accept name)) ∷ []
+granted_once offered name extensions report is has all =
+    ap (answers_from offered []) all.to_server
+    ∙ ap (λ a. a ∷ []) (first_accepted offered [] (spelling (Request name)) name (message_again (Request name) is) has refl)
+
+-- the messages of the server
+pub told_both : (name : List ℕ) (extensions : List Extension) (report : LinkReport) → AllDelivered (granting_steps name extensions) report → report.client.delivered ≡ map spelling (Info extensions ∷ Accept name ∷ [])
+told_both name extensions report all = all.to_client

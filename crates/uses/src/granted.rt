@@ -1,0 +1,120 @@
+//! A service that a client asks for over a link, and extensions that its server tells.
+
+ghost use Rattle.std.specs.Prelude.{◌≡◌, [], List, IfErr, IfOk, OnOk, map, true};
+ghost use Rattle.ssh_kex.specs.Parts.{between};
+ghost use Rattle.ssh_rules.specs.Headline.{chosen_by, kind_by};
+ghost use Rattle.ssh_rules.specs.RunLaws.{config_of};
+ghost use Rattle.ssh_run.specs.RunCauses.{IsValidRun, offered_by};
+ghost use Rattle.ssh_service.specs.Answers.{StandsFor, has_name};
+ghost use Rattle.ssh_service.specs.Extensions.{AreExtensions};
+ghost use Rattle.ssh_service.specs.Messages.{IsMessage, spelling};
+ghost use Rattle.ssh_service.specs.ServiceNames.{IsServiceName};
+ghost use Rattle.ssh_service.specs.declared.message.ServiceMessage.{ServiceMessage};
+ghost use Rattle.ssh_wire.specs.declared.error.Error.TheVariants.{Memory};
+ghost use Rattle.uses.specs.Granted.{AreMessages, IsGranted, granting_steps};
+
+use rand_core::Rng;
+use ssh_kex::{Agreement, Config, GroupLookup, HostKeys, Parts};
+use ssh_rules::link::Step;
+use ssh_run::run_link;
+use ssh_service::{ExtInfo, ServiceAnswer, ServiceMessage, ServiceName, Services};
+use ssh_wire::{Blob, Error, Payload, Side};
+use std::alloc::Global;
+
+/// What came of asking for a service.
+#[derive(Debug, Drop)]
+pub struct Granted {
+    /// The server's answers to what was delivered to it, in order.
+    pub answers: Vec<ServiceAnswer>,
+    /// The messages that were delivered to the client, in order.
+    pub told: Vec<ServiceMessage>,
+}
+
+/// Runs a link between two sides, of which the client's parts come first. After the first exchange the server tells
+/// these extensions, and the client asks for the service of this name. The server grants it, and the client reads that.
+/// `services` answers what is delivered to the server.
+///
+/// SshEncoding where the text isn't the name of a service. Else as `run_link`; Memory.
+pub fn ask_for_service<A: Agreement, H: HostKeys, G: GroupLookup, R: Rng>(
+    alloc: Global,
+    client: &Config,
+    server: &Config,
+    parts: &mut (Parts<A, H, G, R>, Parts<A, H, G, R>),
+    services: &mut Services,
+    name: &str,
+    extensions: ExtInfo,
+) -> Result<Granted, Error>
+    ensures granted { A.lawful parts.old.0.agreement (between client.now server.now)
+        → A.lawful parts.old.1.agreement (between client.now server.now)
+        → G.lawful parts.old.1.groups (between client.now server.now)
+        → StandsFor services.old [] → has_name name.now services.old.offered ≡ true
+        → IfOk result (IsGranted name.now extensions) }
+    ensures complete { IsValidRun (config_of (between client.now server.now))
+        (offered_by (A.offered parts.old.0.agreement) (A.offered parts.old.1.agreement)) []
+        → IsServiceName name.now
+        → A.obliging parts.old.0.agreement parts.new.0.agreement (between client.now server.now)
+        → A.obliging parts.old.1.agreement parts.new.1.agreement (between client.now server.now)
+        → H.judges parts.old.0.hosts parts.new.0.hosts (between client.now server.now)
+        → H.signs parts.old.1.hosts parts.new.1.hosts (between client.now server.now)
+        → G.lawful parts.old.1.groups (between client.now server.now)
+        → (kind_by (chosen_by client.now server.now) ≡ true
+        → G.obliging parts.old.1.groups parts.new.1.groups (between client.now server.now))
+        → IfErr result (λ e. e ≡ Memory) }
+{
+    let steps = steps_of(alloc, name, extensions)?;
+    let report = run_link(
+        alloc,
+        client,
+        server,
+        &mut parts.0,
+        &mut parts.1,
+        steps.as_slice(),
+    )?;
+    let answers = services.receive_all(report.server.delivered.as_slice())?;
+    let told = read_messages(alloc, report.client.delivered.as_slice())?;
+    Ok(Granted { answers, told })
+}
+
+/// The steps of the link. SshEncoding where the text isn't the name of a service; Memory.
+fn steps_of(alloc: Global, name: &str, extensions: ExtInfo) -> Result<Vec<Step>, Error>
+    ensures ok { IfOk result (λ steps. steps.items ≡ granting_steps name.now extensions) }
+    ensures name { OnOk result (IsServiceName name.now) }
+    ensures told { OnOk result (AreExtensions extensions) }
+    ensures refused { IsServiceName name.now → IfErr result (λ e. e ≡ Memory) }
+{
+    let request = payload_of(alloc, &ServiceMessage::Request(ServiceName::new(alloc, name)?))?;
+    let grant = payload_of(alloc, &ServiceMessage::Accept(ServiceName::new(alloc, name)?))?;
+    let told = payload_of(alloc, &ServiceMessage::Info(extensions))?;
+    let mut steps = Vec::new(alloc);
+    steps.push(Step::Settle)?;
+    steps.push(Step::Submit(Side::Server, told))?;
+    steps.push(Step::Submit(Side::Client, request))?;
+    steps.push(Step::Settle)?;
+    steps.push(Step::Submit(Side::Server, grant))?;
+    steps.push(Step::Settle)?;
+    Ok(steps)
+}
+
+/// The payload of a message. Memory.
+fn payload_of(alloc: Global, message: &ServiceMessage) -> Result<Blob, Error>
+    ensures ok { IfOk result (λ payload. payload ≡ spelling message.now) }
+    ensures message { OnOk result (IsMessage message.now) }
+    ensures err { IfErr result (λ e. e ≡ Memory) }
+{
+    let mut out = Vec::new(alloc);
+    message.encode(&mut out)?;
+    Ok(Blob::new(out))
+}
+
+/// The messages that these payloads are. As `ServiceMessage::decode`, by the first payload that is none; Memory.
+fn read_messages(alloc: Global, payloads: &[Payload]) -> Result<Vec<ServiceMessage>, Error>
+    ensures again { (messages : List ServiceMessage) → AreMessages messages → payloads.now ≡ map spelling messages
+        → IfOk result (λ v. v.items ≡ messages) × IfErr result (λ e. e ≡ Memory) }
+{
+    let mut messages = Vec::new(alloc);
+    for payload in payloads {
+        let message = ServiceMessage::decode(alloc, payload.as_slice())?;
+        messages.push(message)?;
+    }
+    Ok(messages)
+}
