@@ -1,4 +1,3 @@
-use Rattle.std.proofs.Common.{◌≡◌}
 use Rattle.ssh_program.specs.Statuses.{report_written, script_faulty}
 use Rattle.ssh_service.proofs.ServiceEnds.{faulty_sure, refused_ample, refused_unfailed, served_sure, written_ample, written_unfailed, written_unrefused, written_whole}
 use Rattle.ssh_service.proofs.program.exit_code.Goals as goal

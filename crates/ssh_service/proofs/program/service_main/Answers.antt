@@ -1,4 +1,4 @@
-use Rattle.std.proofs.Common.{◌≡◌, ◌⊎◌, inl, inr, ◌∙◌, ℕ, sym, subst}
+use Rattle.std.proofs.Common.{◌≡◌, inl, inr, ◌∙◌, sym, subst}
 use Rattle.ssh_program.specs.Statuses.{report_written, script_faulty}
 use Rattle.ssh_service.specs.Program.{Shows}
 use Rattle.ssh_service.proofs.ServiceEnds.{faulty_sure, refused_ample, refused_unfailed, served_sure, shown_whole, written_ample, written_unfailed, written_unrefused, written_whole}
