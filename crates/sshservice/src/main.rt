@@ -1,5 +1,5 @@
-//! The program: `sshservice service` reads a script from standard input, and writes the answer to each of its messages
-//! to standard output.
+//! The answers to messages on services and extension info: `sshservice service` reads a script of them from standard
+//! input, and writes a line for each to standard output.
 #![tactic(auto)]
 
 #[cfg(test)]
