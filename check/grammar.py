@@ -62,6 +62,8 @@ def pattern(name, known, made):
 
 def breaks_beyond(words, seen, stepped):
     """Whether a line that the grammar takes breaks one of the rules beyond it."""
+    if words[0] == b"offer":
+        return stepped or len(words[1]) > 255
     if words[0] != b"set":
         numbers = words[-1:] if words[0] == b"deliver" else []
         return any(int(n) >= 2 ** 64 for n in numbers)
@@ -97,7 +99,7 @@ def first_fault(text, word, form):
             continue
         if not form.fullmatch(line) or breaks_beyond(words, seen, stepped):
             return i
-        stepped = stepped or words[0] != b"set"
+        stepped = stepped or words[0] not in (b"set", b"offer")
     return None
 
 
@@ -110,7 +112,7 @@ def main():
             sys.exit(f"there is no folder {word}")
     known, made = rules(), {}
     spaces = pattern("SP", known, made) + b"*"
-    forms = {w: re.compile(spaces + pattern(f"{w}-form", known, made) + spaces, re.S) for w in ("clear", "run", "attack")}
+    forms = {w: re.compile(spaces + pattern(f"{w}-form", known, made) + spaces, re.S) for w in ("clear", "run", "attack", "service")}
     compared, differ = 0, []
     folders = [pathlib.Path(word).resolve() for word in sys.argv[1:]] or [TOP / "cases"]
     for case in sorted(path.parent for folder in folders for path in folder.glob("**/args")):

@@ -15,10 +15,10 @@ ITEM = re.compile(r"pub (?:const )?(struct|enum|trait|fn|const) (\w+)")
 DEFINED = re.compile(r"(?:abbrev |unfoldable )?pub (?:abbrev |unfoldable )?(?:record |data )?(?!mod\b)([^\s:(]+)")
 CLAUSE = re.compile(r"\s*(?:ensures|requires|decreases|ghost)\b")
 LAYERS = [
-    ("The program", ["sshlink"]),
+    ("The programs", ["sshlink", "sshservice"]),
     ("From a script's text to a report's text", ["ssh_link"]),
     ("Two sides joined, two sides fed any bytes, scripts and reports", ["ssh_run", "ssh_attack", "ssh_script"]),
-    ("Services and extension info over a transport", ["ssh_service"]),
+    ("Services and extension info: over a transport, and of a script", ["ssh_service"]),
     ("One side of a connection", ["ssh_transport"]),
     ("One exchange of keys", ["ssh_client_kex", "ssh_server_kex"]),
     ("The rules without code, and parts for tests", ["ssh_rules", "ssh_vectors"]),

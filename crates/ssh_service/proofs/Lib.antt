@@ -3,4 +3,5 @@ pub mod MessageLaws
 pub mod StandsLaws
 pub mod AnswersLaws
 pub mod ServingLaws
+pub mod ServiceEnds
 pub mod Lemmas

@@ -45,7 +45,7 @@ impl ServiceName {
 }
 
 /// The name that stands in these bytes.
-fn name_of(alloc: Global, bytes: &[u8]) -> Result<ServiceName, Error>
+pub(crate) fn name_of(alloc: Global, bytes: &[u8]) -> Result<ServiceName, Error>
     ensures { IsNamed bytes.now result }
 {
     if let Some(fault) = fault_of(bytes) {
