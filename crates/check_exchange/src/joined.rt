@@ -1,12 +1,15 @@
-//! Rows of links whose sides hold secrets that may differ. Each side accepts every signature, and trusts every host.
+//! Rows of links whose sides hold secrets that may differ, and of a service that is asked for over a link. Each side
+//! accepts every signature, and trusts every host.
 
 use crate::zeroed::ZeroAgreement;
 use ssh_kex::{Agreement, Parts};
 use ssh_run::run_link;
 use ssh_script::parse_script;
-use ssh_vectors::TestGroups;
+use ssh_service::{ExtInfo, ServiceAnswer, ServiceName};
+use ssh_vectors::{TestAgreement, TestGroups};
 use std::alloc::Global;
-use uses::{GivenAgreement, GivenHosts};
+use std::str;
+use uses::{GivenAgreement, GivenHosts, Granted, ask_for_service};
 use vector_rows::{Fault, Row, Words, say_bytes, say_shown};
 
 type With<A> = Parts<A, GivenHosts, TestGroups, Words<'static>>;
@@ -28,9 +31,56 @@ pub(crate) fn answer(kind: &str, row: &mut Row<'_>, found: &mut String) -> Resul
             let mut server = parts_of(row.alloc(), ZeroAgreement::new())?;
             say_link(row.bytes()?.as_slice(), &mut client, &mut server, found)?;
         }
+        "granted" => say_granted(row, found)?,
         _ => return Ok(false),
     }
     Ok(true)
+}
+
+/// `granted SCRIPT NAME TOLD VALUE`: the client of the script's configurations asks for the service NAME, and the server
+/// tells the extension TOLD of this value. The message of each grant of the server, and the messages that its client
+/// reads, or the refusal.
+fn say_granted(row: &mut Row<'_>, found: &mut String) -> Result<(), Fault> {
+    let alloc = row.alloc();
+    let Ok(script) = parse_script(alloc, false, row.bytes()?.as_slice()) else {
+        return Err(Fault::Malformed);
+    };
+    let name = row.bytes()?;
+    let told = row.bytes()?;
+    let (Ok(name), Ok(told)) = (
+        str::from_utf8(name.as_slice()),
+        str::from_utf8(told.as_slice()),
+    ) else {
+        return Err(Fault::Malformed);
+    };
+    let mut extensions = ExtInfo::new(alloc);
+    extensions.push(ServiceName::new(alloc, told)?, row.bytes()?.as_slice())?;
+    let mut parts = (
+        parts_of(alloc, TestAgreement::new())?,
+        parts_of(alloc, TestAgreement::new())?,
+    );
+    let client = &script.client.config;
+    let server = &script.server.config;
+    match ask_for_service(alloc, client, server, &mut parts, name, extensions) {
+        Ok(granted) => say_messages(&granted, found),
+        Err(error) => say_shown(found, &error),
+    }
+}
+
+/// Appends the messages of the grants, and then those that were told.
+fn say_messages(granted: &Granted, found: &mut String) -> Result<(), Fault> {
+    for answer in granted.answers.as_slice() {
+        match answer {
+            ServiceAnswer::Accepted(reply) => say_bytes(found, reply.as_slice())?,
+            _ => say_shown(found, answer)?,
+        }
+    }
+    for message in granted.told.as_slice() {
+        let mut payload = Vec::new(*found.allocator());
+        message.encode(&mut payload)?;
+        say_bytes(found, payload.as_slice())?;
+    }
+    Ok(())
 }
 
 /// Appends what comes of the script with these parts.

@@ -1,6 +1,8 @@
 -- A service that is asked for over a link.
-use Rattle.std.proofs.Common.{◌≡◌, ℕ, suc, zero, ◌+◌, ◌*◌, ◌<◌, ◌≤◌, List, [], ◌∷◌, ◌++◌, length, take, map, get_or, Bool, true, false, ◌&&◌, not, nat_lt, Result, Ok, Err, IfErr, IfOk, refl, sym, ◌∙◌, ap, subst, arith, length-append, inl, inr, ◌⊎◌}
+use Rattle.std.proofs.Common.{◌≡◌, ℕ, suc, zero, ◌+◌, ◌*◌, ◌<◌, ◌≤◌, List, [], ◌∷◌, ◌++◌, length, take, map, get_or, Bool, true, false, ◌&&◌, ◌||◌, not, nat_lt, Result, Ok, Err, IfErr, IfOk, refl, sym, ◌∙◌, ap, subst, arith, length-append, inl, inr, ◌⊎◌}
 use Rattle.std.proofs.lemmas.Bool.Decides.{nat_tests}
+use Rattle.std.proofs.lemmas.Slice.Eq.{bytes_eq-Decides}
+use Rattle.std.specs.Str.{bytes_eq}
 use Rattle.std.specs.List.{flat_map}
 use Rattle.ssh_rules.specs.MessageTypes.{is_payload_type}
 use Rattle.ssh_rules.specs.Valid.{is_bad_size, is_good_payload}
@@ -75,6 +77,7 @@ spelling_good : (t : ℕ) (rest : List ℕ) → is_payload_type t ≡ true → l
 spelling_good t rest type short = go (is_bad_size (length (t ∷ rest))) (is_payload_type t) size type where
   size : is_bad_size (length (t ∷ rest)) ≡ false
   size = grind (arith, nat_tests)
+
   go : (a b : Bool) → a ≡ false → b ≡ true → (not a && b) ≡ true
   go true b e f = cc
   go false true e f = refl
@@ -95,11 +98,19 @@ steps_good name extensions is are =
 
 -- ---- what comes of them
 
--- the server's answer to the request
-pub granted_once : (offered : List (List ℕ)) (name : List ℕ) (extensions : List Extension) (report : LinkReport) → IsServiceName name → has_name name offered ≡ true → AllDelivered (granting_steps name extensions) report → answers_from offered [] report.server.delivered ≡ Accepted (spelling (Accept name)) ∷ []
-granted_once offered name extensions report is has all =
-    ap (answers_from offered []) all.to_server
-    ∙ ap (λ a. a ∷ []) (first_accepted offered [] (spelling (Request name)) name (message_again (Request name) is) has refl)
+-- the server's answer to the request, where it offers this service alone
+pub granted_once : (offered : List (List ℕ)) (name : List ℕ) (extensions : List Extension) (report : LinkReport)
+    (answers : List ServiceAnswer) → IsServiceName name → offered ≡ name ∷ []
+    → AllDelivered (granting_steps name extensions) report
+    → answers ≡ answers_from offered [] report.server.delivered → answers ≡ Accepted (spelling (Accept name)) ∷ []
+granted_once offered name extensions report answers is one all e =
+    e ∙ (ap (λ o. answers_from o [] report.server.delivered) one ∙ (ap (answers_from (name ∷ []) []) all.to_server
+    ∙ ap (λ a. a ∷ []) (first_accepted (name ∷ []) [] (spelling (Request name)) name (message_again (Request name) is) has refl)))
+  where
+    same : bytes_eq name name ≡ true
+    same = (bytes_eq-Decides name name).1 refl
+    has : has_name name (name ∷ []) ≡ true
+    has = ap (λ b. b || false) same
 
 -- the messages of the server
 pub told_both : (name : List ℕ) (extensions : List Extension) (report : LinkReport) → AllDelivered (granting_steps name extensions) report → report.client.delivered ≡ map spelling (Info extensions ∷ Accept name ∷ [])

@@ -32,8 +32,13 @@ front_all a b f l = go f.0 f.1 (omega (arith, ap length f.1, length-append b f.0
 -- no packet begins nothing
 none_left : (at : Place) (i : Item) (more behind : List ℕ) → (packet_at at i ++ more) ++ behind ≡ [] → ⊥
 none_left at i more behind e =
-    omega (arith, ap length e, length-append (packet_at at i ++ more) behind, length-append (packet_at at i) more,
-        length_sealed at.sealing at.number i)
+    omega (
+      arith,
+      ap length e,
+      length-append (packet_at at i ++ more) behind,
+      length-append (packet_at at i) more,
+      length_sealed at.sealing at.number i,
+    )
 
 -- what is read of a front of some bytes is a front of what is read of them all
 reads_front : (at : Option Place) (a b : List Item) (x y behind : List ℕ) → Reads at a x [] → Reads at b y []
@@ -56,9 +61,11 @@ reads_alone : (at : Option Place) (a : List Item) (x y : List ℕ) → Reads at 
 reads_alone at [] x y h = ([], h, refl)
 reads_alone None (i ∷ a) x y h = absurd h
 reads_alone (Some at) (i ∷ a) x y h =
-    let r = reads_alone (place_after at i) a h.0 y h.3 in
-    (packet_at at i ++ r.0,
-        h.2 ∙ (ap (λ t. packet_at at i ++ t) r.1 ∙ sym (append_assoc (packet_at at i) r.0 y)), (r.0, h.1, refl, r.2))
+    let r = reads_alone (place_after at i) a h.0 y h.3 in (
+      packet_at at i ++ r.0,
+      h.2 ∙ (ap (λ t. packet_at at i ++ t) r.1 ∙ sym (append_assoc (packet_at at i) r.0 y)),
+      (r.0, h.1, refl, r.2),
+    )
 
 -- what stands behind a line within the first n bytes is a front of all that stands behind it
 cut_front : (line packets : List ℕ) (n : ℕ) → HasFront packets (drop (length line) (take n (line ++ packets)))

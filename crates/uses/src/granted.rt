@@ -1,11 +1,11 @@
 //! A service that a client asks for over a link, and extensions that its server tells.
 
-ghost use Rattle.std.specs.Prelude.{◌≡◌, [], List, IfErr, IfOk, OnOk, map, true};
+ghost use Rattle.std.specs.Prelude.{◌≡◌, ◌∷◌, [], List, IfErr, IfOk, OnOk, map, true};
 ghost use Rattle.ssh_kex.specs.Parts.{between};
 ghost use Rattle.ssh_rules.specs.Headline.{chosen_by, kind_by};
 ghost use Rattle.ssh_rules.specs.RunLaws.{config_of};
 ghost use Rattle.ssh_run.specs.RunCauses.{IsValidRun, offered_by};
-ghost use Rattle.ssh_service.specs.Answers.{StandsFor, has_name};
+ghost use Rattle.ssh_service.specs.Answers.{StandsFor};
 ghost use Rattle.ssh_service.specs.Extensions.{AreExtensions};
 ghost use Rattle.ssh_service.specs.Messages.{IsMessage, spelling};
 ghost use Rattle.ssh_service.specs.ServiceNames.{IsServiceName};
@@ -30,9 +30,9 @@ pub struct Granted {
     pub told: Vec<ServiceMessage>,
 }
 
-/// Runs a link between two sides, of which the client's parts come first. After the first exchange the server tells
-/// these extensions, and the client asks for the service of this name. The server grants it, and the client reads that.
-/// `services` answers what is delivered to the server.
+/// Runs a link between a client and a server, whose parts are these. The server offers the service of this name. Behind
+/// the first exchange it tells these extensions, and the client asks for the service. The server grants it, and the
+/// client reads that.
 ///
 /// SshEncoding where the text isn't the name of a service. Else as `run_link`; Memory.
 pub fn ask_for_service<A: Agreement, H: HostKeys, G: GroupLookup, R: Rng>(
@@ -40,14 +40,12 @@ pub fn ask_for_service<A: Agreement, H: HostKeys, G: GroupLookup, R: Rng>(
     client: &Config,
     server: &Config,
     parts: &mut (Parts<A, H, G, R>, Parts<A, H, G, R>),
-    services: &mut Services,
     name: &str,
     extensions: ExtInfo,
 ) -> Result<Granted, Error>
     ensures granted { A.lawful parts.old.0.agreement (between client.now server.now)
         → A.lawful parts.old.1.agreement (between client.now server.now)
         → G.lawful parts.old.1.groups (between client.now server.now)
-        → StandsFor services.old [] → has_name name.now services.old.offered ≡ true
         → IfOk result (IsGranted name.now extensions) }
     ensures complete { IsValidRun (config_of (between client.now server.now))
         (offered_by (A.offered parts.old.0.agreement) (A.offered parts.old.1.agreement)) []
@@ -70,9 +68,21 @@ pub fn ask_for_service<A: Agreement, H: HostKeys, G: GroupLookup, R: Rng>(
         &mut parts.1,
         steps.as_slice(),
     )?;
+    let mut services = offering(alloc, name)?;
     let answers = services.receive_all(report.server.delivered.as_slice())?;
     let told = read_messages(alloc, report.client.delivered.as_slice())?;
     Ok(Granted { answers, told })
+}
+
+/// A machine that offers the service of this name alone. SshEncoding where the text isn't the name of a service; Memory.
+fn offering(alloc: Global, name: &str) -> Result<Services, Error>
+    ensures offered { IfOk result (λ services. services.offered ≡ name.now ∷ []) }
+    ensures stands { IfOk result (λ services. StandsFor services []) }
+    ensures refused { IsServiceName name.now → IfErr result (λ e. e ≡ Memory) }
+{
+    let mut offered = Vec::new(alloc);
+    offered.push(ServiceName::new(alloc, name)?)?;
+    Ok(Services::new(offered))
 }
 
 /// The steps of the link. SshEncoding where the text isn't the name of a service; Memory.
@@ -82,8 +92,14 @@ fn steps_of(alloc: Global, name: &str, extensions: ExtInfo) -> Result<Vec<Step>,
     ensures told { OnOk result (AreExtensions extensions) }
     ensures refused { IsServiceName name.now → IfErr result (λ e. e ≡ Memory) }
 {
-    let request = payload_of(alloc, &ServiceMessage::Request(ServiceName::new(alloc, name)?))?;
-    let grant = payload_of(alloc, &ServiceMessage::Accept(ServiceName::new(alloc, name)?))?;
+    let request = payload_of(
+        alloc,
+        &ServiceMessage::Request(ServiceName::new(alloc, name)?),
+    )?;
+    let grant = payload_of(
+        alloc,
+        &ServiceMessage::Accept(ServiceName::new(alloc, name)?),
+    )?;
     let told = payload_of(alloc, &ServiceMessage::Info(extensions))?;
     let mut steps = Vec::new(alloc);
     steps.push(Step::Settle)?;
