@@ -1,24 +1,25 @@
 #!/usr/bin/env bash
 # Usage: check/alloc.sh [--program FILE] [--bound N STEP] [SCRIPT..]
 # Lets each allocation of the program fail in turn, on each script (those of examples/ if none is given), by the
-# command `run` or `attack` where the script's name begins so and by `clear` elsewhere. Each run has to end with
+# command `run` or `attack`, or by `service` of `sshservice`, where the script's name begins so and by `clear` elsewhere. Each
+# run has to end with
 # status 6 and nothing written, or, where a growth has another way, with the report and status that it has without a
 # failure. Without one it has to agree with the .stdout and .status beside the script, where these are. How many runs
 # ended either way is printed for each script, and each run that did neither with its number. With --bound only the
-# first N allocations fail, and each STEP-th after them. The program is the proved one if none is given. Needs cc, and
+# first N allocations fail, and each STEP-th after them. The programs are the proved ones if none is given. Needs cc, and
 # glibc.
 set -u
 usage() { sed -n '2,/^[^#]/s/^# \{0,1\}//p' "$0"; }
 top=$(cd "$(dirname "${BASH_SOURCE[0]}")/.." && pwd)
-program=$top/crates/sshlink/out/sshlink
+given=
 bound=
 step=1
 while [ $# -gt 0 ]; do
   case $1 in
   --help) usage; exit ;;
   --program)
-    program=$(realpath "${2:-}" 2>/dev/null)
-    [ -x "$program" ] || { echo "there is no program ${2:-}" >&2; exit 2; }
+    given=$(realpath "${2:-}" 2>/dev/null)
+    [ -x "$given" ] || { echo "there is no program ${2:-}" >&2; exit 2; }
     shift
     ;;
   --bound)
@@ -36,7 +37,6 @@ for script in "$@"; do
 done
 [ $# -gt 0 ] || set -- "$top"/examples/*.txt
 command -v cc >/dev/null || { echo "alloc: passed over, since there is no cc"; exit 0; }
-[ -x "$program" ] || "$top/sshlink" --prove || exit 1
 workers=$(nproc)
 room=$(mktemp -d) || exit 1
 trap 'rm -rf "$room"' EXIT
@@ -78,11 +78,15 @@ scripts=0
 runs=0
 failures=0
 for script in "$@"; do
+  name=sshlink
   case $(basename "$script") in
   run*) word=run ;;
   attack*) word=attack ;;
+  service*) word=service name=sshservice ;;
   *) word=clear ;;
   esac
+  program=${given:-$top/crates/$name/out/$name}
+  [ -x "$program" ] || "$top/$name" --prove || exit 1
   REFUSE_TELL=9 LD_PRELOAD=$room/refuse.so "$program" "$word" <"$script" >"$room/report" 9>"$room/told"
   wanted=$?
   read -r allocations _ <"$room/told"

@@ -3,17 +3,17 @@
 # Tries each row of the table (cases/outside/table.txt if none is given), whose head says what its columns are: the
 # program's words, what outside it refuses, the script, the status, and what is written. Prints each row that is
 # answered otherwise. Where there is no cc, rows in which a call is refused by its number are passed over. The program
-# is the proved one if none is given.
+# is the proved one if none is given: `sshservice` where the first word is `service`, and else `sshlink`.
 set -u
 usage() { sed -n '2,/^[^#]/s/^# \{0,1\}//p' "$0"; }
 top=$(cd "$(dirname "${BASH_SOURCE[0]}")/.." && pwd)
-program=$top/crates/sshlink/out/sshlink
+given=
 while [ $# -gt 0 ]; do
   case $1 in
   --help) usage; exit ;;
   --program)
-    program=$(realpath "${2:-}" 2>/dev/null)
-    [ -x "$program" ] || { echo "there is no program ${2:-}" >&2; exit 2; }
+    given=$(realpath "${2:-}" 2>/dev/null)
+    [ -x "$given" ] || { echo "there is no program ${2:-}" >&2; exit 2; }
     shift
     ;;
   -*) usage >&2; exit 2 ;;
@@ -25,7 +25,6 @@ done
 table=$(realpath "${1:-$top/cases/outside/table.txt}")
 [ -f "$table" ] || { echo "there is no file ${1:-$table}" >&2; exit 2; }
 cd "$top" || exit 1
-[ -x "$program" ] || ./sshlink --prove || exit 1
 room=$(mktemp -d) || exit 1
 trap 'rm -rf "$room"' EXIT
 object=
@@ -55,6 +54,10 @@ skipped=0
 while IFS='|' read -r words refused script status text; do
   case $words in '' | '#'*) continue ;; esac
   read -ra call <<<"$words"
+  name=sshlink
+  [ "${call[0]}" != service ] || name=sshservice
+  program=${given:-$top/crates/$name/out/$name}
+  [ -x "$program" ] || "./$name" --prove </dev/null || exit 1
   read -ra refusal <<<"$refused"
   read -r script <<<"$script"
   read -r status <<<"$status"

@@ -1,5 +1,5 @@
 -- What is answered to payloads one after the other.
-use Rattle.std.proofs.Common.{◌≡◌, ℕ, ◌+◌, ◌<◌, ◌≤◌, Err, Ok, OnErr, Result, arith, List, [], ◌∷◌, ◌++◌, length, take, get_or, sym, ap, ◌∙◌, subst, append_assoc, append-nil}
+use Rattle.std.proofs.Common.{◌≡◌, ℕ, ◌+◌, ◌<◌, ◌≤◌, Err, Ok, OnErr, Result, List, [], ◌∷◌, ◌++◌, length, take, get_or, sym, ap, ◌∙◌, subst, append_assoc, append-nil}
 use Rattle.std.proofs.lemmas.List.{take_more}
 use Rattle.ssh_service.specs.Answers.{ReceivesSome, ServiceState, StandsFor, answer_after, answers_from}
 use Rattle.ssh_service.specs.declared.answer.ServiceAnswer.{ServiceAnswer}

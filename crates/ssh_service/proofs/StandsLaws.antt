@@ -1,10 +1,10 @@
 -- A machine stands for what it received.
-use Rattle.std.proofs.Common.{◌≡◌, ℕ, ◌==◌, nat_le, drop, arith, Bool, true, false, ◌||◌, if◌then◌else◌, List, [], ◌∷◌, ◌++◌, Result, Ok, Err, IfOk, OnOk, refl, sym, ap, ◌∙◌, subst}
+use Rattle.std.proofs.Common.{◌≡◌, ℕ, ◌==◌, nat_le, drop, arith, Bool, true, false, ◌||◌, if◌then◌else◌, List, [], ◌∷◌, ◌++◌, Result, Ok, Err, IfOk, OnOk, OnErr, refl, sym, ap, ◌∙◌, subst}
 use Rattle.std.specs.List.{list_any}
 use Rattle.std.specs.Str.{bytes_eq}
 use Rattle.std.proofs.lemmas.Slice.Eq.{bytes_eq-Decides}
 use Rattle.ssh_wire.specs.declared.error.Error.{Error}
-use Rattle.ssh_service.specs.Answers.{IsAnswer, ServiceState, StandsFor, answer_after, answer_by, answer_read, asks_for, asks_in, has_name, is_for_above, name_asked, tells_extensions, tells_in}
+use Rattle.ssh_service.specs.Answers.{IsAnswer, ServiceState, StandsFor, answer_after, answer_by, answer_read, asks_for, asks_in, has_name, is_for_above, tells_extensions, tells_in}
 use Rattle.ssh_service.specs.Messages.{made_of, message_of, spelling, whole}
 use Rattle.ssh_service.specs.ServiceNames.{name_at}
 use Rattle.ssh_service.specs.Extensions.{info_at}
@@ -181,3 +181,17 @@ accepted_once offered before between p q reply h k =
     let asked : asks_for b.0 p ≡ true = ap (asks_in b.0) a.1 ∙ (ap (λ n. bytes_eq n b.0) same ∙ (bytes_eq-Decides b.0 b.0).1 refl) in
     let both : true ≡ false = sym (any_here (asks_for b.0) before between p asked) ∙ b.4 in
     cc
+
+-- a message changes no service that is offered
+moves_offered : (s : ServiceState) (m : ServiceMessage) → (moves s m).offered ≡ s.offered
+moves_offered s (Request name) = by (has_name name s.offered) (has_name name s.requested) where
+  by : (t u : Bool) → (if t then (if u then s else record s { requested = s.requested ++ name ∷ [] }) else s).offered ≡ s.offered
+  by true true = refl
+  by true false = refl
+  by false u = refl
+moves_offered s (Accept name) = refl
+moves_offered s (Info es) = refl
+
+pub offered_so : (s t : ServiceState) (m : ServiceMessage) (result : Result ServiceAnswer Error) → OnOk result (t ≡ moves s m) → OnErr result (t ≡ s) → t.offered ≡ s.offered
+offered_so s t m (Ok a) e same = ap (λ (x : ServiceState). x.offered) e ∙ moves_offered s m
+offered_so s t m (Err e) n same = ap (λ (x : ServiceState). x.offered) same

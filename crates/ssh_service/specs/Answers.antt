@@ -6,7 +6,7 @@ use Rattle.ssh_wire.specs.Fields.{string_at, u32_at}
 use Rattle.ssh_wire.specs.declared.disconnect.Disconnect.TheVariants.{ProtocolError, ServiceNotAvailable}
 use Rattle.ssh_wire.specs.declared.error.EncodingFault.TheVariants.{CharacterEncoding}
 use Rattle.ssh_wire.specs.declared.error.Error.{Error}
-use Rattle.ssh_wire.specs.declared.error.Error.TheVariants.{Inconsistent, Memory, SshEncoding}
+use Rattle.ssh_wire.specs.declared.error.Error.TheVariants.{Inconsistent, SshEncoding}
 use Rattle.ssh_service.specs.ServiceNames.{name_at}
 use Rattle.ssh_service.specs.Messages.{message_of, spelling}
 use Rattle.ssh_service.specs.declared.answer.ServiceAnswer.{ServiceAnswer}

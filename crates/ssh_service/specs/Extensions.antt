@@ -1,9 +1,8 @@
 -- Extension info: the extensions that a side tells (RFC 8308 section 2.3).
-use Rattle.std.specs.Prelude.{◌≡◌, ℕ, zero, suc, ◌⊎◌, ◌≤◌, ◌<◌, ◌==◌, nat_lt, if◌then◌else◌, List, [], ◌∷◌, ◌++◌, length, codes, Option, Some, None, Result, Ok, Err, All, refl}
-use Rattle.std.specs.List.{flat_map}
+use Rattle.std.specs.Prelude.{◌≡◌, ℕ, zero, suc, ◌⊎◌, ◌≤◌, ◌<◌, nat_lt, if◌then◌else◌, List, [], ◌∷◌, ◌++◌, length, codes, Option, Some, None, Result, Ok, Err, refl}
 use Rattle.std.specs.Str.{bytes_eq, is_utf8}
 use Rattle.ssh_wire.specs.Fields.{◌>>=◌, answer_of, string_at, u32_at}
-use Rattle.ssh_wire.specs.Forms.{string, u32be}
+use Rattle.ssh_wire.specs.Forms.{string}
 use Rattle.ssh_wire.specs.Names.{names_of}
 use Rattle.ssh_wire.specs.declared.error.EncodingFault.{EncodingFault}
 use Rattle.ssh_wire.specs.declared.error.EncodingFault.TheVariants.{CharacterEncoding, Length}

@@ -1,8 +1,8 @@
 -- What is true of all messages, and of the answers to all lists of payloads.
-use Rattle.std.specs.Prelude.{◌≡◌, true, false, ℕ, List, [], ◌∷◌, ◌++◌, Ok}
+use Rattle.std.specs.Prelude.{◌≡◌, true, false, ℕ, List, ◌∷◌, ◌++◌, Ok}
 use Rattle.std.specs.List.{list_any}
 use Rattle.ssh_wire.specs.Forms.{AreBytes}
-use Rattle.ssh_service.specs.Answers.{answer_after, asks_for, has_name, is_for_above}
+use Rattle.ssh_service.specs.Answers.{answer_after, asks_for, has_name}
 use Rattle.ssh_service.specs.Messages.{IsMessage, message_of, spelling}
 use Rattle.ssh_service.specs.declared.answer.ServiceAnswer.TheVariants.{Accepted}
 use Rattle.ssh_service.specs.declared.message.ServiceMessage.{ServiceMessage}

@@ -9,7 +9,6 @@ use Rattle.ssh_wire.specs.declared.error.Error.{Error}
 use Rattle.ssh_wire.specs.declared.error.Error.TheVariants.{Inconsistent, Memory, SshEncoding}
 use Rattle.ssh_service.specs.ServiceNames.{IsServiceName, name_at}
 use Rattle.ssh_service.specs.Extensions.{AreExtensions, extension, extension_at, info_at, value_at}
-use Rattle.ssh_service.specs.declared.info.Extension.{Extension}
 use Rattle.ssh_service.specs.declared.message.ServiceMessage.{ServiceMessage}
 use Rattle.ssh_service.specs.declared.message.ServiceMessage.TheVariants.{Accept, Info, Request}
 

@@ -6,6 +6,7 @@ mod info;
 mod laws;
 mod message;
 mod name;
+mod name_set;
 mod print;
 mod program;
 mod script;

@@ -12,8 +12,9 @@ ghost use Rattle.ssh_service.specs.declared.answer.ServiceAnswer.TheVariants.{Ba
 use crate::answer::ServiceAnswer;
 use crate::message::{ServiceMessage, granting};
 use crate::name::ServiceName;
+use crate::name_set::NameSet;
 use ssh_wire::{Disconnect, Error, Payload};
-use std::alloc::Global;
+use std::alloc::{AllocError, Global};
 use std::marker::Model;
 
 /// The least number of a message that isn't answered here: authentication and what follows it (RFC 4251 section 7).
@@ -25,10 +26,15 @@ pub struct Services {
     offered: Vec<ServiceName>,
     requested: Vec<ServiceName>,
     informed: bool,
+    /// The names that are offered, from the first request on.
+    known: Option<NameSet>,
+    /// The names that were asked for.
+    asked: NameSet,
 }
 
 impl Model for Services {
     ghost use Rattle.ssh_service.specs.Answers.{ServiceState};
+    ghost use Rattle.ssh_service.specs.NameSets.{AreIn, AreTaken};
 
     ghost Value = { ServiceState };
 
@@ -37,6 +43,8 @@ impl Model for Services {
       requested = s.requested.items;
       informed = s.informed;
     } };
+
+    ghost invariant = { λ s. AreTaken s.known s.offered.items × AreIn s.asked s.requested.items };
 }
 
 impl Services {
@@ -50,6 +58,8 @@ impl Services {
             offered,
             requested: Vec::new(alloc),
             informed: false,
+            known: None,
+            asked: NameSet::new(alloc),
         }
     }
 
@@ -127,15 +137,41 @@ impl Services {
         ensures err { IfErr result (λ e. e ≡ Memory) }
         ensures reply { IfOk result RepliesGrant }
     {
-        if !has_name(&name, self.offered.as_slice()) {
+        if !self.offers(alloc, &name)? {
             return Ok(ServiceAnswer::Refused(Disconnect::ServiceNotAvailable));
         }
-        if has_name(&name, self.requested.as_slice()) {
+        if self.asked.has(name.as_str().as_bytes()) {
             return Ok(ServiceAnswer::Refused(Disconnect::ProtocolError));
         }
         let reply = granting(alloc, &name)?;
-        self.requested.push(name)?;
+        self.request(alloc, name)?;
         Ok(ServiceAnswer::Accepted(reply))
+    }
+
+    /// Whether a service of this name is offered. The names are taken up at the first call.
+    fn offers(&mut self, alloc: Global, name: &ServiceName) -> Result<bool, AllocError>
+        ensures offered { IfOk result (λ offered. offered ≡ has_name name.now self.old.offered) }
+        ensures unchanged { self.new ≡ self.old }
+    {
+        let known = match self.known.take() {
+            Some(known) => known,
+            None => NameSet::of(alloc, self.offered.as_slice())?,
+        };
+        let offered = known.has(name.as_str().as_bytes());
+        self.known = Some(known);
+        Ok(offered)
+    }
+
+    /// Takes up a name that was asked for.
+    fn request(&mut self, alloc: Global, name: ServiceName) -> Result<(), AllocError>
+        ensures ok { OnOk result (self.new ≡ record self.old { requested = self.old.requested ++ name ∷ [] }) }
+        ensures unchanged { OnErr result (self.new ≡ self.old) }
+    {
+        // The room first: a name isn't taken up in one place alone.
+        self.requested.reserve(1)?;
+        self.asked.add(alloc, name.as_str().as_bytes())?;
+        self.requested.push(name)?;
+        Ok(())
     }
 
     /// The answer to extensions.
@@ -149,19 +185,6 @@ impl Services {
         self.informed = true;
         ServiceAnswer::Extensions
     }
-}
-
-/// Whether a name is among some.
-fn has_name(name: &ServiceName, names: &[ServiceName]) -> bool
-    ensures { result ≡ has_name name.now names.now }
-{
-    let name = name.as_str();
-    for other in names {
-        if other.as_str() == name {
-            return true;
-        }
-    }
-    false
 }
 
 /// Whether a payload is a message of authentication or of a later protocol.

@@ -1,5 +1,5 @@
-use Rattle.std.proofs.Common.{◌≡◌, ◌∙◌, ◌+◌, ◌≤◌, ◌++◌, ◌∷◌, [], ℕ, List, Err, Ok, OnErr, Result, ap, arith, length, refl, subst, sym, take}
-use Rattle.ssh_service.specs.Answers.{StandsFor, answer_after}
+use Rattle.std.proofs.Common.{◌≡◌, ◌∙◌, ◌+◌, ◌++◌, ◌∷◌, [], ap, arith, refl, take}
+use Rattle.ssh_service.specs.Answers.{answer_after}
 use Rattle.ssh_service.proofs.AnswersLaws.{always_err, answers_next, received_next, received_same, stands_with, taken_next}
 use Rattle.ssh_service.proofs.services.Services.receive_all.Goals as goal
 
