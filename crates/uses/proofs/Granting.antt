@@ -6,7 +6,13 @@ use Rattle.std.specs.Str.{bytes_eq}
 use Rattle.std.specs.List.{flat_map}
 use Rattle.ssh_rules.specs.MessageTypes.{is_payload_type}
 use Rattle.ssh_rules.specs.Valid.{is_bad_size, is_good_payload}
+use Rattle.ssh_kex.specs.declared.config.Config.{Config}
+use Rattle.ssh_rules.specs.Headline.{IsLink}
+use Rattle.ssh_rules.specs.Parts.{ClientPairs, Secrets, ServerValues}
 use Rattle.ssh_rules.specs.declared.link.LinkReport.{LinkReport}
+use Rattle.ssh_rules.specs.declared.link.Step.{Step}
+use Rattle.ssh_rules.specs.declared.link.Step.TheVariants.{Settle, Submit}
+use Rattle.ssh_wire.specs.declared.side.Side.TheVariants.{Client, Server}
 use Rattle.ssh_run.specs.RunCauses.{all_submits_good}
 use Rattle.ssh_service.proofs.Lemmas.{first_accepted, message_again, named_short}
 use Rattle.ssh_service.specs.Answers.{answers_from, has_name}
@@ -22,6 +28,7 @@ use Rattle.ssh_wire.specs.Forms.{string, u32be}
 use Rattle.ssh_wire.specs.declared.error.Error.{Error}
 use Rattle.ssh_wire.specs.declared.error.Error.TheVariants.{Memory}
 use Rattle.uses.specs.Granted.{AreMessages, granting_steps}
+use Rattle.uses.proofs.Settling.{all_delivered}
 use Rattle.uses.specs.Settled.{AllDelivered}
 
 -- ---- messages one after the other
@@ -98,6 +105,17 @@ steps_good name extensions is are =
 
 -- ---- what comes of them
 
+-- a link of these steps
+pub linked_so : (client_makes : ClientPairs) (server_makes : ServerValues) (agrees : Secrets) (client server : Config)
+    (steps : List Step) (name : List ℕ) (extensions : List Extension) (report : LinkReport)
+    → steps ≡ granting_steps name extensions → IsLink client_makes server_makes agrees client server steps report
+    → AllDelivered (granting_steps name extensions) report
+linked_so client_makes server_makes agrees client server steps name extensions report e link =
+    all_delivered client_makes server_makes agrees client server
+    (Settle ∷ Submit Server (spelling (Info extensions)) ∷ Submit Client (spelling (Request name)) ∷ Settle
+    ∷ Submit Server (spelling (Accept name)) ∷ [])
+    report (subst (λ s. IsLink client_makes server_makes agrees client server s report) e link)
+
 -- the server's answer to the request, where it offers this service alone
 pub granted_once : (offered : List (List ℕ)) (name : List ℕ) (extensions : List Extension) (report : LinkReport)
     (answers : List ServiceAnswer) → IsServiceName name → offered ≡ name ∷ []
@@ -109,6 +127,7 @@ granted_once offered name extensions report answers is one all e =
   where
     same : bytes_eq name name ≡ true
     same = (bytes_eq-Decides name name).1 refl
+
     has : has_name name (name ∷ []) ≡ true
     has = ap (λ b. b || false) same
 
