@@ -45,7 +45,10 @@ next_in [] i item are h is = absurd (omega (arith, h))
 next_in (m ∷ messages) zero item are h is = record { message = m; is = are.0; spelled = is; more = refl }
 next_in (m ∷ messages) (suc i) item are h is =
     let r = next_in messages i item are.1 (omega (arith, h)) is in
-    record { message = r.message; is = r.is; spelled = r.spelled; more = ap (λ t. m ∷ t) r.more }
+    record { message = r.message; is = r.is; spelled = r.spelled; more = ap (λ k. take k (m ∷ messages)) (one_more i) ∙ ap (λ t. m ∷ t) r.more }
+  where
+    one_more : (n : ℕ) → suc n + 1 ≡ suc (n + 1)
+    one_more n = omega arith
 
 pub next_message : (messages : List ServiceMessage) (payloads items : List (List ℕ)) (i : ℕ) (payload item : List ℕ) → AreMessages messages → payloads ≡ map spelling messages → items ≡ payloads → i < length items → item ≡ get_or items i item → payload ≡ item → NextMessage messages i payload
 next_message messages payloads items i payload item are e same h is p =
@@ -90,12 +93,19 @@ spelling_good t rest type short = go (is_bad_size (length (t ∷ rest))) (is_pay
   go false true e f = refl
   go false false e f = cc
 
+-- the three messages
+named_good : (t : ℕ) (name : List ℕ) → is_payload_type t ≡ true → IsServiceName name → is_good_payload (t ∷ string name) ≡ true
+named_good t name type is = spelling_good t (string name) type (omega (arith, string_length name, named_short name is.no_fault))
+
+told_good : (extensions : List Extension) → AreExtensions extensions → is_good_payload (7 ∷ (u32be (length extensions) ++ flat_map extension extensions)) ≡ true
+told_good extensions are =
+    spelling_good 7 (u32be (length extensions) ++ flat_map extension extensions) refl
+    (omega (arith, length-append (u32be (length extensions)) (flat_map extension extensions), extensions_length extensions are.each, are.few))
+
 pub steps_good : (name : List ℕ) (extensions : List Extension) → IsServiceName name → AreExtensions extensions → all_submits_good (granting_steps name extensions) ≡ true
 steps_good name extensions is are =
-    go _ _ _
-    (spelling_good 7 _ refl (omega (arith, length-append (u32be (length extensions)) (flat_map extension extensions), extensions_length extensions are.each, are.few)))
-    (spelling_good 5 _ refl (omega (arith, string_length name, named_short name is.no_fault)))
-    (spelling_good 6 _ refl (omega (arith, string_length name, named_short name is.no_fault)))
+    go (is_good_payload (spelling (Info extensions))) (is_good_payload (spelling (Request name))) (is_good_payload (spelling (Accept name)))
+    (told_good extensions are) (named_good 5 name refl is) (named_good 6 name refl is)
   where
     go : (a b c : Bool) → a ≡ true → b ≡ true → c ≡ true → (true && (a && (b && (true && (c && (true && true)))))) ≡ true
     go true true true e f g = refl

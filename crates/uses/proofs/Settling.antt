@@ -1,5 +1,5 @@
 -- After a settle each side was delivered all that the other one submitted.
-use Rattle.std.proofs.Common.{◌≡◌, ℕ, suc, ◌+◌, ◌-◌, ◌<◌, ◌≤◌, List, [], ◌∷◌, ◌++◌, length, take, drop, map, slice_get, Bool, true, false, if◌then◌else◌, Option, Some, None, refl, sym, ◌∙◌, ap, subst, arith, append_assoc, append-nil, length-append}
+use Rattle.std.proofs.Common.{◌≡◌, ℕ, zero, suc, ◌+◌, ◌-◌, ◌<◌, ◌≤◌, List, [], ◌∷◌, ◌++◌, length, take, drop, map, slice_get, Bool, true, false, if◌then◌else◌, Option, Some, None, refl, sym, ◌∙◌, ap, subst, arith, append_assoc, append-nil, length-append}
 use Rattle.std.proofs.lemmas.List.{take-append-drop}
 use Rattle.ssh_kex.specs.Exchange.{outgoing}
 use Rattle.ssh_kex.specs.declared.config.Config.{Config}
@@ -24,7 +24,7 @@ use Rattle.uses.specs.Settled.{AllDelivered}
 -- ---- fronts
 
 front_all : {A : Type 0} (a b : List A) → HasFront a b → length a ≤ length b → b ≡ a
-front_all a b f l = go f.0 f.1 (omega (arith, ap length f.1, length-append b f.0, l)) where
+front_all {A} a b f l = go f.0 f.1 (omega (arith, ap length f.1, length-append b f.0, l)) where
   go : (more : List A) → b ++ more ≡ a → length more ≤ 0 → b ≡ a
   go [] e z = sym (append-nil b) ∙ e
   go (x ∷ more) e z = absurd (omega (arith, z))
@@ -70,18 +70,21 @@ reads_alone (Some at) (i ∷ a) x y h =
 -- what stands behind a line within the first n bytes is a front of all that stands behind it
 cut_front : (line packets : List ℕ) (n : ℕ) → HasFront packets (drop (length line) (take n (line ++ packets)))
 cut_front [] packets n = (drop n packets, take-append-drop n packets)
-cut_front (b ∷ line) packets 0 = (packets, refl)
+cut_front (b ∷ line) packets zero = (packets, refl)
 cut_front (b ∷ line) packets (suc n) = cut_front line packets n
+
+-- the payloads of some packets, and of more behind them
+carried_more : (a more : List Item) → carried_payloads (a ++ more) ≡ carried_payloads a ++ carried_payloads more
+carried_more [] more = refl
+carried_more (i ∷ a) more = by (is_payload_type (type_of i)) refl (carried_more a more) where
+  by : (b : Bool) → is_payload_type (type_of i) ≡ b → carried_payloads (a ++ more) ≡ carried_payloads a ++ carried_payloads more
+      → carried_payloads ((i ∷ a) ++ more) ≡ carried_payloads (i ∷ a) ++ carried_payloads more
+  by true e h = cc
+  by false e h = cc
 
 -- the payloads of a front
 carried_front : (a b : List Item) → HasFront b a → HasFront (carried_payloads b) (carried_payloads a)
-carried_front a b f = subst (λ t. HasFront (carried_payloads t) (carried_payloads a)) f.1 (go a f.0) where
-  go : (a more : List Item) → HasFront (carried_payloads (a ++ more)) (carried_payloads a)
-  go [] more = (carried_payloads more, refl)
-  go (i ∷ a) more = by (is_payload_type (type_of i)) refl where
-    by : (b : Bool) → is_payload_type (type_of i) ≡ b → HasFront (carried_payloads ((i ∷ a) ++ more)) (carried_payloads (i ∷ a))
-    by true e = let r = go a more in (r.0, let s = r.1 in cc)
-    by false e = let r = go a more in (r.0, let s = r.1 in cc)
+carried_front a b f = (carried_payloads f.0, sym (carried_more a f.0) ∙ ap carried_payloads f.1)
 
 -- what lies whole in a part of a wire carries a front of what was submitted
 whole_front : (side : Side) (config : Config) (kind : ℕ → Bool) (host : ℕ → Option (List ℕ)) (submitted : List (List ℕ))
@@ -128,13 +131,13 @@ one_step Settle cb sb m m' e = (let t = e.1 in omega (arith, t), let t = e.2 in 
 -- a step and those behind it
 submitted_on : (side : Side) (step : Step) (steps : List Step) → length (submitted_by side (step ∷ steps))
     ≡ length (submitted_by side (step ∷ [])) + length (submitted_by side steps)
-submitted_on Client (Submit Client p) steps = refl
-submitted_on Client (Submit Server p) steps = refl
-submitted_on Server (Submit Client p) steps = refl
-submitted_on Server (Submit Server p) steps = refl
-submitted_on side (Deliver s n) steps = refl
-submitted_on side (Rekey s) steps = refl
-submitted_on side Settle steps = refl
+submitted_on Client (Submit Client p) steps = omega arith
+submitted_on Client (Submit Server p) steps = omega arith
+submitted_on Server (Submit Client p) steps = omega arith
+submitted_on Server (Submit Server p) steps = omega arith
+submitted_on side (Deliver s n) steps = omega arith
+submitted_on side (Rekey s) steps = omega arith
+submitted_on side Settle steps = omega arith
 
 ends_settled : (before : List Step) (cb sb : Option ℕ) (m : Mark) (marks : List Mark)
     → Effects (before ++ Settle ∷ []) cb sb (m ∷ marks) → EndsSettled (before ++ Settle ∷ []) m (m ∷ marks)
