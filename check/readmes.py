@@ -27,12 +27,12 @@ LAYERS = [
     ("Packets", ["ssh_packet"]),
     ("The lines of scripts, and what is printed", ["ssh_lines"]),
     ("The outer part of a program", ["ssh_program"]),
-    ("Encodings and version lines, AES, HMAC", ["ssh_wire", "ssh_aes", "ssh_mac"]),
+    ("Encodings and version lines, AES, HMAC, powers", ["ssh_wire", "ssh_aes", "ssh_mac", "ssh_power"]),
     ("Proved callers", ["uses"]),
     ("Rows of values, and the programs that compare them",
      ["vector_rows", "machine_rows", "check_vectors", "check_exchange", "check_machines", "check_transport",
-      "check_replay", "check_services"]),
-    ("Programs that are measured", ["speed_aes", "speed_packets", "speed_link"]),
+      "check_replay", "check_services", "check_powers"]),
+    ("Programs that are measured", ["speed_aes", "speed_power", "speed_packets", "speed_link"]),
 ]
 
 
