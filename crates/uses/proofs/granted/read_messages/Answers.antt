@@ -15,7 +15,9 @@ loop-payload-preserved c =
     }
 
 pub returns-in_err-message : goal.returns-in_err-message
-returns-in_err-message c = λ messages are e.
-    let p = err_from_is_err_and c.from_residual.result c.from_residual.ensures.1 in
-    let next = next_message messages c.args.payloads.now c.args.payloads.now c.loop-payload.payload-index c.as_slice.result.now c.payload-item.result are e refl c.loop-payload-test.true c.payload-item.is c.as_slice.ensures in
-    rw (p.1, p.2) (tt, read_refuses next.message _ (c.in_err-message.ensures.again next.message next.is next.spelled))
+returns-in_err-message c = record {
+  again = λ messages are e.
+      let p = err_from_is_err_and c.from_residual.result c.from_residual.ensures.1 in
+      let next = next_message messages c.args.payloads.now c.args.payloads.now c.loop-payload.payload-index c.as_slice.result.now c.payload-item.result are e refl c.loop-payload-test.true c.payload-item.is c.as_slice.ensures in
+      rw (p.1, p.2) (tt, read_refuses next.message _ (c.in_err-message.ensures.again next.message next.is next.spelled));
+}
