@@ -1,4 +1,4 @@
-use Rattle.std.proofs.Common.{◌≡◌, ◌∙◌, List, [], ◌∷◌, ap, sym, subst, true}
+use Rattle.std.proofs.Common.{◌≡◌, ◌∙◌, [], ◌∷◌, ap, sym, subst, true}
 use Rattle.std.proofs.lemmas.Result.{err_from_is_err_and}
 use Rattle.ssh_run.specs.RunCauses.{all_submits_good}
 use Rattle.ssh_service.specs.Answers.{answers_from}
