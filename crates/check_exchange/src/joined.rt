@@ -4,7 +4,7 @@
 use crate::zeroed::ZeroAgreement;
 use ssh_kex::{Agreement, Parts};
 use ssh_run::run_link;
-use ssh_script::parse_script;
+use ssh_script::{Script, parse_script};
 use ssh_service::{ExtInfo, ServiceAnswer, ServiceName};
 use ssh_vectors::{TestAgreement, TestGroups};
 use std::alloc::Global;
@@ -41,30 +41,54 @@ pub(crate) fn answer(kind: &str, row: &mut Row<'_>, found: &mut String) -> Resul
 /// tells the extension TOLD of this value. The message of each grant of the server, and the messages that its client
 /// reads, or the refusal.
 fn say_granted(row: &mut Row<'_>, found: &mut String) -> Result<(), Fault> {
-    let alloc = row.alloc();
-    let Ok(script) = parse_script(alloc, false, row.bytes()?.as_slice()) else {
-        return Err(Fault::Malformed);
-    };
+    let text = row.bytes()?;
     let name = row.bytes()?;
-    let told = row.bytes()?;
-    let (Ok(name), Ok(told)) = (
-        str::from_utf8(name.as_slice()),
-        str::from_utf8(told.as_slice()),
-    ) else {
+    let Ok(name) = str::from_utf8(name.as_slice()) else {
         return Err(Fault::Malformed);
     };
-    let mut extensions = ExtInfo::new(alloc);
-    extensions.push(ServiceName::new(alloc, told)?, row.bytes()?.as_slice())?;
-    let mut parts = (
-        parts_of(alloc, TestAgreement::new())?,
-        parts_of(alloc, TestAgreement::new())?,
-    );
+    let extensions = told(row)?;
+    let Ok(script) = parse_script(row.alloc(), false, text.as_slice()) else {
+        return Err(Fault::Malformed);
+    };
+    say_asked(&script, name, extensions, found)
+}
+
+/// The row's next extension, alone.
+fn told(row: &mut Row<'_>) -> Result<ExtInfo, Fault> {
+    let name = row.bytes()?;
+    let value = row.bytes()?;
+    let Ok(name) = str::from_utf8(name.as_slice()) else {
+        return Err(Fault::Malformed);
+    };
+    let name = ServiceName::new(row.alloc(), name)?;
+    let mut extensions = ExtInfo::new(row.alloc());
+    extensions.push(name, value.as_slice())?;
+    Ok(extensions)
+}
+
+/// Appends what comes of asking for the service on a link of the script's configurations.
+fn say_asked(
+    script: &Script,
+    name: &str,
+    extensions: ExtInfo,
+    found: &mut String,
+) -> Result<(), Fault> {
+    let alloc = *found.allocator();
+    let mut parts = both_parts(alloc)?;
     let client = &script.client.config;
     let server = &script.server.config;
     match ask_for_service(alloc, client, server, &mut parts, name, extensions) {
         Ok(granted) => say_messages(&granted, found),
         Err(error) => say_shown(found, &error),
     }
+}
+
+/// Parts of both sides with the tests' agreement.
+fn both_parts(alloc: Global) -> Result<(With<TestAgreement>, With<TestAgreement>), Fault> {
+    Ok((
+        parts_of(alloc, TestAgreement::new())?,
+        parts_of(alloc, TestAgreement::new())?,
+    ))
 }
 
 /// Appends the messages of the grants, and then those that were told.

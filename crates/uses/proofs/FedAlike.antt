@@ -1,9 +1,8 @@
 -- A refusal of the reader stands at no packet that could be opened.
-use Rattle.std.proofs.Common.{◌≡◌, Option, Some, None, sym, ◌∙◌}
+use Rattle.std.proofs.Common.{◌≡◌, Option, Some, None}
 use Rattle.ssh_wire.specs.Lines.{IdFound}
 use Rattle.ssh_wire.specs.declared.error.Error.{Error}
 use Rattle.ssh_wire.specs.declared.error.Error.TheVariants as errors
-use Rattle.ssh_packet.specs.Sealing.{Item}
 use Rattle.ssh_rules.specs.Attacked.{AtSomePacket, EndsAsAnswered}
 use Rattle.ssh_rules.specs.Handled.{AllRead, AtFault, AtPacket, Ending}
 use Rattle.uses.specs.FedAlike.{IsByReader}

@@ -1,5 +1,5 @@
 -- A service that is asked for over a link.
-use Rattle.std.proofs.Common.{◌≡◌, ℕ, suc, zero, ◌+◌, ◌*◌, ◌<◌, ◌≤◌, List, [], ◌∷◌, ◌++◌, length, take, map, get_or, Bool, true, false, ◌&&◌, ◌||◌, not, nat_lt, Result, Ok, Err, IfErr, IfOk, refl, sym, ◌∙◌, ap, subst, arith, length-append, inl, inr, ◌⊎◌}
+use Rattle.std.proofs.Common.{◌≡◌, ℕ, suc, zero, ◌+◌, ◌*◌, ◌<◌, ◌≤◌, List, [], ◌∷◌, ◌++◌, length, take, map, get_or, Bool, true, false, ◌&&◌, ◌||◌, not, Ok, Err, refl, sym, ◌∙◌, ap, subst, arith, length-append, inl, inr}
 use Rattle.std.proofs.lemmas.Bool.Decides.{nat_tests}
 use Rattle.std.proofs.lemmas.Slice.Eq.{bytes_eq-Decides}
 use Rattle.std.specs.Str.{bytes_eq}
@@ -12,8 +12,10 @@ use Rattle.ssh_rules.specs.Parts.{ClientPairs, Secrets, ServerValues}
 use Rattle.ssh_rules.specs.declared.link.LinkReport.{LinkReport}
 use Rattle.ssh_rules.specs.declared.link.Step.{Step}
 use Rattle.ssh_rules.specs.declared.link.Step.TheVariants.{Settle, Submit}
+use Rattle.ssh_negotiate.specs.declared.kex.Name.{Name as KexName}
+use Rattle.ssh_wire.specs.declared.side.Side.{Side}
 use Rattle.ssh_wire.specs.declared.side.Side.TheVariants.{Client, Server}
-use Rattle.ssh_run.specs.RunCauses.{all_submits_good}
+use Rattle.ssh_run.specs.RunCauses.{IsValidRun, all_submits_good}
 use Rattle.ssh_service.proofs.Lemmas.{first_accepted, message_again, named_short}
 use Rattle.ssh_service.specs.Answers.{answers_from, has_name}
 use Rattle.ssh_service.specs.Extensions.{AllExtensions, AreExtensions, extension}
@@ -62,14 +64,6 @@ pub read_refuses : (m : ServiceMessage) (e : Error) → IsReadAs (Ok m) (Err e) 
 read_refuses m e (inl h) = h
 read_refuses m e (inr h) = cc
 
-pub take_whole : (messages : List ServiceMessage) (payloads : List (List ℕ)) (i : ℕ) → payloads ≡ map spelling messages → length payloads ≤ i → take i messages ≡ messages
-take_whole messages payloads i e h = go messages i (subst (λ l. length l ≤ i) e h) where
-  go : (ms : List ServiceMessage) (i : ℕ) → length (map spelling ms) ≤ i → take i ms ≡ ms
-  go [] zero h = refl
-  go [] (suc i) h = refl
-  go (m ∷ ms) zero h = absurd (omega (arith, h))
-  go (m ∷ ms) (suc i) h = ap (λ t. m ∷ t) (go ms i (omega (arith, h)))
-
 -- ---- the steps may be taken
 
 string_length : (s : List ℕ) → length (string s) ≡ 4 + length s
@@ -112,6 +106,12 @@ steps_good name extensions is are =
     go true true false e f g = cc
     go true false c e f g = cc
     go false b c e f g = cc
+
+-- a run that is valid but for its steps, which are good
+pub run_with : (config : Side → Config) (offered : Side → KexName → Bool) (steps : List Step) → IsValidRun config offered []
+    → all_submits_good steps ≡ true → IsValidRun config offered steps
+run_with config offered steps v good =
+    record { valid = v.valid; names = v.names; chosen = v.chosen; offers = v.offers; good = good }
 
 -- ---- what comes of them
 

@@ -1,16 +1,16 @@
 -- After a settle each side was delivered all that the other one submitted.
-use Rattle.std.proofs.Common.{◌≡◌, ℕ, zero, suc, ◌+◌, ◌-◌, ◌<◌, ◌≤◌, List, [], ◌∷◌, ◌++◌, length, take, drop, map, slice_get, Bool, true, false, if◌then◌else◌, Option, Some, None, refl, sym, ◌∙◌, ap, subst, arith, append_assoc, append-nil, length-append}
+use Rattle.std.proofs.Common.{◌≡◌, ℕ, zero, suc, ◌+◌, ◌≤◌, List, [], ◌∷◌, ◌++◌, length, take, drop, map, slice_get, Bool, true, false, Option, Some, None, refl, sym, ◌∙◌, ap, subst, arith, append_assoc, append-nil, length-append}
 use Rattle.std.proofs.lemmas.List.{take-append-drop}
 use Rattle.ssh_kex.specs.Exchange.{outgoing}
 use Rattle.ssh_kex.specs.declared.config.Config.{Config}
 use Rattle.ssh_kex.specs.declared.exchange.FinishedExchange.{FinishedExchange}
 use Rattle.ssh_packet.proofs.Lemmas.{length_sealed, one_packet}
 use Rattle.ssh_packet.specs.Sealing.{Item}
-use Rattle.ssh_packet.specs.Stream.{Opening, Place, Reads, first_place, packet_at, place_after}
+use Rattle.ssh_packet.specs.Stream.{Place, Reads, first_place, packet_at, place_after}
 use Rattle.ssh_rules.specs.Headline.{IsLastMark, IsLink, half_of, submitted_by}
 use Rattle.ssh_rules.specs.MessageTypes.{is_payload_type, type_of}
 use Rattle.ssh_rules.specs.Parts.{ClientPairs, Secrets, ServerValues}
-use Rattle.ssh_rules.specs.Run.{Effect, Effects, IsFirstMark, finished_at_rekey, mark_of}
+use Rattle.ssh_rules.specs.Run.{Effect, Effects, IsFirstMark}
 use Rattle.ssh_rules.specs.Wire.{HasFront, IsWire, LiesWhole, carried_payloads}
 use Rattle.ssh_rules.specs.declared.link.LinkReport.{LinkReport}
 use Rattle.ssh_rules.specs.declared.link.Mark.{Mark}

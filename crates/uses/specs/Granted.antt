@@ -1,15 +1,12 @@
 -- A service that is asked for over a link, and extensions that its server tells.
-use Rattle.std.specs.Prelude.{◌≡◌, ℕ, List, [], ◌∷◌, Result, Ok, Err, All, map}
+use Rattle.std.specs.Prelude.{◌≡◌, ℕ, List, [], ◌∷◌}
 use Rattle.ssh_rules.specs.declared.link.Step.{Step}
 use Rattle.ssh_rules.specs.declared.link.Step.TheVariants.{Settle, Submit}
 use Rattle.ssh_service.specs.Messages.{IsMessage, spelling}
-use Rattle.ssh_service.specs.declared.answer.ServiceAnswer.{ServiceAnswer}
 use Rattle.ssh_service.specs.declared.answer.ServiceAnswer.TheVariants.{Accepted}
 use Rattle.ssh_service.specs.declared.info.Extension.{Extension}
 use Rattle.ssh_service.specs.declared.message.ServiceMessage.{ServiceMessage}
 use Rattle.ssh_service.specs.declared.message.ServiceMessage.TheVariants.{Accept, Info, Request}
-use Rattle.ssh_wire.specs.declared.error.Error.{Error}
-use Rattle.ssh_wire.specs.declared.error.Error.TheVariants.{Memory}
 use Rattle.ssh_wire.specs.declared.side.Side.TheVariants.{Client, Server}
 use Rattle.uses.specs.declared.granted.Granted.{Granted}
 
