@@ -5,11 +5,11 @@ use Rattle.std.proofs.lemmas.List.{get_or-take, get_or_append_left, length-appen
 use Rattle.std.proofs.Math.Seq.{drop-append_seam}
 use Rattle.ssh_aes.specs.Aes.{block, aes, inverse_aes}
 use Rattle.ssh_aes.specs.Modes.{Running, Ctr, Cbc, block_sum, stream_byte, stream_block, counter_text, chained_block, chained_text, unchained_text, masked_text, unmasked_text, running_past, shortest_text}
-use Rattle.ssh_aes.specs.Laws.{AreBytes, ClosesWell}
+use Rattle.ssh_aes.specs.Laws.{AreOctets, ClosesWell}
 use Rattle.ssh_aes.proofs.Schedules.{bytes_by-same}
-use Rattle.ssh_aes.proofs.Inverses.{IsBlock, AreBytes-append, AreBytes-bytes_by, block-block, aes-block, xor-lt}
+use Rattle.ssh_aes.proofs.Inverses.{IsBlock, AreOctets-append, AreOctets-bytes_by, block-block, aes-block, xor-lt}
 use Rattle.ssh_aes.proofs.Redone.{inverse_aes-is_block, aes-again}
-use Rattle.ssh_aes.proofs.Running.{AreBytes-drop, block-front, block-take, counter_text-at, counter_text-back, inverse_aes-block, length-counter_text, take-block, take-same, block_sum-back, block_sum-block}
+use Rattle.ssh_aes.proofs.Running.{AreOctets-drop, block-front, block-take, counter_text-at, counter_text-back, inverse_aes-block, length-counter_text, take-block, take-same, block_sum-back, block_sum-block}
 
 -- ---- counter mode
 
@@ -17,9 +17,9 @@ stream_byte-lt : (key iv : List ℕ) (q : ℕ) → stream_byte key iv q < 256
 unfolding stream_block
 stream_byte-lt key iv q = let b = aes-block key _ in b.bytes (q % 16)
 
-counter_text-bytes : (key iv : List ℕ) (p : ℕ) (c : List ℕ) → AreBytes c → AreBytes (counter_text key iv p c)
+counter_text-bytes : (key iv : List ℕ) (p : ℕ) (c : List ℕ) → AreOctets c → AreOctets (counter_text key iv p c)
 unfolding counter_text
-counter_text-bytes key iv p c b = AreBytes-bytes_by (length c) _ (λ i l. xor-lt _ _ (b i) (stream_byte-lt key iv ((p + i) % 2 ^ 64)))
+counter_text-bytes key iv p c b = AreOctets-bytes_by (length c) _ (λ i l. xor-lt _ _ (b i) (stream_byte-lt key iv ((p + i) % 2 ^ 64)))
 
 counter_text-front : (key iv : List ℕ) (p : ℕ) (c y : List ℕ) → 4 ≤ length c → 4 ≤ length y → ((i : ℕ) → i < 4 → slice_index y i ≡ slice_index c i) → take 4 (counter_text key iv p y) ≡ take 4 (counter_text key iv p c)
 counter_text-front key iv p c y h k e =
@@ -36,7 +36,7 @@ opened_block-block : (key last c : List ℕ) → IsBlock (opened_block key last 
 opened_block-block key last c = let i = inverse_aes-is_block key c in let l = block-block last in block_sum-block (inverse_aes key c) (block last) i.bytes l.bytes
 
 -- chaining a block again
-chained_again : (key last c x : List ℕ) → AreBytes c → 16 ≤ length c → chained_block key last (opened_block key last c ++ x) ≡ take 16 c
+chained_again : (key last c x : List ℕ) → AreOctets c → 16 ≤ length c → chained_block key last (opened_block key last c ++ x) ≡ take 16 c
 chained_again key last c x b h =
     let o = opened_block-block key last c in
     let i = inverse_aes-is_block key c in
@@ -53,14 +53,14 @@ length-unchained_text key last (suc n) c h =
     length-append (opened_block key last c) (unchained_text key (take 16 c) n (drop 16 c))
     ∙ omega (arith, o.length_is, length-drop 16 c, length-unchained_text key (take 16 c) n (drop 16 c) (omega (arith, length-drop 16 c)))
 
-unchained_text-bytes : (key last : List ℕ) (n : ℕ) (c : List ℕ) → AreBytes c → AreBytes (unchained_text key last n c)
+unchained_text-bytes : (key last : List ℕ) (n : ℕ) (c : List ℕ) → AreOctets c → AreOctets (unchained_text key last n c)
 unfolding unchained_text
 unchained_text-bytes key last zero c b = b
 unchained_text-bytes key last (suc n) c b =
     let o = opened_block-block key last c in
-    AreBytes-append (opened_block key last c) (unchained_text key (take 16 c) n (drop 16 c)) o.bytes (unchained_text-bytes key (take 16 c) n (drop 16 c) (AreBytes-drop 16 c b))
+    AreOctets-append (opened_block key last c) (unchained_text key (take 16 c) n (drop 16 c)) o.bytes (unchained_text-bytes key (take 16 c) n (drop 16 c) (AreOctets-drop 16 c b))
 
-unchained_text-again : (key last : List ℕ) (n : ℕ) (c : List ℕ) → AreBytes c → 16 * n ≤ length c → chained_text key last n (unchained_text key last n c) ≡ c
+unchained_text-again : (key last : List ℕ) (n : ℕ) (c : List ℕ) → AreOctets c → 16 * n ≤ length c → chained_text key last n (unchained_text key last n c) ≡ c
 unfolding chained_text unchained_text
 unchained_text-again key last zero c b h = refl
 unchained_text-again key last (suc n) c b h =
@@ -69,7 +69,7 @@ unchained_text-again key last (suc n) c b h =
     let r = unchained_text key (take 16 c) n (drop 16 c) in
     let p : chained_block key last (o ++ r) ≡ take 16 c = chained_again key last c r b (omega arith) in
     let d : drop 16 (o ++ r) ≡ r = subst (λ (m : ℕ). drop m (o ++ r) ≡ r) k.length_is (drop-append_seam o r) in
-    let i : chained_text key (take 16 c) n r ≡ drop 16 c = unchained_text-again key (take 16 c) n (drop 16 c) (AreBytes-drop 16 c b) (omega (arith, length-drop 16 c)) in
+    let i : chained_text key (take 16 c) n r ≡ drop 16 c = unchained_text-again key (take 16 c) n (drop 16 c) (AreOctets-drop 16 c b) (omega (arith, length-drop 16 c)) in
     ap (λ x. x ++ chained_text key x n (drop 16 (o ++ r))) p
     ∙ ap (λ x. take 16 c ++ chained_text key (take 16 c) n x) d
     ∙ ap (λ x. take 16 c ++ x) i
@@ -94,11 +94,11 @@ length-unmasked_text : (r : Running) (c : List ℕ) → length (unmasked_text r 
 length-unmasked_text (Ctr key iv p) c = length-counter_text key iv p c
 length-unmasked_text (Cbc key last) c = length-unchained_text key last (length c / 16) c (omega arith)
 
-unmasked_text-bytes : (r : Running) (c : List ℕ) → AreBytes c → AreBytes (unmasked_text r c)
+unmasked_text-bytes : (r : Running) (c : List ℕ) → AreOctets c → AreOctets (unmasked_text r c)
 unmasked_text-bytes (Ctr key iv p) c b = counter_text-bytes key iv p c b
 unmasked_text-bytes (Cbc key last) c b = unchained_text-bytes key last (length c / 16) c b
 
-masked_text-unmasked_text : (r : Running) (c : List ℕ) → AreBytes c → masked_text r (unmasked_text r c) ≡ c
+masked_text-unmasked_text : (r : Running) (c : List ℕ) → AreOctets c → masked_text r (unmasked_text r c) ≡ c
 masked_text-unmasked_text (Ctr key iv p) c b = counter_text-back key iv p c
 masked_text-unmasked_text (Cbc key last) c b =
     ap (λ n. chained_text key last (n / 16) (unchained_text key last (length c / 16) c)) (length-unchained_text key last (length c / 16) c (omega arith))

@@ -8,7 +8,7 @@ use Rattle.std.proofs.lemmas.List.{get_or_past, length-append}
 use Rattle.ssh_aes.specs.Field.{byte_product}
 use Rattle.ssh_aes.specs.Aes.{bytes_by, substitute, inverse_substitute, sub_bytes, inverse_sub_bytes, shift_rows, inverse_shift_rows, mixed_byte, mixed_column, unmixed_column, mix_columns, inverse_mix_columns, add_round_key, rounds, inverse_rounds, cipher, inverse_cipher, aes, inverse_aes, expanded_key, schedule, next_word, plus_word, word_byte, block, bytes_of, key_words, round_constant}
 use Rattle.ssh_aes.specs.declared.tables.TheConstants.{INVERSE_SUBSTITUTION}
-use Rattle.ssh_aes.specs.Laws.{AreBytes, BlocksUndone}
+use Rattle.ssh_aes.specs.Laws.{AreOctets, BlocksUndone}
 use Rattle.ssh_aes.proofs.Polynomials.{xor_across, xor_cancel, product_modulo-sum}
 use Rattle.ssh_aes.proofs.Entries.{substitution_is, inverse_substitution_is, substitution-lt, restored_is, one_is, two-lt, three-lt, UndoesRow, crossed, unmixed_undoes, mixed_undoes}
 use Rattle.ssh_aes.proofs.Schedules.{length-bytes_by, bytes_by-at, bytes_by-same, block-same}
@@ -17,41 +17,41 @@ use Rattle.ssh_aes.proofs.Written.{sixteen-elements}
 -- 16 bytes
 pub record IsBlock (s : List ℕ) : Type 0 where
   pub length_is : length s ≡ 16
-  pub bytes : AreBytes s
+  pub bytes : AreOctets s
 
-pub AreBytes-bytes_by : (n : ℕ) (f : ℕ → ℕ) → ((i : ℕ) → i < n → f i < 256) → AreBytes (bytes_by n f)
-AreBytes-bytes_by n f h i = elim (cases_lt i n) [
+pub AreOctets-bytes_by : (n : ℕ) (f : ℕ → ℕ) → ((i : ℕ) → i < n → f i < 256) → AreOctets (bytes_by n f)
+AreOctets-bytes_by n f h i = elim (cases_lt i n) [
   | inl l ↦ rw (bytes_by-at n f i l) (h i l)
   | inr l ↦ let e = get_or_past (bytes_by n f) i 0 (omega (arith, length-bytes_by n f)) in rw e (omega arith)
 ]
 
 pub IsBlock-bytes_by : (f : ℕ → ℕ) → ((i : ℕ) → i < 16 → f i < 256) → IsBlock (bytes_by 16 f)
-IsBlock-bytes_by f h = record { length_is = length-bytes_by 16 f; bytes = AreBytes-bytes_by 16 f h }
+IsBlock-bytes_by f h = record { length_is = length-bytes_by 16 f; bytes = AreOctets-bytes_by 16 f h }
 
 pub xor-lt : (a b : ℕ) → a < 256 → b < 256 → bit_xor a b < 256
 xor-lt a b h k = xor_of_8 a b h k
 
 -- ---- bytes
 
-pub AreBytes-nil : AreBytes []
-AreBytes-nil zero = omega arith
-AreBytes-nil (suc i) = omega arith
+pub AreOctets-nil : AreOctets []
+AreOctets-nil zero = omega arith
+AreOctets-nil (suc i) = omega arith
 
-pub AreBytes-cons : (x : ℕ) (xs : List ℕ) → x < 256 → AreBytes xs → AreBytes (x ∷ xs)
-AreBytes-cons x xs h b zero = h
-AreBytes-cons x xs h b (suc i) = b i
+pub AreOctets-cons : (x : ℕ) (xs : List ℕ) → x < 256 → AreOctets xs → AreOctets (x ∷ xs)
+AreOctets-cons x xs h b zero = h
+AreOctets-cons x xs h b (suc i) = b i
 
-pub AreBytes-append : (xs ys : List ℕ) → AreBytes xs → AreBytes ys → AreBytes (xs ++ ys)
-AreBytes-append [] ys a b = b
-AreBytes-append (x ∷ xs) ys a b = AreBytes-cons x (xs ++ ys) (a 0) (AreBytes-append xs ys (λ i. a (suc i)) b)
+pub AreOctets-append : (xs ys : List ℕ) → AreOctets xs → AreOctets ys → AreOctets (xs ++ ys)
+AreOctets-append [] ys a b = b
+AreOctets-append (x ∷ xs) ys a b = AreOctets-cons x (xs ++ ys) (a 0) (AreOctets-append xs ys (λ i. a (suc i)) b)
 
-pub AreBytes-four : (a b c d : ℕ) → a < 256 → b < 256 → c < 256 → d < 256 → AreBytes (a ∷ b ∷ c ∷ d ∷ [])
-AreBytes-four a b c d h i j k =
-    AreBytes-cons a (b ∷ c ∷ d ∷ []) h (AreBytes-cons b (c ∷ d ∷ []) i (AreBytes-cons c (d ∷ []) j (AreBytes-cons d [] k AreBytes-nil)))
+pub AreOctets-four : (a b c d : ℕ) → a < 256 → b < 256 → c < 256 → d < 256 → AreOctets (a ∷ b ∷ c ∷ d ∷ [])
+AreOctets-four a b c d h i j k =
+    AreOctets-cons a (b ∷ c ∷ d ∷ []) h (AreOctets-cons b (c ∷ d ∷ []) i (AreOctets-cons c (d ∷ []) j (AreOctets-cons d [] k AreOctets-nil)))
 
 -- ---- each step
 
-pub add_round_key-block : (w : List ℕ) (r : ℕ) (s : List ℕ) → AreBytes w → IsBlock s → IsBlock (add_round_key w r s)
+pub add_round_key-block : (w : List ℕ) (r : ℕ) (s : List ℕ) → AreOctets w → IsBlock s → IsBlock (add_round_key w r s)
 unfolding add_round_key
 add_round_key-block w r s h b = IsBlock-bytes_by (λ i. bit_xor (slice_index s i) (slice_index w (16 * r + i))) (λ i l. xor-lt _ _ (b.bytes i) (h (16 * r + i)))
 
@@ -179,10 +179,10 @@ mixed_byte-lt j k l m a b c d p q r s = xor-lt _ _ (xor-lt _ _ p q) (xor-lt _ _ 
 one-lt : (b : ℕ) → b < 256 → byte_product 1 b < 256
 one-lt b h = subst (λ (x : ℕ). x < 256) (sym (one_is b h)) h
 
-mixed_column-bytes : (a b c d : ℕ) → a < 256 → b < 256 → c < 256 → d < 256 → AreBytes (mixed_column a b c d)
+mixed_column-bytes : (a b c d : ℕ) → a < 256 → b < 256 → c < 256 → d < 256 → AreOctets (mixed_column a b c d)
 unfolding mixed_column
 mixed_column-bytes a b c d h i j k =
-    AreBytes-four _ _ _ _
+    AreOctets-four _ _ _ _
     (mixed_byte-lt 2 3 1 1 a b c d (two-lt a h) (three-lt b i) (one-lt c j) (one-lt d k))
     (mixed_byte-lt 1 2 3 1 a b c d (one-lt a h) (two-lt b i) (three-lt c j) (one-lt d k))
     (mixed_byte-lt 1 1 2 3 a b c d (one-lt a h) (one-lt b i) (two-lt c j) (three-lt d k))
@@ -195,10 +195,10 @@ length-mixed_column a b c d = refl
 pub mix_columns-block : (s : List ℕ) → IsBlock s → IsBlock (mix_columns s)
 unfolding mix_columns
 mix_columns-block s b =
-    let column : (i : ℕ) → AreBytes (mixed_column (slice_index s i) (slice_index s (i + 1)) (slice_index s (i + 2)) (slice_index s (i + 3))) = λ i. mixed_column-bytes _ _ _ _ (b.bytes i) (b.bytes (i + 1)) (b.bytes (i + 2)) (b.bytes (i + 3)) in
+    let column : (i : ℕ) → AreOctets (mixed_column (slice_index s i) (slice_index s (i + 1)) (slice_index s (i + 2)) (slice_index s (i + 3))) = λ i. mixed_column-bytes _ _ _ _ (b.bytes i) (b.bytes (i + 1)) (b.bytes (i + 2)) (b.bytes (i + 3)) in
     record {
       length_is = simp (length-append, length-mixed_column) refl;
-      bytes = AreBytes-append _ _ (AreBytes-append _ _ (AreBytes-append _ _ (column 0) (column 4)) (column 8)) (column 12);
+      bytes = AreOctets-append _ _ (AreOctets-append _ _ (AreOctets-append _ _ (column 0) (column 4)) (column 8)) (column 12);
     }
 
 -- ---- the schedule
@@ -212,12 +212,12 @@ unfolding round_constant
 round_constant-lt zero = omega arith
 round_constant-lt (suc n) = two-lt (round_constant n) (round_constant-lt n)
 
-plus_word-bytes : (w : List ℕ) (i a b c d : ℕ) → AreBytes w → a < 256 → b < 256 → c < 256 → d < 256 → AreBytes (plus_word w i a b c d)
+plus_word-bytes : (w : List ℕ) (i a b c d : ℕ) → AreOctets w → a < 256 → b < 256 → c < 256 → d < 256 → AreOctets (plus_word w i a b c d)
 plus_word-bytes w i a b c d x h j k l =
     let t = λ (n : ℕ). word_byte w i n in
-    AreBytes-four (bit_xor (t 0) a) (bit_xor (t 1) b) (bit_xor (t 2) c) (bit_xor (t 3) d) (xor-lt (t 0) a (x (4 * i + 0)) h) (xor-lt (t 1) b (x (4 * i + 1)) j) (xor-lt (t 2) c (x (4 * i + 2)) k) (xor-lt (t 3) d (x (4 * i + 3)) l)
+    AreOctets-four (bit_xor (t 0) a) (bit_xor (t 1) b) (bit_xor (t 2) c) (bit_xor (t 3) d) (xor-lt (t 0) a (x (4 * i + 0)) h) (xor-lt (t 1) b (x (4 * i + 1)) j) (xor-lt (t 2) c (x (4 * i + 2)) k) (xor-lt (t 3) d (x (4 * i + 3)) l)
 
-next_word-bytes : (n : ℕ) (w : List ℕ) (i : ℕ) → AreBytes w → AreBytes (next_word n w i)
+next_word-bytes : (n : ℕ) (w : List ℕ) (i : ℕ) → AreOctets w → AreOctets (next_word n w i)
 unfolding next_word
 next_word-bytes n w i x =
     let t = λ (j : ℕ). word_byte w (i - 1) j in
@@ -228,21 +228,21 @@ next_word-bytes n w i x =
     let a = plus_word w (i - n) (bit_xor (u 1) r) (u 2) (u 3) (u 0) in
     let b = plus_word w (i - n) (u 0) (u 1) (u 2) (u 3) in
     let c = plus_word w (i - n) (t 0) (t 1) (t 2) (t 3) in
-    cond-has AreBytes (eqb (i % n) 0) a (cond (eqb n 8 && eqb (i % 8) 4) b c)
+    cond-has AreOctets (eqb (i % n) 0) a (cond (eqb n 8 && eqb (i % 8) 4) b c)
     (plus_word-bytes w (i - n) (bit_xor (u 1) r) (u 2) (u 3) (u 0) x (xor-lt (u 1) r (k 1) (round_constant-lt (i / n - 1))) (k 2) (k 3) (k 0))
-    (cond-has AreBytes (eqb n 8 && eqb (i % 8) 4) b c
+    (cond-has AreOctets (eqb n 8 && eqb (i % 8) 4) b c
     (plus_word-bytes w (i - n) (u 0) (u 1) (u 2) (u 3) x (k 0) (k 1) (k 2) (k 3))
     (plus_word-bytes w (i - n) (t 0) (t 1) (t 2) (t 3) x (h 0) (h 1) (h 2) (h 3)))
 
-pub bytes_of-bytes : (n : ℕ) (s : List ℕ) → AreBytes (bytes_of n s)
-bytes_of-bytes n s = AreBytes-bytes_by n (λ i. slice_index s i % 256) (λ i l. omega arith)
+pub bytes_of-bytes : (n : ℕ) (s : List ℕ) → AreOctets (bytes_of n s)
+bytes_of-bytes n s = AreOctets-bytes_by n (λ i. slice_index s i % 256) (λ i l. omega arith)
 
-pub schedule-bytes : (n : ℕ) (key : List ℕ) (k : ℕ) → AreBytes (schedule n key k)
+pub schedule-bytes : (n : ℕ) (key : List ℕ) (k : ℕ) → AreOctets (schedule n key k)
 unfolding schedule
 schedule-bytes n key zero = bytes_of-bytes (4 * n) key
-schedule-bytes n key (suc k) = AreBytes-append (schedule n key k) (next_word n (schedule n key k) (n + k)) (schedule-bytes n key k) (next_word-bytes n (schedule n key k) (n + k) (schedule-bytes n key k))
+schedule-bytes n key (suc k) = AreOctets-append (schedule n key k) (next_word n (schedule n key k) (n + k)) (schedule-bytes n key k) (next_word-bytes n (schedule n key k) (n + k) (schedule-bytes n key k))
 
-pub expanded_key-bytes : (key : List ℕ) → AreBytes (expanded_key key)
+pub expanded_key-bytes : (key : List ℕ) → AreOctets (expanded_key key)
 unfolding expanded_key
 expanded_key-bytes key = schedule-bytes (key_words key) key (3 * key_words key + 28)
 
@@ -251,7 +251,7 @@ expanded_key-bytes key = schedule-bytes (key_words key) key (3 * key_words key +
 pub block-block : (s : List ℕ) → IsBlock (block s)
 block-block s = record { length_is = length-bytes_by 16 (λ i. slice_index s i % 256); bytes = bytes_of-bytes 16 s }
 
-rounds-block : (w : List ℕ) (k : ℕ) (s : List ℕ) → AreBytes w → IsBlock s → IsBlock (rounds w k s)
+rounds-block : (w : List ℕ) (k : ℕ) (s : List ℕ) → AreOctets w → IsBlock s → IsBlock (rounds w k s)
 unfolding rounds
 rounds-block w zero s h b = add_round_key-block w 0 s h b
 rounds-block w (suc k) s h b = add_round_key-block w (suc k) _ h (mix_columns-block _ (shift_rows-block _ (sub_bytes-block _ (rounds-block w k s h b))))
@@ -260,15 +260,15 @@ rounds-block w (suc k) s h b = add_round_key-block w (suc k) _ h (mix_columns-bl
 abbrev shifted : List ℕ → ℕ → List ℕ → List ℕ
 shifted w k s = shift_rows (sub_bytes (rounds w k s))
 
-shifted-block : (w : List ℕ) (k : ℕ) (s : List ℕ) → AreBytes w → IsBlock s → IsBlock (shifted w k s)
+shifted-block : (w : List ℕ) (k : ℕ) (s : List ℕ) → AreOctets w → IsBlock s → IsBlock (shifted w k s)
 shifted-block w k s h b = shift_rows-block _ (sub_bytes-block _ (rounds-block w k s h b))
 
-shifted-back : (w : List ℕ) (k : ℕ) (s : List ℕ) → AreBytes w → IsBlock s → inverse_sub_bytes (inverse_shift_rows (shifted w k s)) ≡ rounds w k s
+shifted-back : (w : List ℕ) (k : ℕ) (s : List ℕ) → AreOctets w → IsBlock s → inverse_sub_bytes (inverse_shift_rows (shifted w k s)) ≡ rounds w k s
 shifted-back w k s h b =
     ap inverse_sub_bytes (shift_rows-back (sub_bytes (rounds w k s)) (sub_bytes-block _ (rounds-block w k s h b)))
     ∙ sub_bytes-back (rounds w k s) (rounds-block w k s h b)
 
-rounds-back : (w : List ℕ) (k : ℕ) (s : List ℕ) → AreBytes w → IsBlock s → inverse_rounds w k (shifted w k s) ≡ s
+rounds-back : (w : List ℕ) (k : ℕ) (s : List ℕ) → AreOctets w → IsBlock s → inverse_rounds w k (shifted w k s) ≡ s
 unfolding inverse_rounds rounds
 rounds-back w zero s h b = ap (add_round_key w 0) (shifted-back w zero s h b) ∙ add_round_key-twice w 0 s b
 rounds-back w (suc k) s h b =
@@ -281,7 +281,7 @@ pub aes-block : (key s : List ℕ) → IsBlock (aes key s)
 unfolding aes cipher
 aes-block key s = add_round_key-block (expanded_key key) _ _ (expanded_key-bytes key) (shifted-block (expanded_key key) (key_words key + 5) (block s) (expanded_key-bytes key) (block-block s))
 
-cipher-back : (w : List ℕ) (k : ℕ) (s : List ℕ) → AreBytes w → IsBlock s → inverse_cipher w k (cipher w k s) ≡ s
+cipher-back : (w : List ℕ) (k : ℕ) (s : List ℕ) → AreOctets w → IsBlock s → inverse_cipher w k (cipher w k s) ≡ s
 unfolding inverse_cipher cipher
 cipher-back w k s h b = ap (inverse_rounds w k) (add_round_key-twice w (k + 1) (shifted w k s) (shifted-block w k s h b)) ∙ rounds-back w k s h b
 

@@ -8,9 +8,9 @@ use Rattle.ssh_aes.specs.Aes.{bytes_by}
 use Rattle.ssh_aes.specs.Gcm.{element, element_block}
 use Rattle.ssh_aes.specs.declared.tables.TheConstants.{REVERSED}
 use Rattle.ssh_aes.proofs.Below.{all_below, all_below-at}
-use Rattle.ssh_aes.proofs.Inverses.{AreBytes-append, AreBytes-cons, AreBytes-four}
+use Rattle.ssh_aes.proofs.Inverses.{AreOctets-append, AreOctets-cons, AreOctets-four}
 use Rattle.ssh_aes.proofs.Spelling.{number_spelled}
-use Rattle.ssh_aes.specs.Laws.{AreBytes}
+use Rattle.ssh_aes.specs.Laws.{AreOctets}
 
 -- the number of bytes after a, the highest first
 abbrev pub from_high : ℕ → List ℕ → ℕ
@@ -24,7 +24,7 @@ from_low (x ∷ xs) = from_low xs * 256 + x
 
 -- ---- bytes of a number
 
-high_part : (a : ℕ) (ys : List ℕ) → AreBytes ys → from_high a ys / 256 ^ length ys ≡ a
+high_part : (a : ℕ) (ys : List ℕ) → AreOctets ys → from_high a ys / 256 ^ length ys ≡ a
 high_part a [] b = omega arith
 high_part a (y ∷ ys) b =
     let h : y < 256 = b 0 in
@@ -34,11 +34,11 @@ high_part a (y ∷ ys) b =
     ∙ ap (λ (q : ℕ). q / 256) (high_part (a * 256 + y) ys (λ i. b (suc i)))
     ∙ e
 
-byte-first : (a y : ℕ) (ys : List ℕ) → y < 256 → AreBytes ys → byte_at (length ys) (from_high (a * 256 + y) ys) ≡ y
+byte-first : (a y : ℕ) (ys : List ℕ) → y < 256 → AreOctets ys → byte_at (length ys) (from_high (a * 256 + y) ys) ≡ y
 byte-first a y [] h b = omega arith
 byte-first a y (z ∷ zs) h b = ap (λ (q : ℕ). q % 256) (high_part (a * 256 + y) (z ∷ zs) b) ∙ omega arith
 
-pub high_bytes : (a : ℕ) (ys : List ℕ) → AreBytes ys → bytes_high_first (length ys) (from_high a ys) ≡ ys
+pub high_bytes : (a : ℕ) (ys : List ℕ) → AreOctets ys → bytes_high_first (length ys) (from_high a ys) ≡ ys
 high_bytes a [] b = refl
 high_bytes a (y ∷ ys) b =
     ap (λ x. x ∷ bytes_high_first (length ys) (from_high (a * 256 + y) ys)) (byte-first a y ys (b 0) (λ i. b (suc i)))
@@ -69,7 +69,7 @@ byte-reversed k r b a h =
     ∙ ap (reverse_bits_onto k r) (eight_bits a _ _ _ _ _ _ _ _ _ _ _ _ _ _ _ _ b0 b1 b2 b3 b4 b5 b6 b7)
 
 -- a number's bits in the other order: its bytes in the other order, each with its bits in the other order
-pub bytes-reversed : (a : ℕ) (xs : List ℕ) → AreBytes xs → reverse_bits_onto (8 * length xs) (from_low xs) a ≡ from_high a (map reversed_byte xs)
+pub bytes-reversed : (a : ℕ) (xs : List ℕ) → AreOctets xs → reverse_bits_onto (8 * length xs) (from_low xs) a ≡ from_high a (map reversed_byte xs)
 unfolding reverse_bits_onto
 bytes-reversed a [] b = refl
 bytes-reversed a (x ∷ xs) b =
@@ -80,9 +80,9 @@ bytes-reversed a (x ∷ xs) b =
 
 -- ---- sixteen bytes
 
-pub AreBytes-sixteen : (s0 s1 s2 s3 s4 s5 s6 s7 s8 s9 s10 s11 s12 s13 s14 s15 : ℕ) → s0 < 256 → s1 < 256 → s2 < 256 → s3 < 256 → s4 < 256 → s5 < 256 → s6 < 256 → s7 < 256 → s8 < 256 → s9 < 256 → s10 < 256 → s11 < 256 → s12 < 256 → s13 < 256 → s14 < 256 → s15 < 256 → AreBytes (s0 ∷ s1 ∷ s2 ∷ s3 ∷ s4 ∷ s5 ∷ s6 ∷ s7 ∷ s8 ∷ s9 ∷ s10 ∷ s11 ∷ s12 ∷ s13 ∷ s14 ∷ s15 ∷ [])
-AreBytes-sixteen s0 s1 s2 s3 s4 s5 s6 s7 s8 s9 s10 s11 s12 s13 s14 s15 h0 h1 h2 h3 h4 h5 h6 h7 h8 h9 h10 h11 h12 h13 h14 h15 =
-    AreBytes-append (s0 ∷ s1 ∷ s2 ∷ s3 ∷ s4 ∷ s5 ∷ s6 ∷ s7 ∷ s8 ∷ s9 ∷ s10 ∷ s11 ∷ []) (s12 ∷ s13 ∷ s14 ∷ s15 ∷ []) (AreBytes-append (s0 ∷ s1 ∷ s2 ∷ s3 ∷ s4 ∷ s5 ∷ s6 ∷ s7 ∷ []) (s8 ∷ s9 ∷ s10 ∷ s11 ∷ []) (AreBytes-append (s0 ∷ s1 ∷ s2 ∷ s3 ∷ []) (s4 ∷ s5 ∷ s6 ∷ s7 ∷ []) (AreBytes-four s0 s1 s2 s3 h0 h1 h2 h3) (AreBytes-four s4 s5 s6 s7 h4 h5 h6 h7)) (AreBytes-four s8 s9 s10 s11 h8 h9 h10 h11)) (AreBytes-four s12 s13 s14 s15 h12 h13 h14 h15)
+pub AreOctets-sixteen : (s0 s1 s2 s3 s4 s5 s6 s7 s8 s9 s10 s11 s12 s13 s14 s15 : ℕ) → s0 < 256 → s1 < 256 → s2 < 256 → s3 < 256 → s4 < 256 → s5 < 256 → s6 < 256 → s7 < 256 → s8 < 256 → s9 < 256 → s10 < 256 → s11 < 256 → s12 < 256 → s13 < 256 → s14 < 256 → s15 < 256 → AreOctets (s0 ∷ s1 ∷ s2 ∷ s3 ∷ s4 ∷ s5 ∷ s6 ∷ s7 ∷ s8 ∷ s9 ∷ s10 ∷ s11 ∷ s12 ∷ s13 ∷ s14 ∷ s15 ∷ [])
+AreOctets-sixteen s0 s1 s2 s3 s4 s5 s6 s7 s8 s9 s10 s11 s12 s13 s14 s15 h0 h1 h2 h3 h4 h5 h6 h7 h8 h9 h10 h11 h12 h13 h14 h15 =
+    AreOctets-append (s0 ∷ s1 ∷ s2 ∷ s3 ∷ s4 ∷ s5 ∷ s6 ∷ s7 ∷ s8 ∷ s9 ∷ s10 ∷ s11 ∷ []) (s12 ∷ s13 ∷ s14 ∷ s15 ∷ []) (AreOctets-append (s0 ∷ s1 ∷ s2 ∷ s3 ∷ s4 ∷ s5 ∷ s6 ∷ s7 ∷ []) (s8 ∷ s9 ∷ s10 ∷ s11 ∷ []) (AreOctets-append (s0 ∷ s1 ∷ s2 ∷ s3 ∷ []) (s4 ∷ s5 ∷ s6 ∷ s7 ∷ []) (AreOctets-four s0 s1 s2 s3 h0 h1 h2 h3) (AreOctets-four s4 s5 s6 s7 h4 h5 h6 h7)) (AreOctets-four s8 s9 s10 s11 h8 h9 h10 h11)) (AreOctets-four s12 s13 s14 s15 h12 h13 h14 h15)
 
 reversed_test : all_below 256 (λ b. eqb (slice_index REVERSED b) (reversed_byte b)) ≡ true
 unfolding reverse_bits_onto
@@ -102,14 +102,14 @@ from_low-sum s0 s1 s2 s3 s4 s5 s6 s7 s8 s9 s10 s11 s12 s13 s14 s15 = omega arith
 abbrev last_first : List ℕ → List ℕ
 last_first s = slice_index s 15 ∷ slice_index s 14 ∷ slice_index s 13 ∷ slice_index s 12 ∷ slice_index s 11 ∷ slice_index s 10 ∷ slice_index s 9 ∷ slice_index s 8 ∷ slice_index s 7 ∷ slice_index s 6 ∷ slice_index s 5 ∷ slice_index s 4 ∷ slice_index s 3 ∷ slice_index s 2 ∷ slice_index s 1 ∷ slice_index s 0 ∷ []
 
-pub element-is : (s : List ℕ) → AreBytes s → element s ≡ from_high 0 (map reversed_byte (last_first s))
+pub element-is : (s : List ℕ) → AreOctets s → element s ≡ from_high 0 (map reversed_byte (last_first s))
 unfolding element
 element-is s b =
     ap (λ (n : ℕ). reverse_bits_onto 128 n 0) (from_high-sum (slice_index s 0) (slice_index s 1) (slice_index s 2) (slice_index s 3) (slice_index s 4) (slice_index s 5) (slice_index s 6) (slice_index s 7) (slice_index s 8) (slice_index s 9) (slice_index s 10) (slice_index s 11) (slice_index s 12) (slice_index s 13) (slice_index s 14) (slice_index s 15))
-    ∙ bytes-reversed 0 (last_first s) (AreBytes-sixteen (slice_index s 15) (slice_index s 14) (slice_index s 13) (slice_index s 12) (slice_index s 11) (slice_index s 10) (slice_index s 9) (slice_index s 8) (slice_index s 7) (slice_index s 6) (slice_index s 5) (slice_index s 4) (slice_index s 3) (slice_index s 2) (slice_index s 1) (slice_index s 0) (b 15) (b 14) (b 13) (b 12) (b 11) (b 10) (b 9) (b 8) (b 7) (b 6) (b 5) (b 4) (b 3) (b 2) (b 1) (b 0))
+    ∙ bytes-reversed 0 (last_first s) (AreOctets-sixteen (slice_index s 15) (slice_index s 14) (slice_index s 13) (slice_index s 12) (slice_index s 11) (slice_index s 10) (slice_index s 9) (slice_index s 8) (slice_index s 7) (slice_index s 6) (slice_index s 5) (slice_index s 4) (slice_index s 3) (slice_index s 2) (slice_index s 1) (slice_index s 0) (b 15) (b 14) (b 13) (b 12) (b 11) (b 10) (b 9) (b 8) (b 7) (b 6) (b 5) (b 4) (b 3) (b 2) (b 1) (b 0))
 
 -- what is read from a block with the bits of each byte in the other order
-pub element-read : (s : List ℕ) (n : ℕ) → AreBytes s → n ≡ from_le_bytes w128 (bytes_by 16 (λ i. reversed_byte (slice_index s i))) → n ≡ element s
+pub element-read : (s : List ℕ) (n : ℕ) → AreOctets s → n ≡ from_le_bytes w128 (bytes_by 16 (λ i. reversed_byte (slice_index s i))) → n ≡ element s
 element-read s n b e = e ∙ from_low-sum (reversed_byte (slice_index s 0)) (reversed_byte (slice_index s 1)) (reversed_byte (slice_index s 2)) (reversed_byte (slice_index s 3)) (reversed_byte (slice_index s 4)) (reversed_byte (slice_index s 5)) (reversed_byte (slice_index s 6)) (reversed_byte (slice_index s 7)) (reversed_byte (slice_index s 8)) (reversed_byte (slice_index s 9)) (reversed_byte (slice_index s 10)) (reversed_byte (slice_index s 11)) (reversed_byte (slice_index s 12)) (reversed_byte (slice_index s 13)) (reversed_byte (slice_index s 14)) (reversed_byte (slice_index s 15)) ∙ sym (element-is s b)
 
 reversed_bytes_test : all_below 256 (λ b. ltb (reversed_byte b) 256) ≡ true
@@ -119,13 +119,13 @@ reversed_bytes_test = refl
 reversed_byte-lt : (b : ℕ) → b < 256 → reversed_byte b < 256
 reversed_byte-lt b h = ltb-true _ _ (all_below-at 256 (λ b. ltb (reversed_byte b) 256) reversed_bytes_test b h)
 
-AreBytes-reversed : (xs : List ℕ) → AreBytes xs → AreBytes (map reversed_byte xs)
-AreBytes-reversed [] b = b
-AreBytes-reversed (x ∷ xs) b = AreBytes-cons (reversed_byte x) (map reversed_byte xs) (reversed_byte-lt x (b 0)) (AreBytes-reversed xs (λ i. b (suc i)))
+AreOctets-reversed : (xs : List ℕ) → AreOctets xs → AreOctets (map reversed_byte xs)
+AreOctets-reversed [] b = b
+AreOctets-reversed (x ∷ xs) b = AreOctets-cons (reversed_byte x) (map reversed_byte xs) (reversed_byte-lt x (b 0)) (AreOctets-reversed xs (λ i. b (suc i)))
 
 -- the bytes of a number are bytes
-AreBytes-low : (e : ℕ) → AreBytes (to_le_bytes w128 e)
-AreBytes-low e = AreBytes-sixteen (byte_at 0 e) (byte_at 1 e) (byte_at 2 e) (byte_at 3 e) (byte_at 4 e) (byte_at 5 e) (byte_at 6 e) (byte_at 7 e) (byte_at 8 e) (byte_at 9 e) (byte_at 10 e) (byte_at 11 e) (byte_at 12 e) (byte_at 13 e) (byte_at 14 e) (byte_at 15 e) (omega arith) (omega arith) (omega arith) (omega arith) (omega arith) (omega arith) (omega arith) (omega arith) (omega arith) (omega arith) (omega arith) (omega arith) (omega arith) (omega arith) (omega arith) (omega arith)
+AreOctets-low : (e : ℕ) → AreOctets (to_le_bytes w128 e)
+AreOctets-low e = AreOctets-sixteen (byte_at 0 e) (byte_at 1 e) (byte_at 2 e) (byte_at 3 e) (byte_at 4 e) (byte_at 5 e) (byte_at 6 e) (byte_at 7 e) (byte_at 8 e) (byte_at 9 e) (byte_at 10 e) (byte_at 11 e) (byte_at 12 e) (byte_at 13 e) (byte_at 14 e) (byte_at 15 e) (omega arith) (omega arith) (omega arith) (omega arith) (omega arith) (omega arith) (omega arith) (omega arith) (omega arith) (omega arith) (omega arith) (omega arith) (omega arith) (omega arith) (omega arith) (omega arith)
 
 -- what is written of a polynomial, with the bits of each byte in the other order
 pub element-written : (e : ℕ) (s : List ℕ) → e < 2 ^ 128 → s ≡ bytes_by 16 (λ i. reversed_byte (slice_index (to_le_bytes w128 e) i)) → s ≡ element_block e
@@ -133,8 +133,8 @@ unfolding element_block
 element-written e s h f =
     let l = to_le_bytes w128 e in
     let n : from_low l ≡ e = sym (from_high-sum (byte_at 15 e) (byte_at 14 e) (byte_at 13 e) (byte_at 12 e) (byte_at 11 e) (byte_at 10 e) (byte_at 9 e) (byte_at 8 e) (byte_at 7 e) (byte_at 6 e) (byte_at 5 e) (byte_at 4 e) (byte_at 3 e) (byte_at 2 e) (byte_at 1 e) (byte_at 0 e)) ∙ number_spelled e h in
-    let r : reverse_bits_onto 128 e 0 ≡ from_high 0 (map reversed_byte l) = ap (λ (x : ℕ). reverse_bits_onto 128 x 0) (sym n) ∙ bytes-reversed 0 l (AreBytes-low e) in
-    f ∙ sym (ap (bytes_high_first 16) r ∙ high_bytes 0 (map reversed_byte l) (AreBytes-reversed l (AreBytes-low e)))
+    let r : reverse_bits_onto 128 e 0 ≡ from_high 0 (map reversed_byte l) = ap (λ (x : ℕ). reverse_bits_onto 128 x 0) (sym n) ∙ bytes-reversed 0 l (AreOctets-low e) in
+    f ∙ sym (ap (bytes_high_first 16) r ∙ high_bytes 0 (map reversed_byte l) (AreOctets-reversed l (AreOctets-low e)))
 
 -- ---- the bytes of a number from the highest on
 

@@ -3,9 +3,9 @@ use Rattle.std.proofs.Common.{◌≡◌, ℕ, zero, suc, ◌+◌, ◌*◌, ◌%�
 use Rattle.std.proofs.lemmas.List.{length-append}
 use Rattle.ssh_aes.specs.Aes.{substitute, inverse_substitute, sub_bytes, inverse_sub_bytes, shift_rows, inverse_shift_rows, unmixed_column, mix_columns, inverse_mix_columns, add_round_key, rounds, inverse_rounds, cipher, inverse_cipher, aes, inverse_aes, expanded_key, block, key_words}
 use Rattle.ssh_aes.specs.declared.tables.TheConstants.{SUBSTITUTION}
-use Rattle.ssh_aes.specs.Laws.{AreBytes, BlocksRedone}
+use Rattle.ssh_aes.specs.Laws.{AreOctets, BlocksRedone}
 use Rattle.ssh_aes.proofs.Entries.{substitution_is, inverse_substitution_is, inverse_substitution-lt, replaced_is, nine-lt, eleven-lt, thirteen-lt, fourteen-lt}
-use Rattle.ssh_aes.proofs.Inverses.{IsBlock, IsBlock-bytes_by, AreBytes-append, AreBytes-four, mixed_byte-lt, column-again, add_round_key-block, add_round_key-twice, expanded_key-bytes, block-block}
+use Rattle.ssh_aes.proofs.Inverses.{IsBlock, IsBlock-bytes_by, AreOctets-append, AreOctets-four, mixed_byte-lt, column-again, add_round_key-block, add_round_key-twice, expanded_key-bytes, block-block}
 use Rattle.ssh_aes.proofs.Schedules.{bytes_by-at, bytes_by-same, block-same}
 use Rattle.ssh_aes.proofs.Written.{sixteen-elements}
 
@@ -35,10 +35,10 @@ shift_rows-again : (s : List ℕ) → IsBlock s → shift_rows (inverse_shift_ro
 unfolding shift_rows inverse_shift_rows
 shift_rows-again s b = sixteen-elements s b.length_is
 
-unmixed_column-bytes : (a b c d : ℕ) → a < 256 → b < 256 → c < 256 → d < 256 → AreBytes (unmixed_column a b c d)
+unmixed_column-bytes : (a b c d : ℕ) → a < 256 → b < 256 → c < 256 → d < 256 → AreOctets (unmixed_column a b c d)
 unfolding unmixed_column
 unmixed_column-bytes a b c d h i j k =
-    AreBytes-four _ _ _ _
+    AreOctets-four _ _ _ _
     (mixed_byte-lt 14 11 13 9 a b c d (fourteen-lt a h) (eleven-lt b i) (thirteen-lt c j) (nine-lt d k))
     (mixed_byte-lt 9 14 11 13 a b c d (nine-lt a h) (fourteen-lt b i) (eleven-lt c j) (thirteen-lt d k))
     (mixed_byte-lt 13 9 14 11 a b c d (thirteen-lt a h) (nine-lt b i) (fourteen-lt c j) (eleven-lt d k))
@@ -51,10 +51,10 @@ length-unmixed_column a b c d = refl
 inverse_mix_columns-block : (s : List ℕ) → IsBlock s → IsBlock (inverse_mix_columns s)
 unfolding inverse_mix_columns
 inverse_mix_columns-block s b =
-    let column : (i : ℕ) → AreBytes (unmixed_column (slice_index s i) (slice_index s (i + 1)) (slice_index s (i + 2)) (slice_index s (i + 3))) = λ i. unmixed_column-bytes _ _ _ _ (b.bytes i) (b.bytes (i + 1)) (b.bytes (i + 2)) (b.bytes (i + 3)) in
+    let column : (i : ℕ) → AreOctets (unmixed_column (slice_index s i) (slice_index s (i + 1)) (slice_index s (i + 2)) (slice_index s (i + 3))) = λ i. unmixed_column-bytes _ _ _ _ (b.bytes i) (b.bytes (i + 1)) (b.bytes (i + 2)) (b.bytes (i + 3)) in
     record {
       length_is = simp (length-append, length-unmixed_column) refl;
-      bytes = AreBytes-append _ _ (AreBytes-append _ _ (AreBytes-append _ _ (column 0) (column 4)) (column 8)) (column 12);
+      bytes = AreOctets-append _ _ (AreOctets-append _ _ (AreOctets-append _ _ (column 0) (column 4)) (column 8)) (column 12);
     }
 
 mix_columns-again : (s : List ℕ) → IsBlock s → mix_columns (inverse_mix_columns s) ≡ s
@@ -78,12 +78,12 @@ undone-block y b = inverse_sub_bytes-block _ (inverse_shift_rows-block y b)
 undone-again : (y : List ℕ) → IsBlock y → shift_rows (sub_bytes (undone y)) ≡ y
 undone-again y b = ap shift_rows (sub_bytes-again (inverse_shift_rows y) (inverse_shift_rows-block y b)) ∙ shift_rows-again y b
 
-inverse_rounds-block : (w : List ℕ) (k : ℕ) (y : List ℕ) → AreBytes w → IsBlock y → IsBlock (inverse_rounds w k y)
+inverse_rounds-block : (w : List ℕ) (k : ℕ) (y : List ℕ) → AreOctets w → IsBlock y → IsBlock (inverse_rounds w k y)
 unfolding inverse_rounds
 inverse_rounds-block w zero y h b = add_round_key-block w 0 _ h (undone-block y b)
 inverse_rounds-block w (suc k) y h b = inverse_rounds-block w k _ h (inverse_mix_columns-block _ (add_round_key-block w (suc k) _ h (undone-block y b)))
 
-rounds-again : (w : List ℕ) (k : ℕ) (y : List ℕ) → AreBytes w → IsBlock y → shift_rows (sub_bytes (rounds w k (inverse_rounds w k y))) ≡ y
+rounds-again : (w : List ℕ) (k : ℕ) (y : List ℕ) → AreOctets w → IsBlock y → shift_rows (sub_bytes (rounds w k (inverse_rounds w k y))) ≡ y
 unfolding inverse_rounds rounds
 rounds-again w zero y h b =
     ap (λ x. shift_rows (sub_bytes x)) (add_round_key-twice w 0 (undone y) (undone-block y b)) ∙ undone-again y b
@@ -102,7 +102,7 @@ inverse_aes-is_block key y =
     let w = expanded_key-bytes key in
     inverse_rounds-block (expanded_key key) (key_words key + 5) _ w (add_round_key-block (expanded_key key) _ (block y) w (block-block y))
 
-cipher-again : (w : List ℕ) (k : ℕ) (y : List ℕ) → AreBytes w → IsBlock y → cipher w k (inverse_cipher w k y) ≡ y
+cipher-again : (w : List ℕ) (k : ℕ) (y : List ℕ) → AreOctets w → IsBlock y → cipher w k (inverse_cipher w k y) ≡ y
 unfolding inverse_cipher cipher
 cipher-again w k y h b =
     ap (add_round_key w (k + 1)) (rounds-again w k (add_round_key w (k + 1) y) h (add_round_key-block w (k + 1) y h b)) ∙ add_round_key-twice w (k + 1) y b

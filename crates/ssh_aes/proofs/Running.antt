@@ -6,7 +6,7 @@ use Rattle.std.proofs.Math.Seq.{drop-append_seam}
 use Rattle.std.proofs.lemmas.List.FromFn.{fill_by_all}
 use Rattle.ssh_aes.specs.Aes.{bytes_by, block, inverse_aes, inverse_cipher, expanded_key, key_words}
 use Rattle.ssh_aes.specs.Modes.{Running, Ctr, Cbc, block_sum, stream_byte, counter_text, chained_block, chained_text, unchained_text, masked_text, unmasked_text, running_past, shortest_text}
-use Rattle.ssh_aes.specs.Laws.{AreBytes, RunsWell, OpensWell, StreamsUndone}
+use Rattle.ssh_aes.specs.Laws.{AreOctets, RunsWell, OpensWell, StreamsUndone}
 use Rattle.ssh_aes.proofs.Polynomials.{xor_cancel}
 use Rattle.ssh_aes.proofs.Schedules.{length-bytes_by, bytes_by-at, bytes_by-same, block-same}
 use Rattle.ssh_aes.proofs.Written.{sixteen-elements}
@@ -51,7 +51,7 @@ counter_text-front key iv p t y h k e =
 
 -- ---- chaining mode
 
-pub block_sum-block : (a b : List ℕ) → AreBytes a → AreBytes b → IsBlock (block_sum a b)
+pub block_sum-block : (a b : List ℕ) → AreOctets a → AreOctets b → IsBlock (block_sum a b)
 block_sum-block a b h k = IsBlock-bytes_by (λ i. bit_xor (slice_index a i) (slice_index b i)) (λ i l. xor-lt (slice_index a i) (slice_index b i) (h i) (k i))
 
 pub block_sum-back : (a b : List ℕ) → length a ≡ 16 → block_sum (block_sum a b) b ≡ a
@@ -60,7 +60,7 @@ block_sum-back a b h =
     (λ i l. ap (λ x. bit_xor x (slice_index b i)) (bytes_by-at 16 (λ j. bit_xor (slice_index a j) (slice_index b j)) i l) ∙ xor_cancel (slice_index a i) (slice_index b i))
     ∙ sixteen-elements a h
 
-pub block-front : (c x : List ℕ) → length c ≡ 16 → AreBytes c → block (c ++ x) ≡ c
+pub block-front : (c x : List ℕ) → length c ≡ 16 → AreOctets c → block (c ++ x) ≡ c
 block-front c x l b =
     bytes_by-same 16 (λ i. slice_index (c ++ x) i % 256) (λ i. slice_index c i % 256)
     (λ i h. ap (λ y. y % 256) (get_or_append_left c x 0 i (omega arith))) ∙ block-same c l b
@@ -68,7 +68,7 @@ block-front c x l b =
 pub block-take : (y : List ℕ) → block (take 16 y) ≡ block y
 block-take y = bytes_by-same 16 (λ i. slice_index (take 16 y) i % 256) (λ i. slice_index y i % 256) (λ i h. ap (λ x. x % 256) (get_or-take 16 y i 0 h))
 
-pub take-block : (t : List ℕ) → AreBytes t → 16 ≤ length t → block t ≡ take 16 t
+pub take-block : (t : List ℕ) → AreOctets t → 16 ≤ length t → block t ≡ take 16 t
 take-block t b h =
     bytes_by-same 16 (λ i. slice_index t i % 256) (slice_index t) (λ i l. let k = b i in let r : slice_index t i % 256 ≡ slice_index t i = omega arith in r)
     ∙ sym (front-bytes_by 16 t h)
@@ -100,10 +100,10 @@ length-chained_text key last (suc n) t h =
     length-append (chained_block key last t) (chained_text key (chained_block key last t) n (drop 16 t))
     ∙ omega (arith, c.length_is, length-drop 16 t, length-chained_text key (chained_block key last t) n (drop 16 t) (omega (arith, length-drop 16 t)))
 
-pub AreBytes-drop : (n : ℕ) (t : List ℕ) → AreBytes t → AreBytes (drop n t)
-AreBytes-drop n t b i = subst (λ (x : ℕ). x < 256) (sym (get_or-drop n t i 0)) (b (n + i))
+pub AreOctets-drop : (n : ℕ) (t : List ℕ) → AreOctets t → AreOctets (drop n t)
+AreOctets-drop n t b i = subst (λ (x : ℕ). x < 256) (sym (get_or-drop n t i 0)) (b (n + i))
 
-chained_text-back : (key last : List ℕ) (n : ℕ) (t : List ℕ) → AreBytes t → 16 * n ≤ length t → unchained_text key last n (chained_text key last n t) ≡ t
+chained_text-back : (key last : List ℕ) (n : ℕ) (t : List ℕ) → AreOctets t → 16 * n ≤ length t → unchained_text key last n (chained_text key last n t) ≡ t
 unfolding chained_text unchained_text
 chained_text-back key last zero t b h = refl
 chained_text-back key last (suc n) t b h =
@@ -113,14 +113,14 @@ chained_text-back key last (suc n) t b h =
     let p : block_sum (inverse_aes key (c ++ r)) (block last) ≡ take 16 t = plain_block key last t (c ++ r) (block-front c r k.length_is k.bytes) ∙ take-block t b (omega arith) in
     let q : take 16 (c ++ r) ≡ c = take_at c r 16 k.length_is in
     let d : drop 16 (c ++ r) ≡ r = subst (λ (m : ℕ). drop m (c ++ r) ≡ r) k.length_is (drop-append_seam c r) in
-    let i : unchained_text key c n r ≡ drop 16 t = chained_text-back key c n (drop 16 t) (AreBytes-drop 16 t b) (omega (arith, length-drop 16 t)) in
+    let i : unchained_text key c n r ≡ drop 16 t = chained_text-back key c n (drop 16 t) (AreOctets-drop 16 t b) (omega (arith, length-drop 16 t)) in
     ap (λ x. x ++ unchained_text key (take 16 (c ++ r)) n (drop 16 (c ++ r))) p
     ∙ ap (λ x. take 16 t ++ unchained_text key x n (drop 16 (c ++ r))) q
     ∙ ap (λ x. take 16 t ++ unchained_text key c n x) d
     ∙ ap (λ x. take 16 t ++ x) i
     ∙ take-append-drop 16 t
 
-unchained_text-front : (key last : List ℕ) (m : ℕ) (t y : List ℕ) → AreBytes t → 16 ≤ length t → block y ≡ chained_block key last t → take 4 (unchained_text key last (suc m) y) ≡ take 4 t
+unchained_text-front : (key last : List ℕ) (m : ℕ) (t y : List ℕ) → AreOctets t → 16 ≤ length t → block y ≡ chained_block key last t → take 4 (unchained_text key last (suc m) y) ≡ take 4 t
 unfolding unchained_text
 unchained_text-front key last m t y b h e =
     let l = block-block t in
@@ -143,14 +143,14 @@ pub length-masked_text : (r : Running) (t : List ℕ) → length (masked_text r 
 length-masked_text (Ctr key iv p) t = length-counter_text key iv p t
 length-masked_text (Cbc key last) t = length-chained_text key last (length t / 16) t (omega arith)
 
-pub unmasked_text-masked_text : (r : Running) (t : List ℕ) → AreBytes t → unmasked_text r (masked_text r t) ≡ t
+pub unmasked_text-masked_text : (r : Running) (t : List ℕ) → AreOctets t → unmasked_text r (masked_text r t) ≡ t
 unmasked_text-masked_text (Ctr key iv p) t b = counter_text-back key iv p t
 unmasked_text-masked_text (Cbc key last) t b =
     ap (λ n. unchained_text key last (n / 16) (chained_text key last (length t / 16) t)) (length-chained_text key last (length t / 16) t (omega arith))
     ∙ chained_text-back key last (length t / 16) t b (omega arith)
 
 -- the first four bytes of a text, from any bytes that begin with its cipher text
-pub shown : (r : Running) (t x : List ℕ) → AreBytes t → shortest_text r ≤ length t → take 4 (unmasked_text r (masked_text r t ++ x)) ≡ take 4 t
+pub shown : (r : Running) (t x : List ℕ) → AreOctets t → shortest_text r ≤ length t → take 4 (unmasked_text r (masked_text r t ++ x)) ≡ take 4 t
 shown (Ctr key iv p) t x b h =
     let l = length-counter_text key iv p t in
     let m = length-append (counter_text key iv p t) x in
@@ -164,7 +164,7 @@ shown (Cbc key last) t x b h =
     ap (λ j. take 4 (unchained_text key last j (c ++ x))) k
     ∙ unchained_text-front key last (length (c ++ x) / 16 - 1) t (c ++ x) b h (ap (λ j. block (chained_text key last j t ++ x)) n ∙ chained_text-block key last (length t / 16 - 1) t x)
 
-pub shown-early : (r : Running) (t x : List ℕ) → AreBytes t → shortest_text r ≤ length t → 16 ≤ length (masked_text r t ++ x) → take 4 (unmasked_text r (take 16 (masked_text r t ++ x))) ≡ take 4 t
+pub shown-early : (r : Running) (t x : List ℕ) → AreOctets t → shortest_text r ≤ length t → 16 ≤ length (masked_text r t ++ x) → take 4 (unmasked_text r (take 16 (masked_text r t ++ x))) ≡ take 4 t
 shown-early (Ctr key iv p) t x b h g =
     let l = length-counter_text key iv p t in
     let z = counter_text key iv p t ++ x in

@@ -7,7 +7,7 @@ use Rattle.std.proofs.lemmas.List.{get_or-take, length-append, length-take-le, t
 use Rattle.std.proofs.lemmas.List.FromFn.{fill_by_all, length-map-range_with_len, get_or-map-range_with_len}
 use Rattle.ssh_aes.specs.Aes.{bytes_by, bytes_of, substitute, round_constant, word_byte, plus_word, next_word, schedule, expanded_key, key_words, add_round_key, cipher, inverse_cipher, aes, inverse_aes}
 use Rattle.ssh_aes.specs.Keys.{IsKeyLength, IsExpanded, key_in}
-use Rattle.ssh_aes.specs.Laws.{AreBytes}
+use Rattle.ssh_aes.specs.Laws.{AreOctets}
 
 -- ---- lists by index
 
@@ -20,7 +20,7 @@ bytes_by-at n f i h = get_or-map-range_with_len f 0 n i i 0 h (omega arith)
 pub bytes_by-same : (n : ℕ) (f g : ℕ → ℕ) → ((i : ℕ) → i < n → f i ≡ g i) → bytes_by n f ≡ bytes_by n g
 bytes_by-same n f g h = fill_by_all g (bytes_by n f) n 0 (length-bytes_by n f) (λ k l. bytes_by-at n f k l ∙ h k l)
 
-pub bytes_of-same : (n : ℕ) (s : List ℕ) → length s ≡ n → AreBytes s → bytes_of n s ≡ s
+pub bytes_of-same : (n : ℕ) (s : List ℕ) → length s ≡ n → AreOctets s → bytes_of n s ≡ s
 bytes_of-same n s e h = sym (fill_by_all (λ i. slice_index s i % 256) s n 0 e (λ k l. let b = h k in let r : slice_index s k % 256 ≡ slice_index s k = omega arith in sym r))
 
 -- ---- a word and the words before it
@@ -112,7 +112,7 @@ add_round_key-take w n round s h =
     (λ i l. ap (bit_xor (slice_index s i)) (get_or-take n w (16 * round + i) 0 (omega arith)))
 
 -- a block of bytes is itself
-pub block-same : (s : List ℕ) → length s ≡ 16 → AreBytes s → bytes_of 16 s ≡ s
+pub block-same : (s : List ℕ) → length s ≡ 16 → AreOctets s → bytes_of 16 s ≡ s
 block-same s e h = bytes_of-same 16 s e h
 
 at_most : (n : ℕ) {m : ℕ} → IsKeyLength (4 * n) → 32 ≤ m → 4 * n ≤ m
@@ -137,7 +137,7 @@ pub same_front : (n m : ℕ) (keys key : List ℕ) → n ≤ m → take m keys �
 same_front n m keys key h e = sym (take-take n m keys h) ∙ ap (take n) e
 
 -- the front of a schedule is the key
-pub take-schedule : (n : ℕ) (key : List ℕ) (k : ℕ) → length key ≡ 4 * n → AreBytes key → take (4 * n) (schedule n key k) ≡ key
+pub take-schedule : (n : ℕ) (key : List ℕ) (k : ℕ) → length key ≡ 4 * n → AreOctets key → take (4 * n) (schedule n key k) ≡ key
 unfolding schedule
 take-schedule n key zero e h = ap (take (4 * n)) (bytes_of-same (4 * n) key e h) ∙ take_all (4 * n) key (omega arith)
 take-schedule n key (suc k) e h =
@@ -145,7 +145,7 @@ take-schedule n key (suc k) e h =
     ∙ take-schedule n key k e h
 
 -- after the last word the schedule is whole, and it begins with the key
-pub expanded-made : (m : ℕ) (key keys : List ℕ) → IsKeyLength m → length key ≡ m → AreBytes key → take (4 * (4 * (m / 4 + 7))) keys ≡ schedule (m / 4) key (4 * (m / 4 + 7) - m / 4) → (take (4 * (m / 4)) keys ≡ key) × (take (16 * (m / 4 + 7)) keys ≡ expanded_key key)
+pub expanded-made : (m : ℕ) (key keys : List ℕ) → IsKeyLength m → length key ≡ m → AreOctets key → take (4 * (4 * (m / 4 + 7))) keys ≡ schedule (m / 4) key (4 * (m / 4 + 7) - m / 4) → (take (4 * (m / 4)) keys ≡ key) × (take (16 * (m / 4 + 7)) keys ≡ expanded_key key)
 unfolding expanded_key
 expanded-made m key keys h e b w =
     let l = whole_words m h in
@@ -157,14 +157,14 @@ expanded-made m key keys h e b w =
     (f, ap (λ z. take z keys) g ∙ w ∙ ap (schedule (m / 4) key) k ∙ ap (λ z. schedule z key (3 * z + 28)) (sym x))
 
 -- the cipher under a schedule is the cipher under its key
-pub encrypted : (n : ℕ) (keys key s : List ℕ) → IsExpanded n keys → length keys ≡ 240 → key_in n keys ≡ key → length s ≡ 16 → AreBytes s → cipher (take (16 * (n + 7)) keys) (n + 5) s ≡ aes key s
+pub encrypted : (n : ℕ) (keys key s : List ℕ) → IsExpanded n keys → length keys ≡ 240 → key_in n keys ≡ key → length s ≡ 16 → AreOctets s → cipher (take (16 * (n + 7)) keys) (n + 5) s ≡ aes key s
 unfolding aes
 encrypted n keys key s x l e m b =
     ap (λ w. cipher w (n + 5) s) (x.keys_are ∙ ap expanded_key e)
     ∙ ap (λ k. cipher (expanded_key key) (k + 5) s) (sym (ap key_words (sym e) ∙ view_words n keys (omega arith) x.length_is))
     ∙ ap (cipher (expanded_key key) (key_words key + 5)) (sym (block-same s m b))
 
-pub decrypted : (n : ℕ) (keys key s : List ℕ) → IsExpanded n keys → length keys ≡ 240 → key_in n keys ≡ key → length s ≡ 16 → AreBytes s → inverse_cipher (take (16 * (n + 7)) keys) (n + 5) s ≡ inverse_aes key s
+pub decrypted : (n : ℕ) (keys key s : List ℕ) → IsExpanded n keys → length keys ≡ 240 → key_in n keys ≡ key → length s ≡ 16 → AreOctets s → inverse_cipher (take (16 * (n + 7)) keys) (n + 5) s ≡ inverse_aes key s
 unfolding inverse_aes
 decrypted n keys key s x l e m b =
     ap (λ w. inverse_cipher w (n + 5) s) (x.keys_are ∙ ap expanded_key e)

@@ -7,8 +7,8 @@ use Rattle.std.proofs.lemmas.List.Sums.{fold-append}
 use Rattle.std.proofs.lemmas.List.FromFn.{fill_by_all}
 use Rattle.ssh_aes.specs.Aes.{bytes_by}
 use Rattle.ssh_aes.specs.Gcm.{nonce_block, nonce_stream, gcm_counter_text, cipher_tag, element, element_block, hash_of_blocks, hash_step, hash_key, tag_blocks, blocks, padded_blocks, length_block}
-use Rattle.ssh_aes.specs.Laws.{AreBytes, GcmWell, GcmClosesWell}
-use Rattle.ssh_aes.proofs.Inverses.{AreBytes-bytes_by, aes-block, xor-lt}
+use Rattle.ssh_aes.specs.Laws.{AreOctets, GcmWell, GcmClosesWell}
+use Rattle.ssh_aes.proofs.Inverses.{AreOctets-bytes_by, aes-block, xor-lt}
 use Rattle.ssh_aes.proofs.Polynomials.{xor_cancel}
 use Rattle.ssh_aes.proofs.Schedules.{length-bytes_by, bytes_by-at}
 use Rattle.ssh_aes.proofs.Running.{all-bytes_by}
@@ -43,13 +43,13 @@ gcm_well key nonce = record {
   opens = λ aad t b. gcm_counted-back key nonce t;
 }
 
-nonce_stream-bytes : (key nonce : List ℕ) (n : ℕ) → AreBytes (nonce_stream key nonce n)
+nonce_stream-bytes : (key nonce : List ℕ) (n : ℕ) → AreOctets (nonce_stream key nonce n)
 unfolding nonce_stream
 nonce_stream-bytes key nonce n = let b = aes-block key (nonce_block nonce n) in b.bytes
 
-gcm_counted-bytes : (key nonce c : List ℕ) → AreBytes c → AreBytes (gcm_counter_text key nonce c)
+gcm_counted-bytes : (key nonce c : List ℕ) → AreOctets c → AreOctets (gcm_counter_text key nonce c)
 unfolding gcm_counter_text
-gcm_counted-bytes key nonce c b = AreBytes-bytes_by (length c) _ (λ i l. xor-lt _ _ (b i) (nonce_stream-bytes key nonce (i / 16 + 2) (i % 16)))
+gcm_counted-bytes key nonce c b = AreOctets-bytes_by (length c) _ (λ i l. xor-lt _ _ (b i) (nonce_stream-bytes key nonce (i / 16 + 2) (i % 16)))
 
 pub gcm_closes_well : (key nonce : List ℕ) → GcmClosesWell key nonce
 gcm_closes_well key nonce = record {

@@ -7,9 +7,9 @@ use Rattle.std.proofs.lemmas.List.{length-append, get_or_append_left, get_or-app
 use Rattle.std.proofs.lemmas.List.FromFn.{fill_by_all}
 use Rattle.ssh_aes.specs.Aes.{aes}
 use Rattle.ssh_aes.specs.Gcm.{nonce_block, nonce_stream, gcm_counter_text}
-use Rattle.ssh_aes.specs.Laws.{AreBytes}
+use Rattle.ssh_aes.specs.Laws.{AreOctets}
 use Rattle.ssh_aes.specs.Modes.{block_sum, counter_block, stream_block, stream_byte, counter_text}
-use Rattle.ssh_aes.proofs.Numbers.{from_high, high_bytes, AreBytes-sixteen}
+use Rattle.ssh_aes.proofs.Numbers.{from_high, high_bytes, AreOctets-sixteen}
 use Rattle.ssh_aes.proofs.Running.{length-counter_text, counter_text-at}
 use Rattle.ssh_aes.proofs.Schedules.{bytes_by-at, bytes_by-same}
 
@@ -81,15 +81,15 @@ counter-sum : (s0 s1 s2 s3 s4 s5 s6 s7 s8 s9 s10 s11 b3 b2 b1 b0 n : ℕ) → s0
 counter-sum s0 s1 s2 s3 s4 s5 s6 s7 s8 s9 s10 s11 b3 b2 b1 b0 n hs0 hs1 hs2 hs3 hs4 hs5 hs6 hs7 hs8 hs9 hs10 hs11 hb3 hb2 hb1 hb0 e = omega arith
 
 -- the first of them, and a number added to it
-pub counter_block-nonce : (nonce : List ℕ) (n : ℕ) → AreBytes nonce → n < 2 ^ 32 → counter_block (nonce_block nonce 0) n ≡ nonce_block nonce n
+pub counter_block-nonce : (nonce : List ℕ) (n : ℕ) → AreOctets nonce → n < 2 ^ 32 → counter_block (nonce_block nonce 0) n ≡ nonce_block nonce n
 counter_block-nonce nonce n b h =
     let e : n ≡ (n % 4294967296 / 16777216 % 256) * 16777216 + (n % 4294967296 / 65536 % 256) * 65536 + (n % 4294967296 / 256 % 256) * 256 + (n % 4294967296 % 256) = omega arith in
     let x = counter-sum (slice_index nonce 0) (slice_index nonce 1) (slice_index nonce 2) (slice_index nonce 3) (slice_index nonce 4) (slice_index nonce 5) (slice_index nonce 6) (slice_index nonce 7) (slice_index nonce 8) (slice_index nonce 9) (slice_index nonce 10) (slice_index nonce 11) (n % 4294967296 / 16777216 % 256) (n % 4294967296 / 65536 % 256) (n % 4294967296 / 256 % 256) (n % 4294967296 % 256) n (b 0) (b 1) (b 2) (b 3) (b 4) (b 5) (b 6) (b 7) (b 8) (b 9) (b 10) (b 11) (omega arith) (omega arith) (omega arith) (omega arith) e in
     ap (bytes_high_first 16) x
-    ∙ high_bytes 0 (nonce_block nonce n) (AreBytes-sixteen (slice_index nonce 0) (slice_index nonce 1) (slice_index nonce 2) (slice_index nonce 3) (slice_index nonce 4) (slice_index nonce 5) (slice_index nonce 6) (slice_index nonce 7) (slice_index nonce 8) (slice_index nonce 9) (slice_index nonce 10) (slice_index nonce 11) (n % 4294967296 / 16777216 % 256) (n % 4294967296 / 65536 % 256) (n % 4294967296 / 256 % 256) (n % 4294967296 % 256) (b 0) (b 1) (b 2) (b 3) (b 4) (b 5) (b 6) (b 7) (b 8) (b 9) (b 10) (b 11) (omega arith) (omega arith) (omega arith) (omega arith))
+    ∙ high_bytes 0 (nonce_block nonce n) (AreOctets-sixteen (slice_index nonce 0) (slice_index nonce 1) (slice_index nonce 2) (slice_index nonce 3) (slice_index nonce 4) (slice_index nonce 5) (slice_index nonce 6) (slice_index nonce 7) (slice_index nonce 8) (slice_index nonce 9) (slice_index nonce 10) (slice_index nonce 11) (n % 4294967296 / 16777216 % 256) (n % 4294967296 / 65536 % 256) (n % 4294967296 / 256 % 256) (n % 4294967296 % 256) (b 0) (b 1) (b 2) (b 3) (b 4) (b 5) (b 6) (b 7) (b 8) (b 9) (b 10) (b 11) (omega arith) (omega arith) (omega arith) (omega arith))
 
 -- the text of Galois counter mode is that of counter mode, from counter block 2 on
-pub gcm_counted-is : (key nonce t : List ℕ) → AreBytes nonce → length t < 2 ^ 32 → counter_text key (nonce_block nonce 0) 32 t ≡ gcm_counter_text key nonce t
+pub gcm_counted-is : (key nonce t : List ℕ) → AreOctets nonce → length t < 2 ^ 32 → counter_text key (nonce_block nonce 0) 32 t ≡ gcm_counter_text key nonce t
 unfolding counter_text gcm_counter_text stream_block nonce_stream
 gcm_counted-is key nonce t b h =
     bytes_by-same (length t) (masked_byte key (nonce_block nonce 0) 32 t) (λ i. bit_xor (slice_index t i) (slice_index (nonce_stream key nonce (i / 16 + 2)) (i % 16)))

@@ -5,7 +5,7 @@ use Rattle.std.specs.Int.{w32, from_le_bytes, to_le_bytes}
 use Rattle.std.proofs.lemmas.Nat.{xor_mod, xor_shr, le_bytes_4}
 use Rattle.ssh_aes.specs.Aes.{mixed_byte}
 use Rattle.ssh_aes.specs.Columns.{block_of_words}
-use Rattle.ssh_aes.proofs.Inverses.{AreBytes-four}
+use Rattle.ssh_aes.proofs.Inverses.{AreOctets-four}
 use Rattle.ssh_aes.proofs.RoundTables.{AreProducts}
 
 -- ---- sums of words
@@ -26,7 +26,7 @@ word-sum-of a b s t e f = word-sum a b ∙ ap (λ x. sum_of_four x (to_le_bytes 
 
 -- a word that was read from four bytes has them
 pub word-read : (a b c d n : ℕ) → a < 256 → b < 256 → c < 256 → d < 256 → n ≡ from_le_bytes w32 (a ∷ b ∷ c ∷ d ∷ []) → to_le_bytes w32 n ≡ a ∷ b ∷ c ∷ d ∷ []
-word-read a b c d n ha hb hc hd e = le_bytes_4 (a ∷ b ∷ c ∷ d ∷ []) n refl (AreBytes-four a b c d ha hb hc hd) e
+word-read a b c d n ha hb hc hd e = le_bytes_4 (a ∷ b ∷ c ∷ d ∷ []) n refl (AreOctets-four a b c d ha hb hc hd) e
 
 -- four lists, each for one that it equals
 pub four-same : (p q r s t u v w : List ℕ) → p ≡ t → q ≡ u → r ≡ v → s ≡ w → p ++ q ++ r ++ s ≡ t ++ u ++ v ++ w

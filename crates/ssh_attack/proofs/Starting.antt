@@ -10,19 +10,19 @@ use Rattle.ssh_rules.specs.Asking.{PartCalls}
 use Rattle.ssh_rules.specs.Attacking.{AttackedEnd, AttacksSide, Tells}
 use Rattle.ssh_rules.specs.Standing.{IsNew, Standing}
 use Rattle.ssh_rules.specs.declared.link.AttackStep.{AttackStep}
-use Rattle.ssh_attack.specs.AttackEnds.{end_of}
+use Rattle.ssh_attack.specs.AttackEnds.{attacked_end}
 use Rattle.ssh_attack.specs.declared.attack_end.AttackEnd.{AttackEnd}
 use Rattle.ssh_rules.proofs.Lemmas.{first_end}
 
 pub side_started : (T : Config → Tells) (side : Side) (config : Config) (steps : List AttackStep) (answers : List (Result (Unit {0}) Error)) (old : AttackEnd) (first : Standing) (calls : PartCalls) (new : AttackedEnd)
     → IsNew side config first → old.transport ≡ first → old.taken ≡ 0 → old.delivered.items ≡ []
-    → AttacksSide (T old.transport.config) side steps answers (end_of old calls) new → AttacksSide (T config) side steps answers (first_end calls first) new
+    → AttacksSide (T old.transport.config) side steps answers (attacked_end old calls) new → AttacksSide (T config) side steps answers (first_end calls first) new
 side_started T side config steps answers old first calls new n e k d h =
     let configured : old.transport.config ≡ config = ap (λ (x : Standing). x.config) (e ∙ n) in
     subst (λ (x : Standing). AttacksSide (T config) side steps answers (record { transport = x; taken = 0; delivered = []; calls = calls }) new) e
     (subst (λ (m : ℕ). AttacksSide (T config) side steps answers (record { transport = old.transport; taken = m; delivered = []; calls = calls }) new) k
     (subst (λ (l : List (List ℕ)). AttacksSide (T config) side steps answers (record { transport = old.transport; taken = old.taken; delivered = l; calls = calls }) new) d
-    (subst (λ (q : Config). AttacksSide (T q) side steps answers (end_of old calls) new) configured h)))
+    (subst (λ (q : Config). AttacksSide (T q) side steps answers (attacked_end old calls) new) configured h)))
 
 -- where a transport is made, its configuration passed
 pub passed : (o : Option ConfigFault) (t : Standing) → IfSome o (λ f. (let r : Result Standing Error = Ok t in r) ≡ Err (InvalidConfig f)) → o ≡ None

@@ -4,8 +4,8 @@ use Rattle.ssh_rules.specs.Attacking.{AttackedEnd}
 use Rattle.ssh_attack.specs.declared.attack_end.AttackEnd.{AttackEnd}
 
 -- with how often its parts were asked
-abbrev pub end_of : AttackEnd → PartCalls → AttackedEnd
-end_of end calls = record { transport = end.transport; taken = end.taken; delivered = end.delivered.items; calls = calls }
+abbrev pub attacked_end : AttackEnd → PartCalls → AttackedEnd
+attacked_end end calls = record { transport = end.transport; taken = end.taken; delivered = end.delivered.items; calls = calls }
 
 -- where it isn't said
 abbrev pub none_asked : PartCalls

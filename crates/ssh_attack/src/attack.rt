@@ -7,7 +7,7 @@ ghost use Rattle.ssh_rules.specs.AttackCauses.{IsAttackedRun};
 ghost use Rattle.ssh_rules.specs.Attacking.{AttacksEnd, AttacksSide, attacked_report};
 ghost use Rattle.ssh_rules.specs.Valid as valid;
 ghost use Rattle.ssh_rules.specs.Valid.{first_config_fault};
-ghost use Rattle.ssh_attack.specs.AttackEnds.{end_of, none_asked};
+ghost use Rattle.ssh_attack.specs.AttackEnds.{attacked_end, none_asked};
 ghost use Rattle.ssh_wire.specs.declared.error.Error.TheVariants.{InvalidConfig, Memory};
 ghost use Rattle.ssh_wire.specs.declared.side.Side.TheVariants.{Client, Server};
 
@@ -70,8 +70,8 @@ impl<'c> Attack<'c> {
     fn report(self, answers: Vec<Result<(), Error>>) -> Result<AttackReport, AllocError>
         ensures { IfOk result (λ report. report ≡ record {
           client = attacked_report
-              (end_of self.entry.client none_asked);
-          server = attacked_report (end_of self.entry.server none_asked);
+              (attacked_end self.entry.client none_asked);
+          server = attacked_report (attacked_end self.entry.server none_asked);
           answers = answers.items;
         }) }
     {
@@ -93,12 +93,12 @@ impl<'c> Attack<'c> {
         ensures err { IfErr result (λ e. e ≡ Memory) }
         ensures client { IfOk result (λ answers. AttacksSide (⟦<Parts<A, H, G, R> as Attacked>⟧.tells
             self.old.client.transport.config client_parts.old client_parts.new) Client steps.now answers.items
-            (end_of self.old.client (⟦<Parts<A, H, G, R> as Asked>⟧.calls client_parts.old))
-            (end_of self.new.client (⟦<Parts<A, H, G, R> as Asked>⟧.calls client_parts.new))) }
+            (attacked_end self.old.client (⟦<Parts<A, H, G, R> as Asked>⟧.calls client_parts.old))
+            (attacked_end self.new.client (⟦<Parts<A, H, G, R> as Asked>⟧.calls client_parts.new))) }
         ensures server { IfOk result (λ answers. AttacksSide (⟦<Parts<A, H, G, R> as Attacked>⟧.tells
             self.old.server.transport.config server_parts.old server_parts.new) Server steps.now answers.items
-            (end_of self.old.server (⟦<Parts<A, H, G, R> as Asked>⟧.calls server_parts.old))
-            (end_of self.new.server (⟦<Parts<A, H, G, R> as Asked>⟧.calls server_parts.new))) }
+            (attacked_end self.old.server (⟦<Parts<A, H, G, R> as Asked>⟧.calls server_parts.old))
+            (attacked_end self.new.server (⟦<Parts<A, H, G, R> as Asked>⟧.calls server_parts.new))) }
         ensures client_keeps { ⟦<Parts<A, H, G, R> as Handed>⟧.keeps client_parts.old client_parts.new }
         ensures server_keeps { ⟦<Parts<A, H, G, R> as Handed>⟧.keeps server_parts.old server_parts.new }
     {
@@ -122,12 +122,12 @@ impl<'c> Attack<'c> {
     ) -> Result<(), Error>
         ensures client { (result ≡ Err Memory → ⊥) → AttacksEnd (⟦<Parts<A, H, G, R> as Attacked>⟧.tells
             self.old.client.transport.config client_parts.old client_parts.new) Client step.now result
-            (end_of self.old.client (⟦<Parts<A, H, G, R> as Asked>⟧.calls client_parts.old))
-            (end_of self.new.client (⟦<Parts<A, H, G, R> as Asked>⟧.calls client_parts.new)) }
+            (attacked_end self.old.client (⟦<Parts<A, H, G, R> as Asked>⟧.calls client_parts.old))
+            (attacked_end self.new.client (⟦<Parts<A, H, G, R> as Asked>⟧.calls client_parts.new)) }
         ensures server { (result ≡ Err Memory → ⊥) → AttacksEnd (⟦<Parts<A, H, G, R> as Attacked>⟧.tells
             self.old.server.transport.config server_parts.old server_parts.new) Server step.now result
-            (end_of self.old.server (⟦<Parts<A, H, G, R> as Asked>⟧.calls server_parts.old))
-            (end_of self.new.server (⟦<Parts<A, H, G, R> as Asked>⟧.calls server_parts.new)) }
+            (attacked_end self.old.server (⟦<Parts<A, H, G, R> as Asked>⟧.calls server_parts.old))
+            (attacked_end self.new.server (⟦<Parts<A, H, G, R> as Asked>⟧.calls server_parts.new)) }
         ensures client_keeps { ⟦<Parts<A, H, G, R> as Handed>⟧.keeps client_parts.old client_parts.new }
         ensures server_keeps { ⟦<Parts<A, H, G, R> as Handed>⟧.keeps server_parts.old server_parts.new }
     {

@@ -23,7 +23,7 @@ pub(crate) struct AttackEnd<'c> {
 
 impl<'c> AttackEnd<'c> {
     ghost use Rattle.ssh_rules.specs.Attacking.{FeedsEnd, RekeysBy, SubmitsBy};
-    ghost use Rattle.ssh_attack.specs.AttackEnds.{end_of};
+    ghost use Rattle.ssh_attack.specs.AttackEnds.{attacked_end};
     ghost use Rattle.ssh_wire.specs.declared.error.Error.TheVariants.{Memory};
 
     /// A side that has sent its id line.
@@ -47,8 +47,8 @@ impl<'c> AttackEnd<'c> {
     ) -> Result<(), Error>
         ensures submits { (result ≡ Err Memory → ⊥) → SubmitsBy self.old.transport.failed
             (⟦<Parts<A, H, G, R> as Attacked>⟧.tells self.old.transport.config parts.old parts.new)
-            (end_of self.old (⟦<Parts<A, H, G, R> as Asked>⟧.calls parts.old)) payload.now result
-            (end_of self.new (⟦<Parts<A, H, G, R> as Asked>⟧.calls parts.new)) }
+            (attacked_end self.old (⟦<Parts<A, H, G, R> as Asked>⟧.calls parts.old)) payload.now result
+            (attacked_end self.new (⟦<Parts<A, H, G, R> as Asked>⟧.calls parts.new)) }
         ensures keeps { ⟦<Parts<A, H, G, R> as Handed>⟧.keeps parts.old parts.new }
     {
         self.transport.submit(parts, payload)
@@ -61,8 +61,8 @@ impl<'c> AttackEnd<'c> {
     ) -> Result<(), Error>
         ensures rekeys { (result ≡ Err Memory → ⊥) → RekeysBy self.old.transport.failed
             (⟦<Parts<A, H, G, R> as Attacked>⟧.tells self.old.transport.config parts.old parts.new)
-            (end_of self.old (⟦<Parts<A, H, G, R> as Asked>⟧.calls parts.old)) result
-            (end_of self.new (⟦<Parts<A, H, G, R> as Asked>⟧.calls parts.new)) }
+            (attacked_end self.old (⟦<Parts<A, H, G, R> as Asked>⟧.calls parts.old)) result
+            (attacked_end self.new (⟦<Parts<A, H, G, R> as Asked>⟧.calls parts.new)) }
         ensures keeps { ⟦<Parts<A, H, G, R> as Handed>⟧.keeps parts.old parts.new }
     {
         self.transport.rekey(parts)
@@ -75,9 +75,9 @@ impl<'c> AttackEnd<'c> {
         bytes: &[u8],
     ) -> Result<(), Error>
         ensures feeds { (result ≡ Err Memory → ⊥) → FeedsEnd (⟦<Parts<A, H, G, R> as Attacked>⟧.tells
-            self.old.transport.config parts.old parts.new) (end_of self.old
+            self.old.transport.config parts.old parts.new) (attacked_end self.old
             (⟦<Parts<A, H, G, R> as Asked>⟧.calls parts.old)) bytes.now result
-            (end_of self.new (⟦<Parts<A, H, G, R> as Asked>⟧.calls parts.new)) }
+            (attacked_end self.new (⟦<Parts<A, H, G, R> as Asked>⟧.calls parts.new)) }
         ensures keeps { ⟦<Parts<A, H, G, R> as Handed>⟧.keeps parts.old parts.new }
     {
         see_bytes(bytes);

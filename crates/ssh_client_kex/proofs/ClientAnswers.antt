@@ -12,7 +12,7 @@ use Rattle.ssh_wire.specs.declared.error.Error.{Error}
 use Rattle.ssh_wire.specs.declared.error.Error.TheVariants as errors
 use Rattle.ssh_kex.specs.Agreeing.{Agreeing}
 use Rattle.ssh_client_kex.specs.ClientRows as rows
-use Rattle.ssh_client_kex.specs.ClientViews.{behind_guess, client_machine, client_setting, client_stage, drops_guess, local_of, ClientHolds, HasValue}
+use Rattle.ssh_client_kex.specs.ClientViews.{client_behind_guess, client_machine, client_setting, client_stage, client_drops_guess, local_of, ClientHolds, HasValue}
 use Rattle.ssh_kex.specs.Messages.{host_with, is_gex, newkeys, reply_message, value_message}
 use Rattle.ssh_wire.specs.Fields.{answer_of}
 use Rattle.ssh_kex.specs.Refusals.{Denies, IsDue, RefusesMessage}
@@ -36,13 +36,13 @@ use Rattle.ssh_client_kex.proofs.Replied.{reply_short, reply_spelled}
 -- ---- a wrong guess
 
 -- the names of a state in which none is dropped
-pub kept_group : (n : Names) (state : ClientState) → state ≡ states.AwaitsGroup n → drops_guess state ≡ false → n.ignore_guessed ≡ false
-kept_group n state is kept = ap drops_guess (sym is) ∙ kept
+pub kept_group : (n : Names) (state : ClientState) → state ≡ states.AwaitsGroup n → client_drops_guess state ≡ false → n.ignore_guessed ≡ false
+kept_group n state is kept = ap client_drops_guess (sym is) ∙ kept
 
-pub kept_reply : (n : Names) (algorithm : Agreeing) (state : ClientState) → state ≡ states.AwaitsReply n algorithm → drops_guess state ≡ false → n.ignore_guessed ≡ false
-kept_reply n algorithm state is kept = ap drops_guess (sym is) ∙ kept
+pub kept_reply : (n : Names) (algorithm : Agreeing) (state : ClientState) → state ≡ states.AwaitsReply n algorithm → client_drops_guess state ≡ false → n.ignore_guessed ≡ false
+kept_reply n algorithm state is kept = ap client_drops_guess (sym is) ∙ kept
 
-pub still_holds : (config : Config) (x : Exchange) (state : ClientState) → ClientHolds config x state → ClientHolds config x (behind_guess state)
+pub still_holds : (config : Config) (x : Exchange) (state : ClientState) → ClientHolds config x state → ClientHolds config x (client_behind_guess state)
 still_holds config x states.Created h = h
 still_holds config x (states.AwaitsGroup n) h = h
 still_holds config x (states.AwaitsReply n algorithm) h = (h.0, record { name_is = (h.1).name_is; group_is = (h.1).group_is; local_is = (h.1).local_is; exchanges = (h.1).exchanges; value_short = (h.1).value_short; group_short = (h.1).group_short; kind = (h.1).kind })
@@ -77,7 +77,7 @@ takes_group says config cause x n i p w w' kept gex h =
       puts = one_put w w' (value_message true s.value) (subst (λ b. Puts w (value_message b s.value) w') gex v.puts);
     }))
 
-pub group_progresses : (says : Says) (config : Config) (cause : KexCause) (x : Exchange) (n : Names) (state : ClientState) (m : Machine) (i : Incoming) (r : Result (KexProgress Machine) Error) (w w' : Writer) → client_machine config cause x state ≡ m → state ≡ states.AwaitsGroup n → drops_guess state ≡ false → is_gex n.kex ≡ true → IfOk r (λ p. rows.AnswersGroup (λ g l v. says.client_makes n.kex (Some g) l v) config cause x n i.payload.now p w w') → IfOk r (λ p. Progresses says m (Some i) w p w')
+pub group_progresses : (says : Says) (config : Config) (cause : KexCause) (x : Exchange) (n : Names) (state : ClientState) (m : Machine) (i : Incoming) (r : Result (KexProgress Machine) Error) (w w' : Writer) → client_machine config cause x state ≡ m → state ≡ states.AwaitsGroup n → client_drops_guess state ≡ false → is_gex n.kex ≡ true → IfOk r (λ p. rows.AnswersGroup (λ g l v. says.client_makes n.kex (Some g) l v) config cause x n i.payload.now p w w') → IfOk r (λ p. Progresses says m (Some i) w p w')
 group_progresses says config cause x n state m i (Err e) w w' view is kept gex h = tt
 group_progresses says config cause x n state m i (Ok p) w w' view is kept gex h =
     subst (λ (k : Machine). Progresses says k (Some i) w p w') (sym (ap (client_machine config cause x) is) ∙ view) (takes_group says config cause x n i p w w' (kept_group n state is kept) gex h)
@@ -123,7 +123,7 @@ takes_reply says makes agrees config cause x n algorithm i p w w' kept short has
       puts = one_put w w' newkeys t.puts;
     }))
 
-pub reply_progresses : (says : Says) (makes : Family) → ((k : kexes.Name) (q : Option DhGroup) (l v z public : List ℕ) → makes k q l v z → says.client_makes k q l public → says.agrees k q public v z) → (config : Config) (cause : KexCause) (x : Exchange) (n : Names) (algorithm : Agreeing) (state : ClientState) (m : Machine) (i : Incoming) (r : Result (KexProgress Machine) Error) (w w' : Writer) → client_machine config cause x state ≡ m → state ≡ states.AwaitsReply n algorithm → drops_guess state ≡ false → length i.payload.now < 2 ^ 31 → HasValue x n algorithm → IfOk r (λ p. rows.AnswersReply (makes algorithm.name algorithm.group) says.accepts config cause x n algorithm i.payload.now p w w') → IfOk r (λ p. Progresses says m (Some i) w p w')
+pub reply_progresses : (says : Says) (makes : Family) → ((k : kexes.Name) (q : Option DhGroup) (l v z public : List ℕ) → makes k q l v z → says.client_makes k q l public → says.agrees k q public v z) → (config : Config) (cause : KexCause) (x : Exchange) (n : Names) (algorithm : Agreeing) (state : ClientState) (m : Machine) (i : Incoming) (r : Result (KexProgress Machine) Error) (w w' : Writer) → client_machine config cause x state ≡ m → state ≡ states.AwaitsReply n algorithm → client_drops_guess state ≡ false → length i.payload.now < 2 ^ 31 → HasValue x n algorithm → IfOk r (λ p. rows.AnswersReply (makes algorithm.name algorithm.group) says.accepts config cause x n algorithm i.payload.now p w w') → IfOk r (λ p. Progresses says m (Some i) w p w')
 reply_progresses says makes agrees config cause x n algorithm state m i (Err e) w w' view is kept short has h = tt
 reply_progresses says makes agrees config cause x n algorithm state m i (Ok p) w w' view is kept short has h =
     subst (λ (k : Machine). Progresses says k (Some i) w p w') (sym (ap (client_machine config cause x) is) ∙ view)
@@ -179,7 +179,7 @@ refuses_reply : (says : Says) (denies : Denies) (makes : Family) → ((k : kexes
 refuses_reply says denies makes agrees config cause x n algorithm i e kept has (inl h) = refuses_to_agree says denies makes config cause x n algorithm i e kept has h
 refuses_reply says denies makes agrees config cause x n algorithm i e kept has (inr h) = missigns says denies makes agrees config cause x n algorithm i e kept has h
 
-pub reply_refused : (says : Says) (denies : Denies) (makes : Family) → ((k : kexes.Name) (q : Option DhGroup) (l v z public : List ℕ) → makes k q l v z → says.client_makes k q l public → says.agrees k q public v z) → (config : Config) (cause : KexCause) (x : Exchange) (n : Names) (algorithm : Agreeing) (state : ClientState) (m : Machine) (i : Incoming) (r : Result (KexProgress Machine) Error) → client_machine config cause x state ≡ m → state ≡ states.AwaitsReply n algorithm → drops_guess state ≡ false → HasValue x n algorithm → IfErr r (rows.RefusesReply (denies.reply algorithm.name algorithm.group) (makes algorithm.name algorithm.group) denies.verify cause x n algorithm i.payload.now) → IfErr r (λ e. RefusesStep says denies m (Some i) e)
+pub reply_refused : (says : Says) (denies : Denies) (makes : Family) → ((k : kexes.Name) (q : Option DhGroup) (l v z public : List ℕ) → makes k q l v z → says.client_makes k q l public → says.agrees k q public v z) → (config : Config) (cause : KexCause) (x : Exchange) (n : Names) (algorithm : Agreeing) (state : ClientState) (m : Machine) (i : Incoming) (r : Result (KexProgress Machine) Error) → client_machine config cause x state ≡ m → state ≡ states.AwaitsReply n algorithm → client_drops_guess state ≡ false → HasValue x n algorithm → IfErr r (rows.RefusesReply (denies.reply algorithm.name algorithm.group) (makes algorithm.name algorithm.group) denies.verify cause x n algorithm i.payload.now) → IfErr r (λ e. RefusesStep says denies m (Some i) e)
 reply_refused says denies makes agrees config cause x n algorithm state m i (Ok p) view is kept has h = tt
 reply_refused says denies makes agrees config cause x n algorithm state m i (Err e) view is kept has h =
     step_refuses says denies config cause x state (states.AwaitsReply n algorithm) m i e view is (refuses_reply says denies makes agrees config cause x n algorithm i e (kept_reply n algorithm state is kept) has h)

@@ -33,7 +33,7 @@ behind_kexinit says denies config cause x i e h = by h.why where
   refused : Error → Type 0
   refused error = RefusesMessage says denies (client_setting config cause x) (Created x.client_kex_init) i.seqn i.payload.now error
 
-  by : ((says.offers h.names.kex → ⊥) × (e ≡ errors.UnknownAlgo)) ⊎ (says.offers h.names.kex × (is_gex h.names.kex ≡ false) × rows.RefusesValue (λ l v. says.client_makes h.names.kex None l v) says.value_small (denies.start h.names.kex None) e) → refused e
+  by : ((says.offers h.names.kex → ⊥) × (e ≡ errors.UnknownAlgo)) ⊎ (says.offers h.names.kex × (is_gex h.names.kex ≡ false) × rows.ClientRefusesValue (λ l v. says.client_makes h.names.kex None l v) says.value_small (denies.start h.names.kex None) e) → refused e
   by (inl k) = subst refused (sym k.1) (record { kept = refl; type_is = h.reads.is_kexinit }, (h.names, negotiates config cause x i h.names h.reads h.exchanges, k.0))
   by (inr (offered, plain, inl m)) = subst refused (sym m) tt
   by (inr (offered, plain, inr (inl k))) =
@@ -62,7 +62,7 @@ behind_kexinit says denies config cause x i e h = by h.why where
         },
       )
 
-kexinit_refuses : (says : Says) (denies : Denies) (config : Config) (cause : KexCause) (x : Exchange) (i : Incoming) (e : Error) → rows.RefusesKexinit says.offers (λ k l v. says.client_makes k None l v) says.value_small (λ k. denies.start k None) config cause i e → RefusesMessage says denies (client_setting config cause x) (Created x.client_kex_init) i.seqn i.payload.now e
+kexinit_refuses : (says : Says) (denies : Denies) (config : Config) (cause : KexCause) (x : Exchange) (i : Incoming) (e : Error) → rows.ClientRefusesKexinit says.offers (λ k l v. says.client_makes k None l v) says.value_small (λ k. denies.start k None) config cause i e → RefusesMessage says denies (client_setting config cause x) (Created x.client_kex_init) i.seqn i.payload.now e
 kexinit_refuses says denies config cause x i e (inl m) = subst (RefusesMessage says denies (client_setting config cause x) (Created x.client_kex_init) i.seqn i.payload.now) (sym m) tt
 kexinit_refuses says denies config cause x i e (inr (inl h)) = refuses_names says denies (client_setting config cause x) x.client_kex_init i.seqn i.payload.now e h
 kexinit_refuses says denies config cause x i e (inr (inr h)) = behind_kexinit says denies config cause x i e h
@@ -72,7 +72,7 @@ pub step_refuses : (says : Says) (denies : Denies) (config : Config) (cause : Ke
 step_refuses says denies config cause x state known m i e view is h =
     subst (λ (n : Machine). RefusesStep says denies n (Some i) e) (sym (ap (client_machine config cause x) is) ∙ view) h
 
-pub kexinit_refused : (says : Says) (denies : Denies) (config : Config) (cause : KexCause) (x : Exchange) (state : ClientState) (m : Machine) (i : Incoming) (r : Result (KexProgress Machine) Error) → client_machine config cause x state ≡ m → state ≡ states.Created → IfErr r (rows.RefusesKexinit says.offers (λ k l v. says.client_makes k None l v) says.value_small (λ k. denies.start k None) config cause i) → IfErr r (λ e. RefusesStep says denies m (Some i) e)
+pub kexinit_refused : (says : Says) (denies : Denies) (config : Config) (cause : KexCause) (x : Exchange) (state : ClientState) (m : Machine) (i : Incoming) (r : Result (KexProgress Machine) Error) → client_machine config cause x state ≡ m → state ≡ states.Created → IfErr r (rows.ClientRefusesKexinit says.offers (λ k l v. says.client_makes k None l v) says.value_small (λ k. denies.start k None) config cause i) → IfErr r (λ e. RefusesStep says denies m (Some i) e)
 kexinit_refused says denies config cause x state m i (Ok p) view is h = tt
 kexinit_refused says denies config cause x state m i (Err e) view is h =
     step_refuses says denies config cause x state states.Created m i e view is (kexinit_refuses says denies config cause x i e h)
@@ -90,7 +90,7 @@ group_refuses says denies config cause x n i e kept h = by h where
   by (inr (inr (inl k))) =
       let f = fault_of _ e k.1 in subst refused (sym f.2) (record { kept = kept; type_is = k.0 }, f.1)
   by (inr (inr (inr k))) = behind k.why where
-    behind : (IsOutside config.gex k.group × (e ≡ errors.KexInit)) ⊎ (IsInside config.gex k.group × rows.RefusesValue (λ l v. says.client_makes n.kex (Some k.group) l v) says.value_small (denies.start n.kex (Some k.group)) e) → refused e
+    behind : (IsOutside config.gex k.group × (e ≡ errors.KexInit)) ⊎ (IsInside config.gex k.group × rows.ClientRefusesValue (λ l v. says.client_makes n.kex (Some k.group) l v) says.value_small (denies.start n.kex (Some k.group)) e) → refused e
     behind (inl o) = subst refused (sym o.1) (inr (record { kept = kept; type_is = k.type_is }, (k.group, k.read, o.0)))
     behind (inr (inside, inl m)) = subst refused (sym m) tt
     behind (inr (inside, inr (inl d))) =

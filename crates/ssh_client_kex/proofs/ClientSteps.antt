@@ -83,7 +83,7 @@ opens_value says config cause x i n algorithm local value none reads exchanges o
           });
     }
 
-opens_by : (says : Says) (config : Config) (cause : KexCause) (x : Exchange) (i : Incoming) (p : KexProgress Machine) (w w' : Writer) (n : Names) (gex : Bool) → is_gex n.kex ≡ gex → HasNoValues x → Reads Client (offers_of Client config) cause i.seqn i.payload.now n → (shape_of n.kex).skip ≡ false → says.offers n.kex → rows.OpensBy gex (λ l v. says.client_makes n.kex None l v) config cause (record x { server_kex_init = i.payload.now }) n p w w' → Progresses says (client_machine config cause x states.Created) (Some i) w p w'
+opens_by : (says : Says) (config : Config) (cause : KexCause) (x : Exchange) (i : Incoming) (p : KexProgress Machine) (w w' : Writer) (n : Names) (gex : Bool) → is_gex n.kex ≡ gex → HasNoValues x → Reads Client (offers_of Client config) cause i.seqn i.payload.now n → (shape_of n.kex).skip ≡ false → says.offers n.kex → rows.ClientOpens gex (λ l v. says.client_makes n.kex None l v) config cause (record x { server_kex_init = i.payload.now }) n p w w' → Progresses says (client_machine config cause x states.Created) (Some i) w p w'
 opens_by says config cause x i p w w' n true e none reads exchanges offered h =
     subst (λ q. Progresses says (client_machine config cause x states.Created) (Some i) w q w') (sym h.0)
     (inr (record {

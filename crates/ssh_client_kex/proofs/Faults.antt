@@ -4,7 +4,7 @@ use Rattle.ssh_wire.specs.Fields.{◌>>=◌, answer_of, mpint_at, string_at}
 use Rattle.ssh_wire.specs.Forms.{magnitude, mpint, string}
 use Rattle.ssh_wire.specs.declared.error.EncodingFault.TheVariants.{TrailingData}
 use Rattle.ssh_client_kex.specs.Reading.{ReadsGroup}
-use Rattle.ssh_kex.specs.Fields.{at_end, group_in, reply_front, value_in}
+use Rattle.ssh_kex.specs.Fields.{value_at_end, group_in, reply_front, value_in}
 use Rattle.ssh_kex.specs.declared.group.DhGroup.{DhGroup}
 use Rattle.ssh_wire.specs.declared.error.EncodingFault.{EncodingFault}
 use Rattle.ssh_wire.specs.declared.error.Error.{Error}
@@ -37,22 +37,22 @@ at_answer read a b e h k = subst (λ x. answer_of (read x) ≡ Err e) h k
 
 pub no_value : (bytes : List ℕ) (e : Error) → answer_of (string_at bytes) ≡ Err e → answer_of (value_in bytes) ≡ Err e
 unfolding value_in
-no_value bytes e h = fault_stays (string_at bytes) (λ v. at_end v.0 v.1) e h
+no_value bytes e h = fault_stays (string_at bytes) (λ v. value_at_end v.0 v.1) e h
 
 pub value_read : (bytes v rest : List ℕ) → string_at bytes ≡ Ok (v, rest) → rest ≡ [] → value_in bytes ≡ Ok v
 unfolding value_in
-value_read bytes v rest h e = goes_on (string_at bytes) (λ x. at_end x.0 x.1) (v, rest) h ∙ ap (at_end v) e
+value_read bytes v rest h e = goes_on (string_at bytes) (λ x. value_at_end x.0 x.1) (v, rest) h ∙ ap (value_at_end v) e
 
 pub value_spelled : (bytes v rest : List ℕ) → bytes ≡ string v ++ rest → rest ≡ [] → bytes ≡ string v
 value_spelled bytes v rest h e = h ∙ (ap (λ r. string v ++ r) e ∙ append-nil (string v))
 
-more_left : {A : Type 0} (x : A) (rest : List ℕ) (e : Error) → (e ≡ SshEncoding TrailingData) × (0 < length rest) → answer_of (at_end x rest) ≡ Err e
+more_left : {A : Type 0} (x : A) (rest : List ℕ) (e : Error) → (e ≡ SshEncoding TrailingData) × (0 < length rest) → answer_of (value_at_end x rest) ≡ Err e
 more_left x [] e h = absurd (omega (arith, h.1))
 more_left x (b ∷ rest) e h = ap Err (sym h.0)
 
 pub value_behind : (bytes v rest : List ℕ) (e : Error) → string_at bytes ≡ Ok (v, rest) → (e ≡ SshEncoding TrailingData) × (0 < length rest) → answer_of (value_in bytes) ≡ Err e
 unfolding value_in
-value_behind bytes v rest e h k = ap answer_of (goes_on (string_at bytes) (λ x. at_end x.0 x.1) (v, rest) h) ∙ more_left v rest e k
+value_behind bytes v rest e h k = ap answer_of (goes_on (string_at bytes) (λ x. value_at_end x.0 x.1) (v, rest) h) ∙ more_left v rest e k
 
 -- ---- the front of a reply
 
@@ -82,19 +82,19 @@ same_group g prime generator p q = ap (λ x. record g { prime = x }) p ∙ ap (�
 
 pub no_prime : (bytes : List ℕ) (e : Error) → answer_of (mpint_at bytes) ≡ Err e → answer_of (group_in bytes) ≡ Err e
 unfolding group_in
-no_prime bytes e h = fault_stays (mpint_at bytes) (λ p. mpint_at p.1 >>= λ g. at_end (record { prime = p.0; generator = g.0 }) g.1) e h
+no_prime bytes e h = fault_stays (mpint_at bytes) (λ p. mpint_at p.1 >>= λ g. value_at_end (record { prime = p.0; generator = g.0 }) g.1) e h
 
 pub no_generator : (bytes prime rest : List ℕ) (e : Error) → mpint_at bytes ≡ Ok (prime, rest) → answer_of (mpint_at rest) ≡ Err e → answer_of (group_in bytes) ≡ Err e
 unfolding group_in
 no_generator bytes prime rest e h k =
-    ap answer_of (goes_on (mpint_at bytes) (λ p. mpint_at p.1 >>= λ g. at_end (record { prime = p.0; generator = g.0 }) g.1) (prime, rest) h)
-    ∙ fault_stays (mpint_at rest) (λ g. at_end (record { prime = prime; generator = g.0 }) g.1) e k
+    ap answer_of (goes_on (mpint_at bytes) (λ p. mpint_at p.1 >>= λ g. value_at_end (record { prime = p.0; generator = g.0 }) g.1) (prime, rest) h)
+    ∙ fault_stays (mpint_at rest) (λ g. value_at_end (record { prime = prime; generator = g.0 }) g.1) e k
 
-pub group_at : (bytes prime rest generator behind : List ℕ) → mpint_at bytes ≡ Ok (prime, rest) → mpint_at rest ≡ Ok (generator, behind) → group_in bytes ≡ at_end (record { prime = prime; generator = generator }) behind
+pub group_at : (bytes prime rest generator behind : List ℕ) → mpint_at bytes ≡ Ok (prime, rest) → mpint_at rest ≡ Ok (generator, behind) → group_in bytes ≡ value_at_end (record { prime = prime; generator = generator }) behind
 unfolding group_in
 group_at bytes prime rest generator behind h k =
-    goes_on (mpint_at bytes) (λ p. mpint_at p.1 >>= λ g. at_end (record { prime = p.0; generator = g.0 }) g.1) (prime, rest) h
-    ∙ goes_on (mpint_at rest) (λ g. at_end (record { prime = prime; generator = g.0 }) g.1) (generator, behind) k
+    goes_on (mpint_at bytes) (λ p. mpint_at p.1 >>= λ g. value_at_end (record { prime = p.0; generator = g.0 }) g.1) (prime, rest) h
+    ∙ goes_on (mpint_at rest) (λ g. value_at_end (record { prime = prime; generator = g.0 }) g.1) (generator, behind) k
 
 pub group_behind : (bytes prime rest generator behind : List ℕ) (e : Error) → mpint_at bytes ≡ Ok (prime, rest) → mpint_at rest ≡ Ok (generator, behind) → (e ≡ SshEncoding TrailingData) × (0 < length behind) → answer_of (group_in bytes) ≡ Err e
 group_behind bytes prime rest generator behind e h k l = ap answer_of (group_at bytes prime rest generator behind h k) ∙ more_left (record { prime = prime; generator = generator }) behind e l
@@ -102,7 +102,7 @@ group_behind bytes prime rest generator behind e h k l = ap answer_of (group_at 
 pub group_read : (bytes prime rest generator behind : List ℕ) (g : DhGroup) → mpint_at bytes ≡ Ok (prime, rest) → mpint_at rest ≡ Ok (generator, behind) → (bytes ≡ mpint prime ++ rest) × (magnitude prime ≡ prime) → (rest ≡ mpint generator ++ behind) × (magnitude generator ≡ generator) → behind ≡ [] → g.prime ≡ prime → g.generator ≡ generator → ReadsGroup bytes g
 group_read bytes prime rest generator behind g h k a b e p q =
     record {
-      read = group_at bytes prime rest generator behind h k ∙ (ap (at_end (record { prime = prime; generator = generator })) e ∙ ap Ok (sym (same_group g prime generator p q)));
+      read = group_at bytes prime rest generator behind h k ∙ (ap (value_at_end (record { prime = prime; generator = generator })) e ∙ ap Ok (sym (same_group g prime generator p q)));
       spelled = a.0 ∙ (ap (λ r. mpint prime ++ r) (b.0 ∙ (ap (λ r. mpint generator ++ r) e ∙ append-nil (mpint generator)))
           ∙ (ap (λ x. mpint x ++ mpint generator) (sym p) ∙ ap (λ x. mpint g.prime ++ mpint x) (sym q)));
       canonical = record { prime = ap magnitude p ∙ (a.1 ∙ sym p); generator = ap magnitude q ∙ (b.1 ∙ sym q) };

@@ -55,8 +55,8 @@ pub record IsLongOwn (makes : List ℕ → List ℕ → Type 0) (small : List �
   pub long : longest_payload < 5 + length value
   pub error_is : e ≡ errors.PacketSize (5 + length value)
 
-abbrev pub RefusesValue : (List ℕ → List ℕ → Type 0) → (List ℕ → Type 0) → Type 0 → Error → Type 0
-RefusesValue makes small denied e = (e ≡ errors.Memory) ⊎ (((e ≡ errors.Kex) × denied) ⊎ IsLongOwn makes small e)
+abbrev pub ClientRefusesValue : (List ℕ → List ℕ → Type 0) → (List ℕ → Type 0) → Type 0 → Error → Type 0
+ClientRefusesValue makes small denied e = (e ≡ errors.Memory) ⊎ (((e ≡ errors.Kex) × denied) ⊎ IsLongOwn makes small e)
 
 -- ---- the peer's KEXINIT
 
@@ -69,18 +69,18 @@ pub record OpensWithValue (makes : List ℕ → List ℕ
   pub done : p ≡ NeedsReply (client_machine config cause (record x { client_ephemeral = value }) (states.AwaitsReply n algorithm)) false
 
 -- a client asks for a group, or sends its value
-abbrev pub OpensBy : Bool → (List ℕ → List ℕ → Type 0) → Config → KexCause → Exchange → Names → KexProgress Machine
+abbrev pub ClientOpens : Bool → (List ℕ → List ℕ → Type 0) → Config → KexCause → Exchange → Names → KexProgress Machine
     → Writer → Writer → Type 0
-OpensBy true makes config cause x n p w w' =
+ClientOpens true makes config cause x n p w w' =
     (p ≡ NeedsReply (client_machine config cause x (states.AwaitsGroup n)) false)
     × Puts w (request_message config.gex) w'
-OpensBy false makes config cause x n p w w' = OpensWithValue makes config cause x n p w w'
+ClientOpens false makes config cause x n p w w' = OpensWithValue makes config cause x n p w w'
 
 abbrev pub OpensOrEnds : Bool → (kexes.Name → Type 0) → (kexes.Name → List ℕ → List ℕ → Type 0) → Config → KexCause
     → Exchange → Names → KexProgress Machine → Writer → Writer → Type 0
 OpensOrEnds true offers makes config cause x n p w w' = EndsAtOnce Client cause x n p w w'
 OpensOrEnds false offers makes config cause x n p w w' = offers n.kex
-    × OpensBy (is_gex n.kex) (makes n.kex) config cause x n p w w'
+    × ClientOpens (is_gex n.kex) (makes n.kex) config cause x n p w w'
 
 -- the answer to the peer's KEXINIT
 pub record AnswersKexinit (offers : kexes.Name → Type 0) (makes : kexes.Name → List ℕ → List ℕ
@@ -97,11 +97,11 @@ pub record RefusesBehind (offers : kexes.Name → Type 0) (makes : kexes.Name �
   pub reads : Reads Client (offers_of Client config) cause i.seqn i.payload.now names
   pub exchanges : (shape_of names.kex).skip ≡ false
   pub why : ((offers names.kex → ⊥) × (e ≡ errors.UnknownAlgo))
-      ⊎ (offers names.kex × (is_gex names.kex ≡ false) × RefusesValue (makes names.kex) small (denied names.kex) e)
+      ⊎ (offers names.kex × (is_gex names.kex ≡ false) × ClientRefusesValue (makes names.kex) small (denied names.kex) e)
 
-abbrev pub RefusesKexinit : (kexes.Name → Type 0) → (kexes.Name → List ℕ → List ℕ → Type 0) → (List ℕ → Type 0)
+abbrev pub ClientRefusesKexinit : (kexes.Name → Type 0) → (kexes.Name → List ℕ → List ℕ → Type 0) → (List ℕ → Type 0)
     → (kexes.Name → Type 0) → Config → KexCause → Incoming → Error → Type 0
-RefusesKexinit offers makes small denied config cause i e = (e ≡ errors.Memory)
+ClientRefusesKexinit offers makes small denied config cause i e = (e ≡ errors.Memory)
     ⊎ (RefusesNames Client (offers_of Client config) cause i.seqn i.payload.now e
     ⊎ RefusesBehind offers makes small denied config cause i e)
 
@@ -134,7 +134,7 @@ pub record RefusesBehindGroup (makes : DhGroup → List ℕ → List ℕ → Typ
   pub type_is : message_type payload ≡ 31
   pub read : group_in (fields payload) ≡ Ok group
   pub why : (IsOutside config.gex group × (e ≡ errors.KexInit))
-      ⊎ (IsInside config.gex group × RefusesValue (makes group) small (denied group) e)
+      ⊎ (IsInside config.gex group × ClientRefusesValue (makes group) small (denied group) e)
 
 abbrev pub RefusesGroup : (DhGroup → List ℕ → List ℕ → Type 0) → (List ℕ → Type 0) → (DhGroup → Type 0) → Config
     → List ℕ → Error → Type 0

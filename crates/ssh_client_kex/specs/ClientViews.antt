@@ -38,17 +38,17 @@ abbrev pub client_machine : Config → KexCause → Exchange → ClientState →
 client_machine config cause x state = record { setting = client_setting config cause x; stage = client_stage x state }
 
 -- whether the next message is a wrong guess, and the state behind it
-abbrev pub drops_guess : ClientState → Bool
-drops_guess states.Created = false
-drops_guess (states.AwaitsGroup names) = names.ignore_guessed
-drops_guess (states.AwaitsReply names algorithm) = names.ignore_guessed
-drops_guess (states.AwaitsNewkeys host made cipher) = false
+abbrev pub client_drops_guess : ClientState → Bool
+client_drops_guess states.Created = false
+client_drops_guess (states.AwaitsGroup names) = names.ignore_guessed
+client_drops_guess (states.AwaitsReply names algorithm) = names.ignore_guessed
+client_drops_guess (states.AwaitsNewkeys host made cipher) = false
 
-abbrev pub behind_guess : ClientState → ClientState
-behind_guess states.Created = states.Created
-behind_guess (states.AwaitsGroup names) = states.AwaitsGroup (opening.behind_guess names)
-behind_guess (states.AwaitsReply names algorithm) = states.AwaitsReply (opening.behind_guess names) algorithm
-behind_guess (states.AwaitsNewkeys host made cipher) = states.AwaitsNewkeys host made cipher
+abbrev pub client_behind_guess : ClientState → ClientState
+client_behind_guess states.Created = states.Created
+client_behind_guess (states.AwaitsGroup names) = states.AwaitsGroup (opening.behind_guess names)
+client_behind_guess (states.AwaitsReply names algorithm) = states.AwaitsReply (opening.behind_guess names) algorithm
+client_behind_guess (states.AwaitsNewkeys host made cipher) = states.AwaitsNewkeys host made cipher
 
 -- an exchange whose values aren't there yet
 pub record HasNoValues (x : Exchange) : Type 0 where

@@ -13,8 +13,8 @@ ghost use Rattle.ssh_wire.specs.Outside.{Rose};
 ghost use Rattle.ssh_wire.specs.declared.error.Error.TheVariants.{Memory};
 ghost use Rattle.ssh_wire.specs.declared.side.Side.TheVariants.{Client as client_side};
 ghost use Rattle.ssh_client_kex.specs.Agreed.{AgreesFirst};
-ghost use Rattle.ssh_client_kex.specs.ClientRows.{AnswersGroup, AnswersKexinit, OpensWithValue, SendsOfGroup, RefusesGroup, RefusesKexinit, RefusesValue, SendsValue};
-ghost use Rattle.ssh_client_kex.specs.ClientViews.{behind_guess, client_machine, drops_guess, ClientHolds, HasNoValues};
+ghost use Rattle.ssh_client_kex.specs.ClientRows.{AnswersGroup, AnswersKexinit, OpensWithValue, SendsOfGroup, RefusesGroup, ClientRefusesKexinit, ClientRefusesValue, SendsValue};
+ghost use Rattle.ssh_client_kex.specs.ClientViews.{client_behind_guess, client_machine, client_drops_guess, ClientHolds, HasNoValues};
 ghost use Rattle.ssh_client_kex.specs.declared.client_kex.ClientState.TheVariants.{AwaitsGroup as awaits_group};
 ghost use Rattle.ssh_kex.specs.declared.progress.KexProgress.TheVariants.{NeedsReply};
 ghost use Rattle.ssh_kex.specs.Drawing.{DrawnByClient, StartsFrom, ValueDrawn};
@@ -22,7 +22,7 @@ ghost use Rattle.ssh_kex.specs.Messages.{is_gex, request_message};
 ghost use Rattle.ssh_kex.specs.Parts.{IsSmall, KeepsAgreement, Setup};
 ghost use Rattle.ssh_kex.specs.Fields.{IsInside, IsOutside};
 ghost use Rattle.ssh_kex.specs.Setting.{offers_of};
-ghost use Rattle.ssh_kex.specs.Stages.{Created as created, has_ignored, names_of, is_strict};
+ghost use Rattle.ssh_kex.specs.Stages.{Created as created, has_ignored, names_in_stage, is_strict};
 ghost use Rattle.ssh_kex.specs.Stepping.{at_kexinit, asks_agreement, asks_hosts, asks_groups, next_of, Progresses, RefusesStep, Puts};
 ghost use Rattle.ssh_kex.specs.Unasked.{asks_nobody, has_front, is_early};
 ghost use Rattle.ssh_kex.specs.Views.{HasShortSides};
@@ -212,7 +212,7 @@ impl<'c> ClientKex<'c> {
 
     /// Whether the peer's KEXINIT was read.
     pub fn peer_kexinit_received(&self) -> bool
-        ensures { result ≡ is_some (names_of self.now.stage) }
+        ensures { result ≡ is_some (names_in_stage self.now.stage) }
     {
         match &self.state {
             ClientState::Created => false,
@@ -224,7 +224,7 @@ impl<'c> ClientKex<'c> {
 
     /// Whether the exchange is strict, as far as the peer's KEXINIT was read.
     pub fn strict_kex(&self) -> bool
-        ensures { result ≡ is_strict (names_of self.now.stage) }
+        ensures { result ≡ is_strict (names_in_stage self.now.stage) }
     {
         match &self.state {
             ClientState::Created => false,
@@ -237,7 +237,7 @@ impl<'c> ClientKex<'c> {
 
     /// Whether a wrong guess of the server was dropped.
     pub fn guess_ignored(&self) -> bool
-        ensures { result ≡ has_ignored (names_of self.now.stage) }
+        ensures { result ≡ has_ignored (names_in_stage self.now.stage) }
     {
         match &self.state {
             ClientState::Created => false,
@@ -251,7 +251,7 @@ impl<'c> ClientKex<'c> {
 
 /// Whether the next message is a wrong guess.
 fn drops_guess(state: &ClientState) -> bool
-    ensures { result ≡ drops_guess state.now }
+    ensures { result ≡ client_drops_guess state.now }
 {
     match state {
         ClientState::AwaitsGroup { names } | ClientState::AwaitsReply { names, .. } => {
@@ -263,7 +263,7 @@ fn drops_guess(state: &ClientState) -> bool
 
 /// The state behind a wrong guess, which was dropped.
 fn behind_guess(state: ClientState) -> ClientState
-    ensures { result ≡ behind_guess state }
+    ensures { result ≡ client_behind_guess state }
 {
     match state {
         ClientState::AwaitsGroup { names } => ClientState::AwaitsGroup {
@@ -309,7 +309,7 @@ fn send_value<A: Agreement, R: Rng>(
     ensures ok { OnOk result (SendsValue (λ l v. (s : Setup) → A.lawful agreement.old s
         → A.client_makes algorithm.old.name algorithm.old.group l v) algorithm.old algorithm.new client_ephemeral.new
         output.old output.new) }
-    ensures err { IfErr result (RefusesValue (λ l v. (s : Setup) → A.lawful agreement.old s
+    ensures err { IfErr result (ClientRefusesValue (λ l v. (s : Setup) → A.lawful agreement.old s
         → A.client_makes algorithm.old.name algorithm.old.group l v) (λ v. (s : Setup) → A.lawful agreement.old s
         → IsSmall v) (Rose (A.refusals agreement.old) (A.refusals agreement.new)
         × ((s : Setup) → A.obliging agreement.old agreement.new s → A.offered agreement.old algorithm.old.name ≡ true
@@ -381,7 +381,7 @@ fn open_with_value<'c, A: Agreement, R: Rng>(
     ensures ok { IfOk result (λ p. OpensWithValue (λ l v. (s : Setup) → A.lawful agreement.old s
         → A.client_makes names.kex None l v) base.entry.config.now base.entry.cause base.entry.exchange names p
         output.old output.new) }
-    ensures err { IfErr result (RefusesValue (λ l v. (s : Setup) → A.lawful agreement.old s
+    ensures err { IfErr result (ClientRefusesValue (λ l v. (s : Setup) → A.lawful agreement.old s
         → A.client_makes names.kex None l v) (λ v. (s : Setup) → A.lawful agreement.old s
         → IsSmall v) (Rose (A.refusals agreement.old) (A.refusals agreement.new)
         × ((s : Setup) → A.obliging agreement.old agreement.new s → A.offered agreement.old names.kex ≡ true → ⊥))) }
@@ -427,7 +427,7 @@ fn take_kexinit<'c, A: Agreement, R: Rng>(
         → A.lawful agreement.old s → A.client_makes n None l v) base.entry.config.now base.entry.cause
         base.entry.exchange incoming.entry p output.old
         output.new) }
-    ensures err { IfErr result (RefusesKexinit (λ n. A.offered agreement.old n ≡ true) (λ n l v. (s : Setup)
+    ensures err { IfErr result (ClientRefusesKexinit (λ n. A.offered agreement.old n ≡ true) (λ n l v. (s : Setup)
         → A.lawful agreement.old s → A.client_makes n None l v) (λ v. (s : Setup) → A.lawful agreement.old s
         → IsSmall v) (λ n. Rose (A.refusals agreement.old) (A.refusals agreement.new)
         × ((s : Setup) → A.obliging agreement.old agreement.new s → A.offered agreement.old n ≡ true
@@ -489,7 +489,7 @@ fn answer_group<'c, A: Agreement, R: Rng>(
     ensures ok { IfOk result (λ p. SendsOfGroup (λ l v. (s : Setup) → A.lawful agreement.old s
         → A.client_makes names.kex (Some group) l v) base.entry.config.now base.entry.cause base.entry.exchange names
         group p output.old output.new) }
-    ensures err { IfErr result (RefusesValue (λ l v. (s : Setup) → A.lawful agreement.old s
+    ensures err { IfErr result (ClientRefusesValue (λ l v. (s : Setup) → A.lawful agreement.old s
         → A.client_makes names.kex (Some group) l v) (λ v. (s : Setup) → A.lawful agreement.old s
         → IsSmall v) (Rose (A.refusals agreement.old) (A.refusals agreement.new)
         × ((s : Setup) → A.obliging agreement.old agreement.new s → A.offered agreement.old names.kex ≡ true → ⊥))) }

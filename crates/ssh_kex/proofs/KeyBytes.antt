@@ -5,7 +5,7 @@ use Rattle.std.specs.Int.{w32, w64, to_be_bytes}
 use Rattle.sha1.specs.Sha1 as one
 use Rattle.sha2.specs.Sha256 as small
 use Rattle.sha2.specs.Sha512 as large
-use Rattle.ssh_aes.proofs.Lemmas.{AreBytes-append, AreBytes-cons, AreBytes-four, AreBytes-nil}
+use Rattle.ssh_aes.proofs.Lemmas.{AreOctets-append, AreOctets-cons, AreOctets-four, AreOctets-nil}
 use Rattle.ssh_mac.proofs.Lemmas.{digests_have_length}
 use Rattle.ssh_mac.specs.Digests.{digest_of, digest_length}
 use Rattle.ssh_mac.specs.Names as mac_table
@@ -24,35 +24,35 @@ use Rattle.ssh_kex.specs.Laws.{KeysAreWell}
 -- ---- bytes
 
 four_bytes : (n : ℕ) → AreBytes (to_be_bytes w32 n)
-four_bytes n = AreBytes-four (n / 16777216 % 256) (n / 65536 % 256) (n / 256 % 256) (n % 256) (omega arith) (omega arith) (omega arith) (omega arith)
+four_bytes n = AreOctets-four (n / 16777216 % 256) (n / 65536 % 256) (n / 256 % 256) (n % 256) (omega arith) (omega arith) (omega arith) (omega arith)
 
 eight_bytes : (n : ℕ) → AreBytes (to_be_bytes w64 n)
 eight_bytes n =
-    AreBytes-append (n / 72057594037927936 % 256 ∷ n / 281474976710656 % 256 ∷ n / 1099511627776 % 256 ∷ n / 4294967296 % 256 ∷ []) (to_be_bytes w32 n)
-    (AreBytes-four (n / 72057594037927936 % 256) (n / 281474976710656 % 256) (n / 1099511627776 % 256) (n / 4294967296 % 256) (omega arith) (omega arith) (omega arith) (omega arith))
+    AreOctets-append (n / 72057594037927936 % 256 ∷ n / 281474976710656 % 256 ∷ n / 1099511627776 % 256 ∷ n / 4294967296 % 256 ∷ []) (to_be_bytes w32 n)
+    (AreOctets-four (n / 72057594037927936 % 256) (n / 281474976710656 % 256) (n / 1099511627776 % 256) (n / 4294967296 % 256) (omega arith) (omega arith) (omega arith) (omega arith))
     (four_bytes n)
 
 AreBytes-take : (n : ℕ) (bytes : List ℕ) → AreBytes bytes → AreBytes (take n bytes)
-AreBytes-take zero bytes h i = AreBytes-nil i
-AreBytes-take (suc n) [] h i = AreBytes-nil i
-AreBytes-take (suc n) (b ∷ bytes) h i = AreBytes-cons b (take n bytes) (h 0) (AreBytes-take n bytes (λ j. h (suc j))) i
+AreBytes-take zero bytes h i = AreOctets-nil i
+AreBytes-take (suc n) [] h i = AreOctets-nil i
+AreBytes-take (suc n) (b ∷ bytes) h i = AreOctets-cons b (take n bytes) (h 0) (AreBytes-take n bytes (λ j. h (suc j))) i
 
 -- ---- digests
 
 bytes_of_one : (h : List ℕ) (n : ℕ) → AreBytes (one.digest_bytes h n)
 unfolding one.digest_bytes
-bytes_of_one h zero = AreBytes-nil
-bytes_of_one h (suc n) = AreBytes-append _ _ (bytes_of_one h n) (four_bytes (slice_index h n))
+bytes_of_one h zero = AreOctets-nil
+bytes_of_one h (suc n) = AreOctets-append _ _ (bytes_of_one h n) (four_bytes (slice_index h n))
 
 bytes_of_small : (h : List ℕ) (n : ℕ) → AreBytes (small.digest_bytes h n)
 unfolding small.digest_bytes
-bytes_of_small h zero = AreBytes-nil
-bytes_of_small h (suc n) = AreBytes-append _ _ (bytes_of_small h n) (four_bytes (slice_index h n))
+bytes_of_small h zero = AreOctets-nil
+bytes_of_small h (suc n) = AreOctets-append _ _ (bytes_of_small h n) (four_bytes (slice_index h n))
 
 bytes_of_large : (h : List ℕ) (n : ℕ) → AreBytes (large.digest_bytes h n)
 unfolding large.digest_bytes
-bytes_of_large h zero = AreBytes-nil
-bytes_of_large h (suc n) = AreBytes-append _ _ (bytes_of_large h n) (eight_bytes (slice_index h n))
+bytes_of_large h zero = AreOctets-nil
+bytes_of_large h (suc n) = AreOctets-append _ _ (bytes_of_large h n) (eight_bytes (slice_index h n))
 
 pub digest_bytes_are : (kind : DigestKind) (text : List ℕ) → AreBytes (digest_of kind text)
 unfolding one.sha1 small.sha256 large.sha384 large.sha512
@@ -64,7 +64,7 @@ digest_bytes_are Sha512 text = bytes_of_large _ 8
 -- ---- keys
 
 more_bytes : (digest : DigestKind) (front blocks : List ℕ) → AreBytes blocks → AreBytes (one_more digest front blocks)
-more_bytes digest front blocks h = AreBytes-append blocks (digest_of digest (front ++ blocks)) h (digest_bytes_are digest _)
+more_bytes digest front blocks h = AreOctets-append blocks (digest_of digest (front ++ blocks)) h (digest_bytes_are digest _)
 
 -- each key is bytes
 pub key_bytes : (digest : DigestKind) (secret hash session : List ℕ) (letter need : ℕ) → AreBytes (key_by digest secret hash session letter need)

@@ -36,9 +36,9 @@ HoldsSecret name None = Unit {0}
 HoldsSecret name (Some s) = HoldsOne name (bytes_in s) s
 
 -- what a refusal of an agreement is answered with
-abbrev pub error_of : Refusal → Error
-error_of refusals.Refused = Kex
-error_of refusals.Memory = Memory
+abbrev pub agreement_error : Refusal → Error
+agreement_error refusals.Refused = Kex
+agreement_error refusals.Memory = Memory
 
 -- a call for a group exchange alone
 abbrev pub IsGexOrMemory : kexes.Name → Error → Type 0
@@ -77,6 +77,6 @@ pub record IsWhole (name : kexes.Name) (host : List ℕ) (x : Exchange) : Type 0
   pub kind : is_some x.gex ≡ is_gex name
 
 -- bytes that are lent, or not there
-abbrev pub bytes_of : Option (Bor (List ℕ)) → Option (List ℕ)
-bytes_of None = None
-bytes_of (Some b) = Some b.now
+abbrev pub lent_bytes : Option (Bor (List ℕ)) → Option (List ℕ)
+lent_bytes None = None
+lent_bytes (Some b) = Some b.now

@@ -9,12 +9,12 @@ use Rattle.ssh_kex.specs.declared.group.GexParams.{GexParams}
 
 -- ---- the fields of a message, behind its type
 
-abbrev pub at_end : {A : Type 0} → A → List ℕ → Result A EncodingFault
-at_end x [] = Ok x
-at_end x (b ∷ bytes) = Err TrailingData
+abbrev pub value_at_end : {A : Type 0} → A → List ℕ → Result A EncodingFault
+value_at_end x [] = Ok x
+value_at_end x (b ∷ bytes) = Err TrailingData
 
 unfoldable pub group_in : List ℕ → Result DhGroup EncodingFault
-group_in bytes = mpint_at bytes >>= λ p. mpint_at p.1 >>= λ g. at_end (record { prime = p.0; generator = g.0 }) g.1
+group_in bytes = mpint_at bytes >>= λ p. mpint_at p.1 >>= λ g. value_at_end (record { prime = p.0; generator = g.0 }) g.1
 
 -- three numbers at the front, and what is behind
 unfoldable pub sizes_front : List ℕ → Result (GexParams × List ℕ) EncodingFault
@@ -23,10 +23,10 @@ sizes_front bytes =
     Ok (record { min_group_size = a.0; preferred_group_size = b.0; max_group_size = c.0 }, c.1)
 
 unfoldable pub sizes_in : List ℕ → Result GexParams EncodingFault
-sizes_in bytes = sizes_front bytes >>= λ g. at_end g.0 g.1
+sizes_in bytes = sizes_front bytes >>= λ g. value_at_end g.0 g.1
 
 unfoldable pub value_in : List ℕ → Result (List ℕ) EncodingFault
-value_in bytes = string_at bytes >>= λ v. at_end v.0 v.1
+value_in bytes = string_at bytes >>= λ v. value_at_end v.0 v.1
 
 -- what of a reply is read before the secret is agreed on: the host's blob, the server's value; and what is behind
 pub record ReplyFront : Type 0 where

@@ -214,13 +214,13 @@ guess_dropped (AwaitsNewkeys exchange made host) = AwaitsNewkeys exchange made h
 -- ---- what a machine tells
 
 -- the names, once the peer's KEXINIT was read
-abbrev pub names_of : Stage → Option Names
-names_of (Created own) = None
-names_of (AwaitsGroup o) = Some o.names
-names_of (AwaitsReply o gex local public) = Some o.names
-names_of (AwaitsRequest o) = Some o.names
-names_of (AwaitsValue o gex) = Some o.names
-names_of (AwaitsNewkeys exchange made host) = Some made.names
+abbrev pub names_in_stage : Stage → Option Names
+names_in_stage (Created own) = None
+names_in_stage (AwaitsGroup o) = Some o.names
+names_in_stage (AwaitsReply o gex local public) = Some o.names
+names_in_stage (AwaitsRequest o) = Some o.names
+names_in_stage (AwaitsValue o gex) = Some o.names
+names_in_stage (AwaitsNewkeys exchange made host) = Some made.names
 
 abbrev pub is_strict : Option Names → Bool
 is_strict None = false

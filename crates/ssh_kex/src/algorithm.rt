@@ -7,7 +7,7 @@ ghost use Rattle.ssh_wire.specs.Outside.{Rose};
 ghost use Rattle.ssh_wire.specs.Sides.{other_side};
 ghost use Rattle.ssh_wire.specs.declared.error.Error.TheVariants.{Kex, KexInit, Memory};
 ghost use Rattle.ssh_negotiate.specs.Tables.{kex_text, shape_of};
-ghost use Rattle.ssh_kex.specs.Agreeing.{Agreeing, ClientAgrees, ClientStarts, IsGexOrMemory, HoldsOne, IsWhole, ServerAgrees, bytes_of, error_of};
+ghost use Rattle.ssh_kex.specs.Agreeing.{Agreeing, ClientAgrees, ClientStarts, IsGexOrMemory, HoldsOne, IsWhole, ServerAgrees, lent_bytes, agreement_error};
 ghost use Rattle.ssh_kex.specs.Drawing.{DrawsLocal, DrawsSecret};
 ghost use Rattle.ssh_kex.specs.Exchange.{exchange_hash, keys_of, sealing_after, secret_of, secret_text, side_if};
 ghost use Rattle.ssh_kex.specs.Messages.{is_gex, request_message, value_message};
@@ -60,7 +60,7 @@ impl fmt::Debug for KexAlgorithm {
 
 /// What a refusal of an agreement is answered with.
 fn error_of(refusal: Refusal) -> Error
-    ensures { result ≡ error_of refusal }
+    ensures { result ≡ agreement_error refusal }
 {
     match refusal {
         Refusal::Refused => Error::Kex,
@@ -278,7 +278,7 @@ impl KexAlgorithm {
 
     /// The bytes of the secret, where there is one.
     pub fn shared_secret_bytes(&self) -> Option<&[u8]>
-        ensures { bytes_of result ≡ self.now.secret }
+        ensures { lent_bytes result ≡ self.now.secret }
     {
         match &self.secret {
             Some(secret) => Some(secret.as_bytes()),

@@ -25,7 +25,7 @@ use Rattle.ssh_vectors.specs.Hosts.{TrustsHosts, TrustsKey}
 use Rattle.ssh_script.specs.Generated.{drawn, generated_steps, payload_drawn, rekey_drawn, side_drawn, state_behind, state_behind_turn, turn_by, turn_steps, turns_from, generated_plan}
 use Rattle.ssh_link.specs.PlanParts.{IsFaultlessPlan, RefusesNoCall, configs_of, offers_exchange, trusted_key, trusted_of}
 use Rattle.ssh_script.specs.Plans.{Plan}
-use Rattle.ssh_link.specs.Program.{AnswersGen, IsRefusal}
+use Rattle.ssh_link.specs.Program.{AnswersGen, IsRefusedLink}
 use Rattle.ssh_script.specs.RunScript.{host_key}
 use Rattle.ssh_run.specs.RunCauses.{all_submits_good}
 use Rattle.ssh_link.specs.declared.answer.Answer.{Answer}
@@ -139,9 +139,9 @@ generated_faultless seed count =
     }
 
 -- so its run is refused for want of memory alone, which is no answer
-generated_answer : (plan : Plan) (seed count : ℕ) (e : Error) (answer : Answer) → plan ≡ generated_plan seed count → (IsFaultlessPlan plan → e ≡ Memory) → IsRefusal e answer → AnswersGen (generated_plan seed count) answer
+generated_answer : (plan : Plan) (seed count : ℕ) (e : Error) (answer : Answer) → plan ≡ generated_plan seed count → (IsFaultlessPlan plan → e ≡ Memory) → IsRefusedLink e answer → AnswersGen (generated_plan seed count) answer
 generated_answer plan seed count e answer same h r = absurd (r.1 (h (subst IsFaultlessPlan (sym same) (generated_faultless seed count))))
 
-pub generated_refused : {E : Type 0} → (plan : Plan) (seed count : ℕ) (e : Error) (r : Result Answer E) → plan ≡ generated_plan seed count → (IsFaultlessPlan plan → e ≡ Memory) → IfOk r (IsRefusal e) → IfOk r (λ answer. AnswersGen (generated_plan seed count) answer)
+pub generated_refused : {E : Type 0} → (plan : Plan) (seed count : ℕ) (e : Error) (r : Result Answer E) → plan ≡ generated_plan seed count → (IsFaultlessPlan plan → e ≡ Memory) → IfOk r (IsRefusedLink e) → IfOk r (λ answer. AnswersGen (generated_plan seed count) answer)
 generated_refused plan seed count e (Ok answer) same h r = generated_answer plan seed count e answer same h r
 generated_refused plan seed count e (Err f) same h r = tt

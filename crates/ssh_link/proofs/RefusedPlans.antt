@@ -16,11 +16,11 @@ use Rattle.ssh_vectors.specs.Hosts.{TrustsAll}
 use Rattle.ssh_vectors.specs.Primes.{IsLawful, IsObliging, group_for}
 use Rattle.ssh_vectors.specs.declared.hosts.TrustedHost.{TrustedHost}
 use Rattle.ssh_vectors.proofs.Lemmas.{hosts_trusted}
-use Rattle.ssh_link.specs.PlanParts.{IsCallOf, IsFaultlessPlan, IsPlanCause, TrustsPlan, configs_of, fault_of, most_calls, offers_exchange, refuses_of, setup_of, trusted_of}
+use Rattle.ssh_link.specs.PlanParts.{IsCallOf, IsFaultlessPlan, IsPlanCause, TrustsPlan, configs_of, plan_config_fault, most_calls, offers_exchange, refuses_of, setup_of, trusted_of}
 use Rattle.ssh_script.specs.Plans.{Plan}
-use Rattle.ssh_link.specs.Program.{AnswersPlan, IsRefusal}
+use Rattle.ssh_link.specs.Program.{AnswersPlan, IsRefusedLink}
 use Rattle.ssh_link.specs.declared.answer.Answer.{Answer}
-use Rattle.ssh_run.specs.RunCauses.{IsPartsCause, IsRunCause, IsValidRun, all_submits_good, offered_by, rises_by}
+use Rattle.ssh_run.specs.RunCauses.{IsPartsCause, IsRunCause, IsValidRun, all_submits_good, offered_on, rises_by}
 
 -- ---- calls that are refused by their number
 
@@ -143,11 +143,11 @@ cause_seen r s side config offered group (errors.SshEncoding fault) t h = h
 cause_seen r s side config offered group (errors.InvalidConfig fault) t h = h
 
 -- both sides' test agreements offer the same
-offered_same : (o : KexName → Bool) (side : Side) → offered_by o o side ≡ o
+offered_same : (o : KexName → Bool) (side : Side) → offered_on o o side ≡ o
 offered_same o Client = refl
 offered_same o Server = refl
 
-parts_seen : (r t : Side → Rises) (config : Side → Config) (o : KexName → Bool) (group : DhGroup) (steps : List Step) (e : Error) → ((side : Side) → Tell (r side) (t side)) → IsPartsCause r config (offered_by o o) group steps e → IsPartsCause t config (λ side. o) group steps e
+parts_seen : (r t : Side → Rises) (config : Side → Config) (o : KexName → Bool) (group : DhGroup) (steps : List Step) (e : Error) → ((side : Side) → Tell (r side) (t side)) → IsPartsCause r config (offered_on o o) group steps e → IsPartsCause t config (λ side. o) group steps e
 parts_seen r t config o group steps e tell h = record {
   side = h.side;
   step = h.step;
@@ -157,7 +157,7 @@ parts_seen r t config o group steps e tell h = record {
   cause = cause_seen (r h.side) (t h.side) h.side config o group e (tell h.side) (subst (λ f. IsCauseOf (r h.side) h.side config f group e) (offered_same o h.side) h.cause);
 }
 
-run_seen : (r t : Side → Rises) (config : Side → Config) (o : KexName → Bool) (group : DhGroup) (steps : List Step) (e : Error) → ((side : Side) → Tell (r side) (t side)) → IsRunCause r config (offered_by o o) group steps e → IsRunCause t config (λ side. o) group steps e
+run_seen : (r t : Side → Rises) (config : Side → Config) (o : KexName → Bool) (group : DhGroup) (steps : List Step) (e : Error) → ((side : Side) → Tell (r side) (t side)) → IsRunCause r config (offered_on o o) group steps e → IsRunCause t config (λ side. o) group steps e
 run_seen r t config o group steps e tell (inl m) = inl m
 run_seen r t config o group steps e tell (inr (inl f)) = inr (inl f)
 run_seen r t config o group steps e tell (inr (inr (inl b))) = inr (inr (inl b))
@@ -166,17 +166,17 @@ run_seen r t config o group steps e tell (inr (inr (inr h))) = inr (inr (inr (pa
 -- the run of a plan, of the same steps and size of group
 pub plan_cause : (plan : Plan) (steps : List Step) (bits : ℕ) (rises : Side → Rises) (r : Result LinkReport Error) → steps ≡ plan.steps → bits ≡ plan.server.group_bits
     → (IsLawful bits plan.client.config.gex → (side : Side) → Tell (rises side) (refuses_of plan side))
-    → (IsLawful bits plan.client.config.gex → IfErr r (IsRunCause rises (configs_of plan) (offered_by offers_exchange offers_exchange) (group_for bits plan.client.config.gex) steps))
+    → (IsLawful bits plan.client.config.gex → IfErr r (IsRunCause rises (configs_of plan) (offered_on offers_exchange offers_exchange) (group_for bits plan.client.config.gex) steps))
     → IsLawful plan.server.group_bits plan.client.config.gex → IfErr r (IsPlanCause plan)
 plan_cause plan steps bits rises (Ok report) same size tell h l = tt
 plan_cause plan steps bits rises (Err e) same size tell h l =
     let w = subst (λ n. IsLawful n plan.client.config.gex) (sym size) l in
     run_seen rises (refuses_of plan) (configs_of plan) offers_exchange (group_for plan.server.group_bits plan.client.config.gex) plan.steps e (tell w)
-    (subst (λ q. IsRunCause rises (configs_of plan) (offered_by offers_exchange offers_exchange) (group_for plan.server.group_bits plan.client.config.gex) q e) same
-    (subst (λ n. IsRunCause rises (configs_of plan) (offered_by offers_exchange offers_exchange) (group_for n plan.client.config.gex) steps e) size (h w)))
+    (subst (λ q. IsRunCause rises (configs_of plan) (offered_on offers_exchange offers_exchange) (group_for plan.server.group_bits plan.client.config.gex) q e) same
+    (subst (λ n. IsRunCause rises (configs_of plan) (offered_on offers_exchange offers_exchange) (group_for n plan.client.config.gex) steps e) size (h w)))
 
 -- a faultless plan is a valid run
-pub plan_valid : (plan : Plan) (steps : List Step) → steps ≡ plan.steps → IsFaultlessPlan plan → IsValidRun (configs_of plan) (offered_by offers_exchange offers_exchange) steps
+pub plan_valid : (plan : Plan) (steps : List Step) → steps ≡ plan.steps → IsFaultlessPlan plan → IsValidRun (configs_of plan) (offered_on offers_exchange offers_exchange) steps
 plan_valid plan steps same f = record {
   valid = f.valid.valid;
   names = f.valid.names;
@@ -192,9 +192,9 @@ kept_fault (Some f) e kept (inl m) = absurd (kept m)
 kept_fault (Some f) e kept (inr h) = h
 
 -- what is answered to it
-refused_answer : (plan : Plan) (e : Error) (answer : Answer) → IsPlanCause plan e → IfSome (fault_of plan) (λ f. (e ≡ errors.Memory) ⊎ (e ≡ errors.InvalidConfig f)) → (IsFaultlessPlan plan → e ≡ errors.Memory) → IsRefusal e answer → AnswersPlan plan answer
-refused_answer plan e answer cause configs complete r = subst (AnswersPlan plan) (sym r.0) (record { kept = r.1; cause = cause; config = kept_fault (fault_of plan) e r.1 configs; faulty = λ f. r.1 (complete f) })
+refused_answer : (plan : Plan) (e : Error) (answer : Answer) → IsPlanCause plan e → IfSome (plan_config_fault plan) (λ f. (e ≡ errors.Memory) ⊎ (e ≡ errors.InvalidConfig f)) → (IsFaultlessPlan plan → e ≡ errors.Memory) → IsRefusedLink e answer → AnswersPlan plan answer
+refused_answer plan e answer cause configs complete r = subst (AnswersPlan plan) (sym r.0) (record { kept = r.1; cause = cause; config = kept_fault (plan_config_fault plan) e r.1 configs; faulty = λ f. r.1 (complete f) })
 
-pub plan_refused : {E : Type 0} → (plan : Plan) (e : Error) (r : Result Answer E) → IsPlanCause plan e → IfSome (fault_of plan) (λ f. (e ≡ errors.Memory) ⊎ (e ≡ errors.InvalidConfig f)) → (IsFaultlessPlan plan → e ≡ errors.Memory) → IfOk r (IsRefusal e) → IfOk r (λ answer. AnswersPlan plan answer)
+pub plan_refused : {E : Type 0} → (plan : Plan) (e : Error) (r : Result Answer E) → IsPlanCause plan e → IfSome (plan_config_fault plan) (λ f. (e ≡ errors.Memory) ⊎ (e ≡ errors.InvalidConfig f)) → (IsFaultlessPlan plan → e ≡ errors.Memory) → IfOk r (IsRefusedLink e) → IfOk r (λ answer. AnswersPlan plan answer)
 plan_refused plan e (Ok answer) cause configs complete r = refused_answer plan e answer cause configs complete r
 plan_refused plan e (Err f) cause configs complete r = tt

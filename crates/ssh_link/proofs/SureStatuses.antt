@@ -8,7 +8,7 @@ use Rattle.ssh_script.specs.Generated.{generated_plan}
 use Rattle.ssh_script.specs.Plans.{Plan}
 use Rattle.ssh_script.specs.declared.step.ClearStep.{ClearStep}
 use Rattle.ssh_link.specs.PlanParts.{IsFaultlessPlan, IsValidPlan}
-use Rattle.ssh_link.specs.Program.{AnswersAttack, AnswersAttackScript, AnswersCommand, AnswersGen, AnswersLinkScript, AnswersPlan, AnswersScript, AnswersSteps, IsAttackable, IsClearable, IsGenerated, IsRunnable, answer_status, command_in, reads}
+use Rattle.ssh_link.specs.Program.{AnswersAttack, AnswersAttackScript, AnswersCommand, AnswersGen, AnswersLinkScript, AnswersPlan, AnswersScript, AnswersSteps, IsAttackable, IsClearable, IsGenerated, IsRunnable, answer_status, command_in, needs_script}
 use Rattle.ssh_link.specs.declared.answer.Answer.{Answer}
 use Rattle.ssh_link.specs.declared.answer.Answer.TheVariants.{Faulty, Refused, Ran, RanLink, RanGen, RanAttack}
 use Rattle.ssh_link.specs.declared.command.Command.TheVariants.{Script, Gen}
@@ -48,26 +48,26 @@ gen_told plan (RanAttack report) h = absurd h
 
 -- what the calls are told of a command's words
 abbrev pub IsSure : List (List ℕ) → Option (List ℕ) → Type 0
-IsSure words left = HasOneStatus command_in reads AnswersCommand answer_status words left report_written
+IsSure words left = HasOneStatus command_in needs_script AnswersCommand answer_status words left report_written
 
 pub clear_sure : (words : List (List ℕ)) (left : Option (List ℕ)) → IsClearable words left → IsSure words left
-clear_sure words left c = one_to_script command_in reads AnswersCommand answer_status words left report_written (Script command.Clear) c.text c.named refl c.left_is
+clear_sure words left c = one_to_script command_in needs_script AnswersCommand answer_status words left report_written (Script command.Clear) c.text c.named refl c.left_is
     (λ answer a. clear_told c.steps answer c.good (subst (λ script. AnswersScript script answer) c.is_script a))
 
 pub run_sure : (words : List (List ℕ)) (left : Option (List ℕ)) → IsRunnable words left → IsSure words left
-run_sure words left c = one_to_script command_in reads AnswersCommand answer_status words left report_written (Script command.Run) c.text c.named refl c.left_is
+run_sure words left c = one_to_script command_in needs_script AnswersCommand answer_status words left report_written (Script command.Run) c.text c.named refl c.left_is
     (λ answer a. run_told c.plan answer c.faultless (subst (λ script. AnswersLinkScript script answer) c.is_script a))
 
 pub attack_sure : (words : List (List ℕ)) (left : Option (List ℕ)) → IsAttackable words left → IsSure words left
-attack_sure words left c = one_to_script command_in reads AnswersCommand answer_status words left report_written (Script command.Attack) c.text c.named refl c.left_is
+attack_sure words left c = one_to_script command_in needs_script AnswersCommand answer_status words left report_written (Script command.Attack) c.text c.named refl c.left_is
     (λ answer a. attack_told c.plan answer c.valid (subst (λ script. AnswersAttackScript script answer) c.is_script a))
 
 pub gen_sure : (words : List (List ℕ)) (left : Option (List ℕ)) → IsGenerated words → IsSure words left
-gen_sure words left (seed, count, named) = one_to_none command_in reads AnswersCommand answer_status words left report_written (Gen seed count) named refl
+gen_sure words left (seed, count, named) = one_to_none command_in needs_script AnswersCommand answer_status words left report_written (Gen seed count) named refl
     (λ answer a. gen_told (generated_plan seed count) answer a)
 
 -- a generated script isn't read
-pub gen_unread : (words : List (List ℕ)) → IsGenerated words → IsReading command_in reads words → ⊥
+pub gen_unread : (words : List (List ℕ)) → IsGenerated words → IsReading command_in needs_script words → ⊥
 gen_unread words (seed, count, named) (other, is, r) =
-    let s : false ≡ true = subst (λ c. reads c ≡ true) (one_of other (Gen seed count) (command_in words) is named) r in
+    let s : false ≡ true = subst (λ c. needs_script c ≡ true) (one_of other (Gen seed count) (command_in words) is named) r in
     cc

@@ -60,9 +60,9 @@ command_in (word ∷ seed ∷ count ∷ []) = if bytes_eq word (codes "gen") the
 command_in (word ∷ seed ∷ count ∷ more ∷ words) = None
 
 -- whether a command reads a script
-abbrev pub reads : Command → Bool
-reads (Script command) = true
-reads (Gen seed count) = false
+abbrev pub needs_script : Command → Bool
+needs_script (Script command) = true
+needs_script (Gen seed count) = false
 
 -- the version line of the client
 abbrev pub client_id : SshId
@@ -88,8 +88,8 @@ AnswersScript (Err fault) answer = answer ≡ Faulty fault
 AnswersScript (Ok steps) answer = AnswersSteps steps answer
 
 -- the answer is an error, which isn't want of memory
-abbrev pub IsRefusal : Error → Answer → Type 0
-IsRefusal e answer = (answer ≡ Refused e) × (e ≢ Memory)
+abbrev pub IsRefusedLink : Error → Answer → Type 0
+IsRefusedLink e answer = (answer ≡ Refused e) × (e ≢ Memory)
 
 -- what is answered to a plan of a link: why its run was refused, or the report of its run
 abbrev pub AnswersPlan : Plan → Answer → Type 0
@@ -214,9 +214,9 @@ ShowsNone end = (end.clear ≡ None) × (end.report ≡ None) × (end.attack ≡
 -- Where a script was run, or its run refused, the source was read to its end.
 pub record IsReadWhole (words : List (List ℕ)) (answer : Option Answer) (old new : Option (List ℕ)) : Type 0 where
   pub run_end : OnSome (shown_clear answer) (ReachesEnd old new)
-  pub link_end : IsReading command_in reads words → OnSome (shown_report answer) (ReachesEnd old new)
+  pub link_end : IsReading command_in needs_script words → OnSome (shown_report answer) (ReachesEnd old new)
   pub attack_end : OnSome (shown_attack answer) (ReachesEnd old new)
-  pub refused_end : IsReading command_in reads words → OnSome (shown_refused answer) (ReachesEnd old new)
+  pub refused_end : IsReading command_in needs_script words → OnSome (shown_refused answer) (ReachesEnd old new)
 
 -- The words are those of the command `attack`, and the text that is left is a script whose configurations no test refuses.
 pub record IsAttackable (words : List (List ℕ)) (left : Option (List ℕ)) : Type 0 where

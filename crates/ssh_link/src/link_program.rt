@@ -13,7 +13,7 @@ use std::alloc::{AllocError, Global};
 pub struct LinkProgram;
 
 impl Program for LinkProgram {
-    ghost use Rattle.ssh_link.specs.Program.{AnswersCommand, answer_status, answer_text, command_in, reads};
+    ghost use Rattle.ssh_link.specs.Program.{AnswersCommand, answer_status, answer_text, command_in, needs_script};
     ghost use Rattle.ssh_link.specs.Alike.{answers_alike};
 
     type Command = Command;
@@ -22,7 +22,7 @@ impl Program for LinkProgram {
 
     ghost command_in = { command_in };
 
-    ghost reads = { reads };
+    ghost reads = { needs_script };
 
     ghost answers = { AnswersCommand };
 

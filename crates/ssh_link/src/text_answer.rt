@@ -5,7 +5,7 @@ ghost use Rattle.ssh_wire.specs.declared.ssh_id.SshId.TheVariants.{Standard};
 ghost use Rattle.ssh_lines.specs.LineFaults.{IsRefusal as IsScriptRefusal};
 ghost use Rattle.ssh_script.specs.Plans.{HasSmallGroups};
 ghost use Rattle.ssh_script.specs.Generated.{generated_plan};
-ghost use Rattle.ssh_link.specs.Program.{AnswersAttack, AnswersAttackScript, AnswersGen, AnswersSteps, AnswersScript, AnswersLinkScript, AnswersPlan, AnswersText, IsRefusal};
+ghost use Rattle.ssh_link.specs.Program.{AnswersAttack, AnswersAttackScript, AnswersGen, AnswersSteps, AnswersScript, AnswersLinkScript, AnswersPlan, AnswersText, IsRefusedLink};
 ghost use Rattle.ssh_script.specs.Script.{clear_script};
 ghost use Rattle.ssh_script.specs.RunScript.{link_script};
 ghost use Rattle.ssh_vectors.specs.Primes.{IsLawful};
@@ -141,7 +141,7 @@ fn attacked_answer(alloc: Global, script: Script) -> Result<Answer, AllocError>
 
 /// What is answered to a refused run; want of memory is no refusal.
 fn refused(error: Error) -> Result<Answer, AllocError>
-    ensures answer { IfOk result (IsRefusal error) }
+    ensures answer { IfOk result (IsRefusedLink error) }
 {
     match error {
         Error::Memory => Err(AllocError),

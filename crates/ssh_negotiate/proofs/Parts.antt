@@ -11,7 +11,7 @@ use Rattle.ssh_packet.specs.declared.cipher.Name as ciphers
 use Rattle.ssh_wire.specs.declared.error.AlgorithmKind.TheVariants.{Kex, Mac}
 use Rattle.ssh_negotiate.specs.Advertised.{Offers, mac_text, is_foreign, host_names, offers_with}
 use Rattle.ssh_negotiate.specs.Chosen.{◌>>=◌, mac_under, or_err, without_extensions}
-use Rattle.ssh_negotiate.specs.Reading.{KexinitFault, Inconsistent, Encoding, NoCommon, AnswersReading, IsRefusal, common, field, at_end, read_rest, select, select_mac, compared_kex, both_strict, read_fields, names_read}
+use Rattle.ssh_negotiate.specs.Reading.{KexinitFault, Inconsistent, Encoding, NoCommon, AnswersReading, IsKindRefusal, common, field, at_end, read_rest, select, select_mac, compared_kex, both_strict, read_fields, names_read}
 use Rattle.ssh_negotiate.specs.Parts.{RefusesReading, GivesFront, front_taken, with_lists, with_rest, hosts_part}
 use Rattle.ssh_negotiate.specs.Preferences.{Preferences}
 use Rattle.ssh_negotiate.specs.Tables.{kex_text}
@@ -206,7 +206,7 @@ mac_none : (side : Side) (over : ciphers.Name) (own : List macs.Name) (peer : Li
 unfolding or_err
 mac_none side over own peer e = ap (or_err (NoCommon Mac (map mac_text own) peer)) (sym e)
 
-pub mac_refused : (side : Side) (over : ciphers.Name) (own : List macs.Name) (peer : List (List ℕ)) (error : Error) → None ≡ mac_under over (common mac_text side own peer) → IsRefusal Mac (map mac_text own) peer error → AnswersReading (select_mac side over own peer) (Err error)
+pub mac_refused : (side : Side) (over : ciphers.Name) (own : List macs.Name) (peer : List (List ℕ)) (error : Error) → None ≡ mac_under over (common mac_text side own peer) → IsKindRefusal Mac (map mac_text own) peer error → AnswersReading (select_mac side over own peer) (Err error)
 mac_refused side over own peer error e (inl memory) = inl memory
 mac_refused side over own peer error e (inr answer) = inr (NoCommon Mac (map mac_text own) peer, mac_none side over own peer e, answer)
 

@@ -8,7 +8,7 @@ use Rattle.ssh_wire.specs.declared.error.Error.{Error}
 use Rattle.ssh_wire.specs.declared.side.Side.{Side}
 use Rattle.ssh_wire.specs.declared.side.Side.TheVariants.{Server}
 use Rattle.ssh_negotiate.specs.Chosen.{◌>>=◌, or_err}
-use Rattle.ssh_negotiate.specs.Reading.{NoCommon, AnswersReading, IsRefusal, common, own_with, same_first, select}
+use Rattle.ssh_negotiate.specs.Reading.{NoCommon, AnswersReading, IsKindRefusal, common, own_with, same_first, select}
 use Rattle.ssh_negotiate.proofs.Choices.{server_common, text_of_found}
 
 pub some_selected : {A : Type 0} (text : A → List ℕ) (side : Side) (kind : AlgorithmKind) (own : List A) (peer : List (List ℕ)) (a : A) (flag : Bool) → Some a ≡ common text side own peer → flag ≡ same_first (map text own) peer → select text side kind own peer ≡ Ok (flag, a)
@@ -22,7 +22,7 @@ unfolding select or_err ◌>>=◌
 none_selected text side kind own peer found =
     ap (λ o. or_err (NoCommon kind (map text own) peer) o >>= λ x. Ok (same_first (map text own) peer, x)) (sym found)
 
-pub refused_selected : {A : Type 0} (text : A → List ℕ) (side : Side) (kind : AlgorithmKind) (own : List A) (peer : List (List ℕ)) (error : Error) → None ≡ common text side own peer → IsRefusal kind (map text own) peer error → AnswersReading (select text side kind own peer) (Err error)
+pub refused_selected : {A : Type 0} (text : A → List ℕ) (side : Side) (kind : AlgorithmKind) (own : List A) (peer : List (List ℕ)) (error : Error) → None ≡ common text side own peer → IsKindRefusal kind (map text own) peer error → AnswersReading (select text side kind own peer) (Err error)
 refused_selected text side kind own peer error found (inl memory) = inl memory
 refused_selected text side kind own peer error found (inr answer) = inr (NoCommon kind (map text own) peer, none_selected text side kind own peer found, answer)
 

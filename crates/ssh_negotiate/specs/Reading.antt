@@ -138,15 +138,15 @@ AnswersReading read (Err error) = (error ≡ errors.Memory)
     ⊎ ((fault : KexinitFault) × (read ≡ Err fault) × AnswersFault fault error)
 
 -- the refusal of a kind without a common name, or want of memory
-abbrev pub IsRefusal : AlgorithmKind → List (List ℕ) → List (List ℕ) → Error → Type 0
-IsRefusal kind ours theirs error = (error ≡ errors.Memory) ⊎ AnswersFault (NoCommon kind ours theirs) error
+abbrev pub IsKindRefusal : AlgorithmKind → List (List ℕ) → List (List ℕ) → Error → Type 0
+IsKindRefusal kind ours theirs error = (error ≡ errors.Memory) ⊎ AnswersFault (NoCommon kind ours theirs) error
 
 -- ---- what is written
 
 -- whose KEXINIT it is: a server's, where its keys are given
-abbrev pub side_of : Option Hosts → Side
-side_of None = Client
-side_of (Some hosts) = Server
+abbrev pub kexinit_side : Option Hosts → Side
+kexinit_side None = Client
+kexinit_side (Some hosts) = Server
 
 abbrev pub own_hosts : Option Hosts → Hosts
 own_hosts None = record { keys = []; certificates = [] }
@@ -154,7 +154,7 @@ own_hosts (Some hosts) = hosts
 
 -- what is offered
 abbrev pub offered_by : Preferences → Option Hosts → Offers
-offered_by preferences hosts = offers (side_of hosts) preferences (own_hosts hosts)
+offered_by preferences hosts = offers (kexinit_side hosts) preferences (own_hosts hosts)
 
 -- what is handed in as a slice, or not at all
 abbrev pub slice_list : {A : Type 0} → Option (Bor (List A)) → Option (List A)

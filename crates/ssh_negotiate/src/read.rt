@@ -9,7 +9,7 @@ ghost use Rattle.ssh_wire.specs.declared.error.AlgorithmKind.TheVariants.{Kex};
 ghost use Rattle.ssh_negotiate.specs.Advertised.{is_foreign, mac_text, offers_with};
 ghost use Rattle.ssh_negotiate.specs.Chosen.{algorithm_of, asks, is_certificate, mac_under, names_with, without_extensions};
 ghost use Rattle.ssh_negotiate.specs.Parts.{GivesFront, ciphers_part, compressions_part, with_guess, hosts_part, macs_part, front_taken, with_lists, with_rest};
-ghost use Rattle.ssh_negotiate.specs.Reading.{AnswersReading, IsRefusal, compared_kex, is_extension_text, slice_list, names_read, read_fields, read_rest, select, select_mac, strict_name};
+ghost use Rattle.ssh_negotiate.specs.Reading.{AnswersReading, IsKindRefusal, compared_kex, is_extension_text, slice_list, names_read, read_fields, read_rest, select, select_mac, strict_name};
 ghost use Rattle.ssh_negotiate.specs.Tables.{kex_text};
 
 use crate::kex;
@@ -317,7 +317,7 @@ fn choice_with<A: AsName + Copy>(
 
 /// The refusal where there is no common name, with the list that was read. Memory.
 fn refusal_with<A: AsName>(alloc: Global, kind: AlgorithmKind, own: &[A], peer: NameList) -> Error
-    ensures { IsRefusal kind (map A.text own.now) peer.0.items result }
+    ensures { IsKindRefusal kind (map A.text own.now) peer.0.items result }
 {
     match texts_of(alloc, own) {
         Ok(ours) => Error::NoCommonAlgo {

@@ -6,7 +6,7 @@ use Rattle.std.proofs.Math.ListN.{drop_of_length-le}
 use Rattle.std.proofs.Math.Seq.{take-append-add, take-append_seam, drop-append_seam}
 use Rattle.rand_core.specs.Stream.{Stream}
 use Rattle.ssh_wire.specs.Forms.{u32be}
-use Rattle.ssh_aes.proofs.Lemmas.{AreBytes-drop}
+use Rattle.ssh_aes.proofs.Lemmas.{AreOctets-drop}
 use Rattle.ssh_wire.specs.Forms.{AreBytes}
 use Rattle.ssh_packet.specs.Sealing.{Sealing, framed_text, item_padded_by, item_of, padding_length}
 use borrow.Rule.Slice.PartMut.{put_mid}
@@ -94,4 +94,4 @@ part_behind old now n same = take_rest now n ∙ ap (drop n) same
 pub bytes_behind : (a : ℕ) (xs ys : List ℕ) → AreBytes (put_mid a (length xs - a) xs ys) → AreBytes ys
 bytes_behind a xs ys h =
     let joined : AreBytes (take a xs ++ ys) = subst AreBytes (put_behind a (length xs - a) xs ys (omega arith)) h in
-    subst AreBytes (drop-append_seam (take a xs) ys) (AreBytes-drop (length (take a xs)) (take a xs ++ ys) joined)
+    subst AreBytes (drop-append_seam (take a xs) ys) (AreOctets-drop (length (take a xs)) (take a xs ++ ys) joined)

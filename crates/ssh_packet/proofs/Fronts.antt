@@ -12,7 +12,7 @@ use Rattle.ssh_aes.specs.Gcm.{gcm_text, gcm_tag, gcm_plain, cipher_tag}
 use Rattle.ssh_aes.specs.Modes.{Running, masked_text, unmasked_text, running_after, running_past}
 use Rattle.ssh_mac.proofs.Lemmas.{tags_have_length}
 use Rattle.ssh_mac.specs.Tags.{MacOf, tag_of, is_encrypt_then_mac}
-use Rattle.ssh_aes.proofs.Lemmas.{AreBytes-drop, opens_well, runs_well, gcm_well}
+use Rattle.ssh_aes.proofs.Lemmas.{AreOctets-drop, opens_well, runs_well, gcm_well}
 use Rattle.ssh_packet.proofs.Shapes.{cut_alike, front_framed, length_framed, framed_bytes, length_take4, item_alike}
 use Rattle.ssh_packet.specs.Front.{Fault, Front, Whole, Unfinished, Refused, probe_text, length_in, is_bad_length, decrypted_text, text_in, opened_past, packet_of, key_behind, tagged_text, tag_for, tag_fault, front_parts, front_parts_by, front_if_tagged, front_if_whole, front_by_length, front_of}
 use Rattle.ssh_wire.specs.Forms.{AreBytes}
@@ -87,7 +87,7 @@ rejoined t u v h e f = ap (λ x. x ++ v) e ∙ (ap (λ x. take 4 t ++ x) f ∙ t
 decrypted_back : (etm : Bool) (r : Running) (t : List ℕ) → AreBytes t → 4 ≤ length t → decrypted_text etm r (body_by etm r t) ≡ t
 unfolding body_by
 decrypted_back true r t b h =
-    rejoined t _ _ h (take_headed t _ h) (ap (unmasked_text r) (drop_headed t _ h) ∙ (opens_well r).opens (drop 4 t) (AreBytes-drop 4 t b))
+    rejoined t _ _ h (take_headed t _ h) (ap (unmasked_text r) (drop_headed t _ h) ∙ (opens_well r).opens (drop 4 t) (AreOctets-drop 4 t b))
 decrypted_back false r t b h = (opens_well r).opens t b
 
 text_back : (s : Sealing) (t : List ℕ) → AreBytes t → 4 ≤ length t → text_in s (body s t) ≡ t
@@ -98,7 +98,7 @@ text_back (Gcm key nonce) t b h =
     let encrypted_part = gcm_text key nonce (take 4 t) (drop 4 t) in
     rejoined t _ _ h (take_headed t encrypted_part h)
     (ap (λ a. gcm_plain key nonce a (drop 4 (take 4 t ++ encrypted_part))) (take_headed t encrypted_part h)
-    ∙ (ap (gcm_plain key nonce (take 4 t)) (drop_headed t encrypted_part h) ∙ (gcm_well key nonce).opens (take 4 t) (drop 4 t) (AreBytes-drop 4 t b)))
+    ∙ (ap (gcm_plain key nonce (take 4 t)) (drop_headed t encrypted_part h) ∙ (gcm_well key nonce).opens (take 4 t) (drop 4 t) (AreOctets-drop 4 t b)))
 
 -- the tag that belongs to it is the one behind it
 covered_back : (etm : Bool) (r : Running) (t : List ℕ) → AreBytes t → tagged_text etm r (body_by etm r t) ≡ over etm r t

@@ -9,7 +9,7 @@ use Rattle.ssh_aes.specs.Laws.{RunsWell}
 use Rattle.ssh_aes.specs.Modes.{Running, masked_text, shortest_text}
 use Rattle.ssh_mac.proofs.Lemmas.{tags_have_length}
 use Rattle.ssh_mac.specs.Tags.{MacOf, tag_of, is_encrypt_then_mac}
-use Rattle.ssh_aes.proofs.Lemmas.{AreBytes-append, AreBytes-cons, AreBytes-four, AreBytes-drop, runs_well, gcm_well}
+use Rattle.ssh_aes.proofs.Lemmas.{AreOctets-append, AreOctets-cons, AreOctets-four, AreOctets-drop, runs_well, gcm_well}
 use Rattle.ssh_wire.specs.Forms.{AreBytes}
 use Rattle.ssh_packet.specs.Sealing.{Item, Sealing, Clear, Block, Gcm, framed_text, packet_length, text_with_tag, sealed_packet, shortest_encrypted, shortest_packet, IsAdmissible}
 
@@ -31,7 +31,7 @@ pub length_take4 : (t : List ℕ) → 4 ≤ length t → length (take 4 t) ≡ 4
 length_take4 t h = grind (arith, common_steps)
 
 bytes_u32 : (n : ℕ) → AreBytes (to_be_bytes w32 n)
-bytes_u32 n = AreBytes-four (n / 16777216 % 256) (n / 65536 % 256) (n / 256 % 256) (n % 256) (omega arith) (omega arith) (omega arith) (omega arith)
+bytes_u32 n = AreOctets-four (n / 16777216 % 256) (n / 65536 % 256) (n / 256 % 256) (n % 256) (omega arith) (omega arith) (omega arith) (omega arith)
 
 pub u32_injective : (m n : ℕ) → m < 2 ^ 32 → n < 2 ^ 32 → to_be_bytes w32 m ≡ to_be_bytes w32 n → m ≡ n
 u32_injective m n hm hn e = sym (from_be_bytes-to_be_bytes_4 m hm) ∙ (ap (from_be_bytes w32) e ∙ from_be_bytes-to_be_bytes_4 n hn)
@@ -55,8 +55,8 @@ length_framed a = omega (arith, length-append a.payload a.padding)
 pub framed_bytes : (sealing : Sealing) (a : Item) → IsAdmissible sealing a → AreBytes (framed_text a)
 unfolding framed_text
 framed_bytes sealing a h =
-    AreBytes-append (to_be_bytes w32 (packet_length a)) (length a.padding ∷ (a.payload ++ a.padding)) (bytes_u32 (packet_length a))
-    (AreBytes-cons (length a.padding) (a.payload ++ a.padding) h.padding (AreBytes-append a.payload a.padding h.payload_bytes h.padding_bytes))
+    AreOctets-append (to_be_bytes w32 (packet_length a)) (length a.padding ∷ (a.payload ++ a.padding)) (bytes_u32 (packet_length a))
+    (AreOctets-cons (length a.padding) (a.payload ++ a.padding) h.padding (AreOctets-append a.payload a.padding h.payload_bytes h.padding_bytes))
 
 framed_injective : (a b : Item) → packet_length a ≡ packet_length b → framed_text a ≡ framed_text b → a ≡ b
 unfolding framed_text
@@ -121,7 +121,7 @@ headed_injective body tag same injective s t os ot h e =
     let even : length (drop 4 s) ≡ length (drop 4 t) = omega (arith, length-drop {A = ℕ}, h) in
     let bodies = cut_alike (body (take 4 s) (drop 4 s)) (body (take 4 t) (drop 4 t)) _ _ (same (take 4 s) (drop 4 s) ∙ (even ∙ sym (same (take 4 t) (drop 4 t)))) heads.1 in
     let one_head : body (take 4 s) (drop 4 s) ≡ body (take 4 s) (drop 4 t) = bodies.0 ∙ ap (λ k. body k (drop 4 t)) (sym heads.0) in
-    let tails : drop 4 s ≡ drop 4 t = injective (take 4 s) (drop 4 s) (drop 4 t) (AreBytes-drop 4 s os.bytes) (AreBytes-drop 4 t ot.bytes) even one_head in
+    let tails : drop 4 s ≡ drop 4 t = injective (take 4 s) (drop 4 s) (drop 4 t) (AreOctets-drop 4 s os.bytes) (AreOctets-drop 4 t ot.bytes) even one_head in
     sym (take-append-drop 4 s) ∙ ((ap (λ k. k ++ drop 4 s) heads.0 ∙ ap (λ k. take 4 t ++ k) tails) ∙ take-append-drop 4 t)
 
 -- four bytes in clear, then a body and a tag that these four and the rest determine

@@ -7,7 +7,7 @@ use Rattle.std.proofs.lemmas.Nat.{be_bytes_4}
 use Rattle.std.proofs.lemmas.Slice.Eq.{bytes_eq-Decides}
 use Rattle.std.specs.Int.{w32, from_be_bytes, to_be_bytes}
 use Rattle.std.specs.Str.{bytes_eq}
-use Rattle.ssh_aes.proofs.Lemmas.{closes_well, AreBytes-append, AreBytes-drop, gcm_closes_well}
+use Rattle.ssh_aes.proofs.Lemmas.{closes_well, AreOctets-append, AreOctets-drop, gcm_closes_well}
 use Rattle.ssh_aes.specs.Gcm.{gcm_plain, gcm_text, gcm_tag}
 use Rattle.ssh_aes.specs.Modes.{Running, masked_text, unmasked_text}
 use Rattle.ssh_mac.specs.Tags.{tag_of, is_encrypt_then_mac}
@@ -36,13 +36,13 @@ length_text (Block r mac) p h = length_decrypted (is_encrypt_then_mac mac) r p h
 length_text (Gcm key nonce) p h = length_headed p _ h ((gcm_closes_well key nonce).same_length (take 4 p) (drop 4 p))
 
 decrypted_bytes : (etm : Bool) (r : Running) (p : List ℕ) → AreBytes p → AreBytes (decrypted_text etm r p)
-decrypted_bytes true r p b = AreBytes-append (take 4 p) _ (bytes_take p 4 b) ((closes_well r).bytes (drop 4 p) (AreBytes-drop 4 p b))
+decrypted_bytes true r p b = AreOctets-append (take 4 p) _ (bytes_take p 4 b) ((closes_well r).bytes (drop 4 p) (AreOctets-drop 4 p b))
 decrypted_bytes false r p b = (closes_well r).bytes p b
 
 text_bytes : (s : Sealing) (p : List ℕ) → AreBytes p → AreBytes (text_in s p)
 text_bytes Clear p b = b
 text_bytes (Block r mac) p b = decrypted_bytes (is_encrypt_then_mac mac) r p b
-text_bytes (Gcm key nonce) p b = AreBytes-append (take 4 p) _ (bytes_take p 4 b) ((gcm_closes_well key nonce).bytes (take 4 p) (drop 4 p) (AreBytes-drop 4 p b))
+text_bytes (Gcm key nonce) p b = AreOctets-append (take 4 p) _ (bytes_take p 4 b) ((gcm_closes_well key nonce).bytes (take 4 p) (drop 4 p) (AreOctets-drop 4 p b))
 
 -- a head of four bytes and something behind it, made of the two parts of p
 headed_again : (p u : List ℕ) (f g : List ℕ → List ℕ → List ℕ) → 4 ≤ length p → (let t : List ℕ = take 4 p ++ u in take 4 t ++ (f (take 4 t) (drop 4 t) ++ g (take 4 t) (drop 4 t))) ≡ take 4 p ++ (f (take 4 p) u ++ g (take 4 p) u)
@@ -55,7 +55,7 @@ headed_whole p u x e = ap (λ d. take 4 p ++ (d ++ x)) e ∙ (sym (append_assoc 
 
 enclosed_again : (etm : Bool) (r : Running) (tag : List ℕ → List ℕ) (p : List ℕ) → AreBytes p → 4 ≤ length p → text_with_tag etm (masked_text r) tag (decrypted_text etm r p) ≡ p ++ tag (tagged_text etm r p)
 enclosed_again true r tag p b h =
-    let again = (closes_well r).closes (drop 4 p) (AreBytes-drop 4 p b) in
+    let again = (closes_well r).closes (drop 4 p) (AreOctets-drop 4 p b) in
     headed_again p (unmasked_text r (drop 4 p)) (λ a d. masked_text r d) (λ a d. tag (a ++ masked_text r d)) h
     ∙ (ap (λ d. take 4 p ++ (d ++ tag (take 4 p ++ d))) again
     ∙ (headed_whole p (drop 4 p) _ refl ∙ ap (λ d. p ++ tag d) (take-append-drop 4 p)))
@@ -179,8 +179,8 @@ found s number n padding bytes b long shown good whole tag at fits =
         short = omega (arith, total, good_short);
         probed = omega (arith, total, good_probed);
         shown = omega (arith, total, good_shown);
-        payload_bytes = bytes_take (drop 5 text) (n - 1 - padding) (AreBytes-drop 5 text tb);
-        padding_bytes = AreBytes-drop (n - 1 - padding) (drop 5 text) (AreBytes-drop 5 text tb);
+        payload_bytes = bytes_take (drop 5 text) (n - 1 - padding) (AreOctets-drop 5 text tb);
+        padding_bytes = AreOctets-drop (n - 1 - padding) (drop 5 text) (AreOctets-drop 5 text tb);
       };
       bytes_are = sym (ap (λ x. x ++ drop (tag_size s) behind) bytes_there
           ∙ (append_assoc p (take (tag_size s) behind) (drop (tag_size s) behind)

@@ -10,7 +10,7 @@ use Rattle.ssh_negotiate.specs.declared.kex.Name.{Name as KexName}
 use Rattle.ssh_kex.specs.Setting.{Says}
 use Rattle.ssh_kex.specs.declared.config.Config.{Config}
 use Rattle.ssh_kex.specs.declared.exchange.FinishedExchange.{FinishedExchange}
-use Rattle.ssh_rules.specs.AttackCauses.{IsAnsweredSide, IsAttackedRun, PartsDo, RefusesNow, judged_in, packet_at, seen_in, text_of}
+use Rattle.ssh_rules.specs.AttackCauses.{IsAnsweredSide, IsAttackedRun, PartsDo, RefusesNow, judged_in, refused_packet_at, seen_in, text_of}
 use Rattle.ssh_rules.specs.Attacked.{accepted_of, ends_asked, fed_to, first_refusal}
 use Rattle.ssh_rules.specs.Attacking.{AttackedEnd, AttacksSide, Tells, attacked_report}
 use Rattle.ssh_rules.specs.Asking.{AsksAtMost, kex_count}
@@ -74,7 +74,7 @@ answered_side t p side config steps answers first new tells offered valid n h ex
           (λ l i e. by_table t p side config log (fed_to side steps) l i e tells (tests side config valid).5) r.answered;
       accepted = all_accepted t.says p.offers side config (text_of (id_text_in (heard_in side (fed_to side steps)))) (wrote log) log went.st offered went.steps
           (λ x known. ap text_of (sym went.heard ∙ known));
-      asked = subst (λ x. AsksAtMost (kex_count (handled log ++ packet_at (run_ending t side config steps answers new r))) x p.after) before (subst (λ x. AsksAtMost (kex_count (handled log ++ packet_at (run_ending t side config steps answers new r))) t.calls x) after (run_asks t side config steps answers new r));
+      asked = subst (λ x. AsksAtMost (kex_count (handled log ++ refused_packet_at (run_ending t side config steps answers new r))) x p.after) before (subst (λ x. AsksAtMost (kex_count (handled log ++ refused_packet_at (run_ending t side config steps answers new r))) t.calls x) after (run_asks t side config steps answers new r));
     }
 
 -- ---- both sides

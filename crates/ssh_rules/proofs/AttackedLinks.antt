@@ -9,8 +9,8 @@ use Rattle.ssh_wire.specs.declared.side.Side.TheVariants.{Client, Server}
 use Rattle.ssh_kex.specs.declared.config.Config.{Config}
 use Rattle.ssh_rules.specs.Attacked.{AnswersFeed, AnswersFeedBy, AreAnswers, CarriesPrefix, FedAnswer, FedSide, IfOwn, Judged, IsAttackedLink, IsAttackedSide, accepted_of, ends_asked, fed_to, first_refusal, handed_to}
 use Rattle.ssh_rules.specs.Attacking.{AttackedEnd, AttacksSide, Tells, attacked_report}
-use Rattle.ssh_rules.specs.Asking.{AsksAtMost, PartCalls, kex_count, packet_of}
-use Rattle.ssh_rules.specs.AttackCauses.{packet_at}
+use Rattle.ssh_rules.specs.Asking.{AsksAtMost, PartCalls, kex_count, refused_packet}
+use Rattle.ssh_rules.specs.AttackCauses.{refused_packet_at}
 use Rattle.ssh_rules.specs.Handled.{AllRead, Ending, heard_in, id_text_in}
 use Rattle.ssh_rules.specs.Log.{handled, recorded, wrote}
 use Rattle.ssh_rules.specs.Machine.{Event}
@@ -35,13 +35,13 @@ ending_by t side config log fed accepted None asked e s = AllRead
 ending_by t side config log fed accepted (Some error) asked e s = ending_of s.cause
 
 -- how often its parts were asked
-packets_of : (cause : RefusalCause) → packet_of cause ≡ packet_at (ending_of cause)
+packets_of : (cause : RefusalCause) → refused_packet cause ≡ refused_packet_at (ending_of cause)
 packets_of (OfFault fault) = refl
 packets_of (OfPacket i) = refl
 packets_of OfVersion = refl
 packets_of OfMemory = refl
 
-asks_by : (t : Tells) (side : Side) (config : Config) (log : List Event) (fed : List ℕ) (accepted : List (List ℕ)) (refusal : Option Error) (asked : Bool) (e : AttackedEnd) → (s : StandsBy t side config log fed accepted refusal asked e) → AsksAtMost (kex_count (handled log ++ packet_at (ending_by t side config log fed accepted refusal asked e s))) t.calls e.calls
+asks_by : (t : Tells) (side : Side) (config : Config) (log : List Event) (fed : List ℕ) (accepted : List (List ℕ)) (refusal : Option Error) (asked : Bool) (e : AttackedEnd) → (s : StandsBy t side config log fed accepted refusal asked e) → AsksAtMost (kex_count (handled log ++ refused_packet_at (ending_by t side config log fed accepted refusal asked e s))) t.calls e.calls
 asks_by t side config log fed accepted None asked e s = subst (λ q. AsksAtMost (kex_count q) t.calls e.calls) (sym (append-nil (handled log))) s.1
 asks_by t side config log fed accepted (Some error) asked e s = subst (λ q. AsksAtMost (kex_count (handled log ++ q)) t.calls e.calls) (packets_of s.cause) s.asks
 
@@ -49,7 +49,7 @@ asks_by t side config log fed accepted (Some error) asked e s = subst (λ q. Ask
 abbrev pub run_ending : (t : Tells) (side : Side) (config : Config) (steps : List AttackStep) (answers : List (Result (Unit {0}) Error)) (new : AttackedEnd) → EndsSide t side config [] [] [] false steps answers new → Ending
 run_ending t side config steps answers new r = ending_by t side config r.more (fed_to side steps) (accepted_of side steps answers) (first_refusal side steps answers) (ends_asked false side steps answers) new r.stands
 
-pub run_asks : (t : Tells) (side : Side) (config : Config) (steps : List AttackStep) (answers : List (Result (Unit {0}) Error)) (new : AttackedEnd) → (r : EndsSide t side config [] [] [] false steps answers new) → AsksAtMost (kex_count (handled r.more ++ packet_at (run_ending t side config steps answers new r))) t.calls new.calls
+pub run_asks : (t : Tells) (side : Side) (config : Config) (steps : List AttackStep) (answers : List (Result (Unit {0}) Error)) (new : AttackedEnd) → (r : EndsSide t side config [] [] [] false steps answers new) → AsksAtMost (kex_count (handled r.more ++ refused_packet_at (run_ending t side config steps answers new r))) t.calls new.calls
 run_asks t side config steps answers new r = asks_by t side config r.more (fed_to side steps) (accepted_of side steps answers) (first_refusal side steps answers) (ends_asked false side steps answers) new r.stands
 
 shown_by : (t : Tells) (agrees : Secrets) (lawful : Type 0) (accepts : Accepting) (trusts : Trusting) (side : Side) (config : Config) (log : List Event) (fed : List ℕ) (accepted : List (List ℕ)) (refusal : Option Error) (asked : Bool) (e : AttackedEnd) → Told t.says agrees lawful accepts trusts side config → (s : StandsBy t side config log fed accepted refusal asked e)

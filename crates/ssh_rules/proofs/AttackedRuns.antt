@@ -1,7 +1,7 @@
 -- An attacked run of one side, step by step: how it stands at the end, and why each step was answered so.
 use Rattle.std.proofs.Common.{◌≡◌, ℕ, ◌+◌, List, [], ◌∷◌, ◌++◌, length, refl, sym, ◌∙◌, ap, subst, arith, Bool, true, false, not, Option, Some, None, if◌then◌else◌, ◌&&◌, append-nil, append_assoc, length-append}
 use Rattle.std.specs.Prelude.{Result, Ok, Err}
-use Rattle.ssh_aes.proofs.Inverses.{AreBytes-append}
+use Rattle.ssh_aes.proofs.Inverses.{AreOctets-append}
 use Rattle.ssh_packet.specs.Sealing.{Item}
 use Rattle.ssh_packet.specs.Stream.{message_type}
 use Rattle.ssh_wire.specs.Forms.{AreBytes}
@@ -17,7 +17,7 @@ use Rattle.ssh_rules.specs.Attacked.{AnswersFeed, AreAnswers, FedAnswer, FedSide
 use Rattle.ssh_rules.specs.Attacking.{AttackedEnd, AttacksSide, FeedsBy, FeedsEnd, OwnStep, RekeysBy, SubmitsBy, Tells}
 use Rattle.ssh_rules.specs.Wire.{HasFront}
 use Rattle.ssh_rules.specs.Handled.{AllRead, AtPacket, Handled, heard_in, id_text_in, packets_in}
-use Rattle.ssh_rules.specs.Asking.{AsksAtMost, PartCalls, kex_count, packet_of}
+use Rattle.ssh_rules.specs.Asking.{AsksAtMost, PartCalls, kex_count, refused_packet}
 use Rattle.ssh_rules.specs.Log.{handled, recorded}
 use Rattle.ssh_rules.specs.Machine.{Event, IsQuiet, SideState, Steps, first_state}
 use Rattle.ssh_rules.specs.MessageTypes.{is_payload_type}
@@ -56,7 +56,7 @@ pub record FailedBy (t : Tells) (side : Side) (config : Config) (log : List Even
   pub stands : FailedSide t.says side config log at cause e.transport fed accepted e.delivered
   pub answers : AnswersCause t.says t.denies t.untrusted side config cause at error
   pub memory : error ≡ errors.Memory → ⊥
-  pub asks : AsksAtMost (kex_count (handled log ++ packet_of cause)) t.calls e.calls
+  pub asks : AsksAtMost (kex_count (handled log ++ refused_packet cause)) t.calls e.calls
 
 -- how many bytes it was fed, and how often its parts were asked
 pub record Counts (t : Tells) (log : List Event) (fed : List ℕ) (e : AttackedEnd) : Type 0 where
@@ -153,7 +153,7 @@ length_either true bytes rest = length-append bytes rest
 length_either false bytes rest = omega arith
 
 bytes_either : (b : Bool) (bytes rest : List ℕ) → AreBytes (if b then bytes else []) → AreBytes rest → AreBytes (if b then bytes ++ rest else rest)
-bytes_either true bytes rest h k = AreBytes-append bytes rest h k
+bytes_either true bytes rest h k = AreOctets-append bytes rest h k
 bytes_either false bytes rest h k = k
 
 none_either : (b : Bool) (p : List ℕ) (rest : List (List ℕ)) (u : Unit {0}) → IfOwn b ((let r : Result (Unit {0}) Error = Ok u in r) ≡ Err errors.Disconnect) → rest ≡ [] → (if b then p ∷ rest else rest) ≡ []
@@ -269,7 +269,7 @@ fails_here t side config log fed bytes accepted asked e old mid l n f = by (subs
       let piece = h.1.refused in
       let over = h.2 in
       let answers = at_old (λ x y. AnswersCause t.says t.denies t.untrusted x y piece.cause piece.refuses.at e) old.transport.side side old.transport.config config l.side_is l.config_is piece.answers in
-      let stands = refused_fails t.says side config log old.transport fed bytes accepted old.delivered asked piece.cause h.0 (AreBytes-append fed bytes l.bytes f.bytes_are) l piece.refuses (not_memory t side config piece.cause piece.refuses.at e answers h.3) in
+      let stands = refused_fails t.says side config log old.transport fed bytes accepted old.delivered asked piece.cause h.0 (AreOctets-append fed bytes l.bytes f.bytes_are) l piece.refuses (not_memory t side config piece.cause piece.refuses.at e answers h.3) in
       record {
         more = piece.refuses.events;
         failed = record {
@@ -279,7 +279,7 @@ fails_here t side config log fed bytes accepted asked e old mid l n f = by (subs
               (subst (λ x. FailedSide t.says side config (log ++ piece.refuses.events) piece.refuses.at piece.cause x (fed ++ bytes) accepted (old.delivered ++ (h.0).delivered)) (sym over.transport) stands);
           answers = answers;
           memory = h.3;
-          asks = asks_on t log piece.refuses.events (packet_of piece.cause) old.calls mid.calls n.asks h.1.few;
+          asks = asks_on t log piece.refuses.events (refused_packet piece.cause) old.calls mid.calls n.asks h.1.few;
         };
       }
 
@@ -296,7 +296,7 @@ fails_answer t side config log fed after accepted e mid f b =
     )
   where
     on : FailedSide t.says side config log f.at f.cause mid.transport (fed ++ after) accepted mid.delivered
-    on = failed_more t.says side config log f.at f.cause mid.transport fed after accepted mid.delivered (AreBytes-append fed after f.stands.bytes b) f.stands
+    on = failed_more t.says side config log f.at f.cause mid.transport fed after accepted mid.delivered (AreOctets-append fed after f.stands.bytes b) f.stands
 
     packet : (cause : RefusalCause) → Rattle.ssh_rules.specs.Standing.IsIdleBefore cause config f.at → RefusedNext cause side fed f.at f.stands.left → AnswersCause t.says t.denies t.untrusted side config cause f.at e → (i : Item) → ending_of cause ≡ AtPacket i → RefusesBehindLog t side config log (id_text_in (heard_in side (fed ++ after))) (handled log) i e
     packet (OfPacket j) idle next answers i same =
@@ -426,7 +426,7 @@ feed_ok t side config log fed bytes accepted asked u old mid l n h = by (subst (
         more = i.events;
         live = subst (λ d. LiveSide t.says side config (log ++ i.events) mid.transport (fed ++ bytes) accepted d false) (sym over.delivered)
             (subst (λ x. LiveSide t.says side config (log ++ i.events) x (fed ++ bytes) accepted (old.delivered ++ (a.0).delivered) false) (sym over.transport)
-            (input_live t.says side config log old.transport fed bytes accepted old.delivered asked a.0 (AreBytes-append fed bytes l.bytes h.bytes_are) l i));
+            (input_live t.says side config log old.transport fed bytes accepted old.delivered asked a.0 (AreOctets-append fed bytes l.bytes h.bytes_are) l i));
         counts = record { taken = (let x = h.taken in let y = length-append fed bytes in let z = n.taken in omega (arith, x, y, z)); asks = subst (λ q. AsksAtMost (kex_count q) t.calls mid.calls) (append-nil (handled (log ++ i.events))) (asks_on t log i.events [] old.calls mid.calls n.asks (subst (λ q. AsksAtMost (kex_count q) old.calls mid.calls) (sym (append-nil (handled i.events))) a.3)) };
       }
 
@@ -544,9 +544,9 @@ run_feed_refused t side config log fed accepted asked s bytes steps f answers ol
     let d = fails_here t side config log fed bytes accepted asked f old mid l n h in
     let all = fed ++ (bytes ++ fed_to side steps) in
     let z = frozen (judged_behind t side config (log ++ d.more) (id_text_in (heard_in side (fed ++ (bytes ++ fed_to side steps))))) t side config (recorded (log ++ d.more)) (fed ++ bytes) steps answers mid new d.failed.stands.failed rest in
-    let on = failed_more t.says side config (log ++ d.more) d.failed.at d.failed.cause mid.transport (fed ++ bytes) (fed_to side steps) accepted mid.delivered (AreBytes-append (fed ++ bytes) (fed_to side steps) d.failed.stands.bytes z.bytes) d.failed.stands in
+    let on = failed_more t.says side config (log ++ d.more) d.failed.at d.failed.cause mid.transport (fed ++ bytes) (fed_to side steps) accepted mid.delivered (AreOctets-append (fed ++ bytes) (fed_to side steps) d.failed.stands.bytes z.bytes) d.failed.stands in
     let there : FailedSide t.says side config (log ++ d.more) d.failed.at d.failed.cause new.transport ((fed ++ bytes) ++ fed_to side steps) accepted new.delivered = subst (λ x. FailedSide t.says side config (log ++ d.more) d.failed.at d.failed.cause new.transport ((fed ++ bytes) ++ fed_to side steps) accepted x) (sym z.delivered) (subst (λ x. FailedSide t.says side config (log ++ d.more) d.failed.at d.failed.cause x ((fed ++ bytes) ++ fed_to side steps) accepted mid.delivered) (sym z.transport) on) in
-    let by_end : FailedBy t side config (log ++ d.more) (fed ++ (bytes ++ fed_to side steps)) (accepted ++ accepted_of side steps answers) f new = subst (λ x. FailedBy t side config (log ++ d.more) (fed ++ (bytes ++ fed_to side steps)) x f new) (sym (ap (λ q. accepted ++ q) z.none ∙ append-nil accepted)) (subst (λ x. FailedBy t side config (log ++ d.more) x accepted f new) (append_assoc fed bytes (fed_to side steps)) (record { at = d.failed.at; cause = d.failed.cause; stands = there; answers = d.failed.answers; memory = d.failed.memory; asks = subst (λ q. AsksAtMost (kex_count (handled (log ++ d.more) ++ packet_of d.failed.cause)) t.calls q) (sym z.calls) d.failed.asks })) in
+    let by_end : FailedBy t side config (log ++ d.more) (fed ++ (bytes ++ fed_to side steps)) (accepted ++ accepted_of side steps answers) f new = subst (λ x. FailedBy t side config (log ++ d.more) (fed ++ (bytes ++ fed_to side steps)) x f new) (sym (ap (λ q. accepted ++ q) z.none ∙ append-nil accepted)) (subst (λ x. FailedBy t side config (log ++ d.more) x accepted f new) (append_assoc fed bytes (fed_to side steps)) (record { at = d.failed.at; cause = d.failed.cause; stands = there; answers = d.failed.answers; memory = d.failed.memory; asks = subst (λ q. AsksAtMost (kex_count (handled (log ++ d.more) ++ refused_packet d.failed.cause)) t.calls q) (sym z.calls) d.failed.asks })) in
     let here : FedAnswer (judged_behind t side config (log ++ d.more) (id_text_in (heard_in side (fed ++ (bytes ++ fed_to side steps))))) side config (recorded (log ++ d.more)) (fed ++ bytes) (Err f) = subst (λ x. FedAnswer (judged_behind t side config (log ++ d.more) (id_text_in (heard_in side x))) side config (recorded (log ++ d.more)) (fed ++ bytes) (Err f)) (append_assoc fed bytes (fed_to side steps)) (fails_answer t side config (log ++ d.more) (fed ++ bytes) (fed_to side steps) accepted f mid d.failed z.bytes) in
     record {
       more = d.more;

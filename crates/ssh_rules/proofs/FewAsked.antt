@@ -11,7 +11,7 @@ use Rattle.ssh_kex.specs.declared.config.Config.{Config}
 use Rattle.ssh_kex.specs.declared.exchange.Exchange.{Exchange}
 use Rattle.ssh_kex.specs.declared.exchange.FinishedExchange.{FinishedExchange}
 use Rattle.ssh_kex.specs.declared.exchange.ServerHost.{ServerHost}
-use Rattle.ssh_rules.specs.Asking.{AsksAtMost, AsksFew, AsksForCause, AsksForType, AsksUntil, AsksWithin, PartCalls, kex_count, packet_of}
+use Rattle.ssh_rules.specs.Asking.{AsksAtMost, AsksFew, AsksForCause, AsksForType, AsksUntil, AsksWithin, PartCalls, kex_count, refused_packet}
 use Rattle.ssh_rules.specs.Calls.{agreement_left, hosts_left, lookups_left}
 use Rattle.ssh_rules.specs.Counting.{CallsFrom, begun, open_count, agreement_to_come, hosts_to_come, lookups_to_come, calls_of, lookups_of}
 use Rattle.ssh_rules.specs.Log.{handled}
@@ -218,18 +218,18 @@ type_few false side w n n' h = subst (λ m. AsksAtMost 0 n m) (sym h) (record { 
 same_few : (n n' : PartCalls) → n' ≡ n → AsksAtMost 0 n n'
 same_few n n' h = subst (λ m. AsksAtMost 0 n m) (sym h) (record { agreement = omega arith; hosts = omega arith; lookups = omega arith })
 
-cause_few : (cause : RefusalCause) (side : Side) (w : Where) (n n' : PartCalls) → AsksForCause cause side w n n' → AsksAtMost (kex_count (packet_of cause)) n n'
+cause_few : (cause : RefusalCause) (side : Side) (w : Where) (n n' : PartCalls) → AsksForCause cause side w n n' → AsksAtMost (kex_count (refused_packet cause)) n n'
 cause_few (OfPacket i) side w n n' h = type_few (is_kex_type (type_of i)) side w n n' h
 cause_few (OfFault fault) side w n n' h = same_few n n' h
 cause_few OfVersion side w n n' h = same_few n n' h
 cause_few OfMemory side w n n' h = same_few n n' h
 
 -- of a piece that is refused
-pub refused_few : (says : Says) (side : Side) (config : Config) (own_id : List ℕ) (log : List Event) (cause : RefusalCause) (st at : SideState) (n n' : PartCalls) → Steps says side config own_id st log at → AsksUntil side cause st at n n' → AsksAtMost (kex_count (handled log ++ packet_of cause)) n n'
+pub refused_few : (says : Says) (side : Side) (config : Config) (own_id : List ℕ) (log : List Event) (cause : RefusalCause) (st at : SideState) (n n' : PartCalls) → Steps says side config own_id st log at → AsksUntil side cause st at n n' → AsksAtMost (kex_count (handled log ++ refused_packet cause)) n n'
 refused_few says side config own_id log cause st at n n' h a =
     let f = few_asked says side config own_id log st at n (a.mid) h a.before in
     let g = cause_few cause side at.stands (a.mid) n' a.last in
-    let j = count_join (handled log) (packet_of cause) in
+    let j = count_join (handled log) (refused_packet cause) in
     record {
       agreement = (let x = f.agreement in let y = g.agreement in omega (arith, x, y, j));
       hosts = (let x = f.hosts in let y = g.hosts in omega (arith, x, y, j));

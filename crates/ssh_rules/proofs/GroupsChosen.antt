@@ -6,7 +6,7 @@ use Rattle.ssh_wire.specs.declared.side.Side.{Side}
 use Rattle.ssh_wire.specs.declared.side.Side.TheVariants.{Client, Server}
 use Rattle.ssh_kex.specs.Messages.{is_gex}
 use Rattle.ssh_kex.specs.Setting.{Opened, Says, Setting}
-use Rattle.ssh_kex.specs.Stages.{AwaitsGroup, AwaitsNewkeys, AwaitsReply, AwaitsRequest, AwaitsValue, Created, OpensBy, Stage, Takes, guess_dropped, names_of}
+use Rattle.ssh_kex.specs.Stages.{AwaitsGroup, AwaitsNewkeys, AwaitsReply, AwaitsRequest, AwaitsValue, Created, OpensBy, Stage, Takes, guess_dropped, names_in_stage}
 use Rattle.ssh_kex.specs.Stepping.{asks_groups, once_unless}
 use Rattle.ssh_kex.specs.declared.config.Config.{Config}
 use Rattle.ssh_kex.specs.declared.exchange.FinishedExchange.{FinishedExchange}
@@ -22,7 +22,7 @@ groups_more (x ∷ a) b = (let r = groups_more a b in omega (arith, r))
 
 -- where a machine comes to stand no more is asked than a group exchange that was chosen asks
 abbrev pub GroupFrom : Stage → Stage → ℕ → Type 0
-GroupFrom stage next asked = asked + request_due (Inside next) + group_in (names_of stage) ≤ request_due (Inside stage) + group_in (names_of next)
+GroupFrom stage next asked = asked + request_due (Inside next) + group_in (names_in_stage stage) ≤ request_due (Inside stage) + group_in (names_in_stage next)
 
 chosen_one : (n : Names) → is_gex n.kex ≡ true → group_in (Some n) ≡ 1
 chosen_one n e = ap (λ (b : Bool). if b then 1 else 0) e
@@ -42,7 +42,7 @@ taken_group says s (AwaitsValue o gex) seqn payload written next h = subst (λ n
 taken_group says s (AwaitsNewkeys exchange made host) seqn payload written next h = absurd h
 
 -- a wrong guess changes nothing of it
-pub dropped_group : (stage : Stage) → (request_due (Inside (guess_dropped stage)) ≡ request_due (Inside stage)) × (group_in (names_of (guess_dropped stage)) ≡ group_in (names_of stage))
+pub dropped_group : (stage : Stage) → (request_due (Inside (guess_dropped stage)) ≡ request_due (Inside stage)) × (group_in (names_in_stage (guess_dropped stage)) ≡ group_in (names_in_stage stage))
 dropped_group (Created own) = (refl, refl)
 dropped_group (AwaitsGroup o) = (refl, refl)
 dropped_group (AwaitsReply o gex local public) = (refl, refl)
@@ -68,7 +68,7 @@ closed_group config st Answering h = (ap request_due h, ap (λ (w : Where). grou
 closed_group config st WriteLimit h = (ap request_due h.0, ap (λ (w : Where). group_in (names_now w)) h.0)
 closed_group config st ReadLimit h = (ap request_due h.0, ap (λ (w : Where). group_in (names_now w)) h.0)
 
-inside_group : (st : SideState) (stage : Stage) → st.stands ≡ Inside stage → (request_due st.stands ≡ request_due (Inside stage)) × (group_in (names_now st.stands) ≡ group_in (names_of stage))
+inside_group : (st : SideState) (stage : Stage) → st.stands ≡ Inside stage → (request_due st.stands ≡ request_due (Inside stage)) × (group_in (names_now st.stands) ≡ group_in (names_in_stage stage))
 inside_group st stage e = (ap request_due e, ap (λ (w : Where). group_in (names_now w)) e)
 
 event_groups : (says : Says) (side : Side) (config : Config) (own_id : List ℕ) (n : ℕ) (st : SideState) (e : Event) (st' : SideState) → Step says side config own_id st e st' → LookupsFrom st st' n n

@@ -22,7 +22,7 @@ use Rattle.ssh_kex.specs.Parts.{Presents, Setup}
 use Rattle.ssh_kex.specs.Refusals.{Denies, IsCreated, IsOutOfRange, PartDenies, RefusesMessage, SignatureDenied, SigningDenied, kexinit_read}
 use Rattle.ssh_kex.specs.Fields.{IsInside, IsOutside}
 use Rattle.ssh_kex.specs.Setting.{Says, Setting, offers_of}
-use Rattle.ssh_kex.specs.Stages.{AwaitsGroup, AwaitsNewkeys, AwaitsReply, AwaitsRequest, AwaitsValue, Created, Stage, names_of}
+use Rattle.ssh_kex.specs.Stages.{AwaitsGroup, AwaitsNewkeys, AwaitsReply, AwaitsRequest, AwaitsValue, Created, Stage, names_in_stage}
 use Rattle.ssh_kex.specs.declared.config.Config.{Config}
 use Rattle.ssh_kex.specs.declared.exchange.Exchange.{Exchange}
 use Rattle.ssh_kex.specs.declared.exchange.FinishedExchange.{FinishedExchange}
@@ -95,7 +95,7 @@ unsigned says denies untrusted r s (AwaitsValue o gex) payload t (inr f) h = ((f
 unsigned says denies untrusted r s (AwaitsNewkeys exchange made host) payload t f h = absurd h
 
 -- the kind of a group that is read
-group_kind : (says : Says) (s : Setting) (stage : Stage) (payload : List ℕ) → StageIs says s stage → IsOutOfRange s stage payload → (n : Names) × (names_of stage ≡ Some n) × (is_gex n.kex ≡ true)
+group_kind : (says : Says) (s : Setting) (stage : Stage) (payload : List ℕ) → StageIs says s stage → IsOutOfRange s stage payload → (n : Names) × (names_in_stage stage ≡ Some n) × (is_gex n.kex ≡ true)
 group_kind says s (Created own) payload f h = absurd h
 group_kind says s (AwaitsGroup o) payload (inl c) h = absurd (let q : AwaitsGroup o ≡ Created c.0 = c.1 in cc)
 group_kind says s (AwaitsGroup o) payload (inr f) h = (o.names, refl, (f.2).kind)
@@ -132,7 +132,7 @@ host_client Server says s stage exchange made host e q (inr f) = absurd (
 
 record Seen (says : Side → Says) (config : Side → Config) (w : World) (cl sl : List Event) (side : Side) (stage : Stage) (item : Item) : Type 0 where
   stage_is : StageIs (says side) (setting side (config side) (id_text (config side).id) (one_of side w.client w.server).state) stage
-  holds : (n : Names) → names_of stage ≡ Some n → HoldsChosen config n
+  holds : (n : Names) → names_in_stage stage ≡ Some n → HoldsChosen config n
   readable : IsReadable (other_side side) (config (other_side side)) stage item.payload
 
 see : (says : Side → Says) (config : Side → Config) (w : World) (cl sl : List Event) (side : Side) (stage : Stage) (item : Item) → AreLawful says config → AwaitsNext (talkers says config) w cl sl side stage item → Seen says config w cl sl side stage item
@@ -178,9 +178,9 @@ see says config w cl sl side stage item m a = record {
   by (inl inside) = inr (trace.own, trace.theirs, at_stage (says side) side (config side) (id_text (config side).id) h.state trace stage inside a.owes (kept_seen says config side h peer s).tidy.fits)
   by (inr c) = inl c.1
 
-  held : LooksIn h.state.stands stage → (n : Names) → names_of stage ≡ Some n → HoldsChosen config n
+  held : LooksIn h.state.stands stage → (n : Names) → names_in_stage stage ≡ Some n → HoldsChosen config n
   held (inl inside) n e = names_here (says side) side config (id_text (config side).id) (wrote s.log) (handled s.log) h.state trace cw sw (heads_seen says config side h peer s m.sizes) (kept_seen says config side h peer s) n (ap names_now inside ∙ e)
-  held (inr c) n e = absurd (let q : None ≡ Some n = ap names_of (sym (c.1).1) ∙ e in cc)
+  held (inr c) n e = absurd (let q : None ≡ Some n = ap names_in_stage (sym (c.1).1) ∙ e in cc)
 
 -- ---- where nothing is in common
 
@@ -244,7 +244,7 @@ by_offer : (b : Bool) → (b ≡ true → ⊥) → b ≡ false
 by_offer true h = absurd (h refl)
 by_offer false h = refl
 
-chosen_cause : (says : Side → Says) (config : Side → Config) (side : Side) (denies : Denies) (untrusted : ServerHost → Type 0) (r : Rises) (offered : KexName → Bool) (group : DhGroup) (s : Setting) (stage : Stage) (seqn : ℕ) (payload : List ℕ) (names : Names) (e : Error) → Causes says config side denies untrusted r offered group → s.side ≡ side → chosen_by (config Client) (config Server) ≡ Ok names → StageIs (says side) s stage → ((n : Names) → names_of stage ≡ Some n → HoldsChosen config n) → IsMet says config s stage payload → ReadsKex s stage payload names.kex → IsReadable (other_side s.side) (config (other_side s.side)) stage payload → PartsDecide (says side) denies s stage seqn payload e → IsCauseOf r side config offered group e
+chosen_cause : (says : Side → Says) (config : Side → Config) (side : Side) (denies : Denies) (untrusted : ServerHost → Type 0) (r : Rises) (offered : KexName → Bool) (group : DhGroup) (s : Setting) (stage : Stage) (seqn : ℕ) (payload : List ℕ) (names : Names) (e : Error) → Causes says config side denies untrusted r offered group → s.side ≡ side → chosen_by (config Client) (config Server) ≡ Ok names → StageIs (says side) s stage → ((n : Names) → names_in_stage stage ≡ Some n → HoldsChosen config n) → IsMet says config s stage payload → ReadsKex s stage payload names.kex → IsReadable (other_side s.side) (config (other_side s.side)) stage payload → PartsDecide (says side) denies s stage seqn payload e → IsCauseOf r side config offered group e
 chosen_cause says config side denies untrusted r offered group s stage seqn payload names errors.KexInit c at chosen f holds met kex readable h =
     let k = group_kind (says side) s stage payload f h in
     let n = holds k.0 k.1 in (
@@ -282,7 +282,7 @@ met_by_lawful : (says : Side → Says) (config : Side → Config) (names : Names
 met_by_lawful says config names m chosen = record { valid = m.valid; sizes = m.sizes; chosen = chosen; secret = m.secret; canonical = m.canonical }
 
 -- where nothing is in common no stage but the first is reached
-first_stage : (says : Side → Says) (config : Side → Config) (kind : AlgorithmKind) (stage : Stage) → chosen_by (config Client) (config Server) ≡ Err kind → ((n : Names) → names_of stage ≡ Some n → HoldsChosen config n) → IsCreated stage
+first_stage : (says : Side → Says) (config : Side → Config) (kind : AlgorithmKind) (stage : Stage) → chosen_by (config Client) (config Server) ≡ Err kind → ((n : Names) → names_in_stage stage ≡ Some n → HoldsChosen config n) → IsCreated stage
 first_stage says config kind (Created own) none h = (own, refl)
 first_stage says config kind (AwaitsGroup o) none h = absurd (let c = h o.names refl in let q : Err kind ≡ Ok c.names = sym none ∙ c.chosen in cc)
 first_stage says config kind (AwaitsReply o gex local public) none h = absurd (let c = h o.names refl in let q : Err kind ≡ Ok c.names = sym none ∙ c.chosen in cc)

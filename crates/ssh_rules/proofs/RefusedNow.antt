@@ -20,7 +20,7 @@ use Rattle.ssh_kex.specs.Refusals.{Denies, IsBadlyEncoded, IsCreated, IsDue, IsL
 use Rattle.ssh_kex.specs.Fields.{fields, sizes_in}
 use Rattle.ssh_kex.specs.Setting.{Says, Opened, exchange_of, group_of, offers_of}
 use Rattle.ssh_kex.specs.Signature.{judged}
-use Rattle.ssh_kex.specs.Stages.{IsFirst, Stage, Created, AwaitsGroup, AwaitsReply, AwaitsRequest, AwaitsValue, AwaitsNewkeys, drops_guess, names_of}
+use Rattle.ssh_kex.specs.Stages.{IsFirst, Stage, Created, AwaitsGroup, AwaitsReply, AwaitsRequest, AwaitsValue, AwaitsNewkeys, drops_guess, names_in_stage}
 use Rattle.ssh_kex.specs.declared.config.Config.{Config}
 use Rattle.ssh_kex.specs.declared.exchange.FinishedExchange.{FinishedExchange}
 use Rattle.ssh_kex.specs.declared.exchange.GexChosen.{GexChosen}
@@ -100,7 +100,7 @@ some_is x p q e f = (let z : Some p ≡ Some q = sym e ∙ f in cc)
 awaits_now : (m n : Names) → Some m ≡ Some n → awaits m.ignore_guessed ≡ awaits n.ignore_guessed
 awaits_now m n e = (let r : m ≡ n = cc in ap (λ (x : Names). awaits x.ignore_guessed) r)
 
-held_guess : (stage : Stage) (n read : Names) (g : Guess) → names_of stage ≡ Some n → NoneAtEnd stage n → Holds read n → GuessAt (Inside stage) g → (read.guessed_ignored ≡ false) → guesses n ≡ dropped_by g read
+held_guess : (stage : Stage) (n read : Names) (g : Guess) → names_in_stage stage ≡ Some n → NoneAtEnd stage n → Holds read n → GuessAt (Inside stage) g → (read.guessed_ignored ≡ false) → guesses n ≡ dropped_by g read
 held_guess (Created own) n read g e end h at none = absurd (let z : None ≡ Some n = e in cc)
 held_guess (AwaitsGroup o) n read g e end h at none = guesses_are g read n none h (at ∙ awaits_now o.names n e)
 held_guess (AwaitsReply o gex l p) n read g e end h at none = guesses_are g read n none h (at ∙ awaits_now o.names n e)
@@ -122,7 +122,7 @@ names_here says side config heard log at n s e = by at.stands refl (names_now at
   by Outside i q f k = absurd (let z : None ≡ Some n = sym (ap names_now i) ∙ (k ∙ f) in cc)
   by (Inside stage) i q f k =
       let seen = seen_here says side config heard log at stage s (inl i) in
-      let named : names_of stage ≡ Some n = sym (ap names_now i) ∙ (k ∙ f) in
+      let named : names_in_stage stage ≡ Some n = sym (ap names_now i) ∙ (k ∙ f) in
       let m = seen.names n named in
       record {
         read = m.0;
@@ -160,10 +160,10 @@ some_names says side config heard log at read s e = by at.stands refl where
   nothing : s.trace.theirs ≡ [] → ⊥
   nothing z = (let q : None ≡ Some read = sym (ap (block_names side config (was_strict (cause_of at.records))) z) ∙ theirs in cc)
 
-  by_names : (stage : Stage) → at.stands ≡ Inside stage → (q : Option Names) → names_of stage ≡ q → (n : Names) × (names_now at.stands ≡ Some n)
+  by_names : (stage : Stage) → at.stands ≡ Inside stage → (q : Option Names) → names_in_stage stage ≡ q → (n : Names) × (names_now at.stands ≡ Some n)
   by_names stage i (Some n) k = (n, ap names_now i ∙ k)
   by_names stage i None k = absurd (nothing (created stage i k)) where
-    created : (stage : Stage) → at.stands ≡ Inside stage → names_of stage ≡ None → s.trace.theirs ≡ []
+    created : (stage : Stage) → at.stands ≡ Inside stage → names_in_stage stage ≡ None → s.trace.theirs ≡ []
     created (Created own) j m = (subst (λ x. FitsWhere says (setting side config (id_text config.id) at) x s.trace.own s.trace.theirs) j s.fits).theirs_is
     created (AwaitsGroup o) j m = absurd (let z : Some o.names ≡ None = m in cc)
     created (AwaitsReply o gex l p) j m = absurd (let z : Some o.names ≡ None = m in cc)
@@ -174,7 +174,7 @@ some_names says side config heard log at read s e = by at.stands refl where
   by : (w : Where) → at.stands ≡ w → (n : Names) × (names_now at.stands ≡ Some n)
   by Silent i = absurd (s.not_silent i)
   by Outside i = absurd (nothing (subst (λ x. FitsWhere says (setting side config (id_text config.id) at) x s.trace.own s.trace.theirs) i s.fits).theirs_is)
-  by (Inside stage) i = by_names stage i (names_of stage) refl
+  by (Inside stage) i = by_names stage i (names_in_stage stage) refl
 
 same_names : (m n : Names) → Some m ≡ Some n → m ≡ n
 same_names m n e = cc
@@ -302,9 +302,9 @@ named_not : {A : Type 0} (n : Names) → Some n ≡ None → A
 named_not n e = cc
 
 -- a stage that knows names is the open exchange's
-inside_at : (stage : Stage) (w : Where) (n : Names) → names_of stage ≡ Some n → LooksIn w stage → w ≡ Inside stage
+inside_at : (stage : Stage) (w : Where) (n : Names) → names_in_stage stage ≡ Some n → LooksIn w stage → w ≡ Inside stage
 inside_at stage w n e (inl l) = l
-inside_at stage w n e (inr o) = absurd (let z : Some n ≡ None = sym e ∙ ap names_of o.1.1 in named_not n z)
+inside_at stage w n e (inr o) = absurd (let z : Some n ≡ None = sym e ∙ ap names_in_stage o.1.1 in named_not n z)
 
 fits_inside : (says : Says) (side : Side) (config : Config) (heard : List ℕ) (log : List Event) (at : SideState) (stage : Stage) → (s : Shows says side config heard log at) → at.stands ≡ Inside stage → FitsStage says (setting side config (id_text config.id) at) stage s.trace.own s.trace.theirs
 fits_inside says side config heard log at stage s e = subst (λ x. FitsWhere says (setting side config (id_text config.id) at) x s.trace.own s.trace.theirs) e s.fits

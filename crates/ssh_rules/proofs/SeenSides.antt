@@ -11,7 +11,7 @@ use Rattle.ssh_negotiate.specs.declared.negotiation.Names.{Names}
 use Rattle.ssh_kex.specs.Messages.{host_with, is_gex, newkeys, reply_message, value_message}
 use Rattle.ssh_kex.specs.Refusals.{awaited}
 use Rattle.ssh_kex.specs.Setting.{Says, Opened, behind_guess, held_names, offers_of}
-use Rattle.ssh_kex.specs.Stages.{Stage, Created, AwaitsGroup, AwaitsReply, AwaitsRequest, AwaitsValue, AwaitsNewkeys, drops_guess, names_of}
+use Rattle.ssh_kex.specs.Stages.{Stage, Created, AwaitsGroup, AwaitsReply, AwaitsRequest, AwaitsValue, AwaitsNewkeys, drops_guess, names_in_stage}
 use Rattle.ssh_kex.specs.declared.config.Config.{Config}
 use Rattle.ssh_kex.specs.declared.exchange.Exchange.{Exchange}
 use Rattle.ssh_kex.specs.declared.exchange.FinishedExchange.{FinishedExchange}
@@ -127,11 +127,11 @@ held_unguessed read held e = ap (λ (n : Names). n.ignore_guessed) e ∙ by read
 
 -- what the messages read in the open exchange say of its stage
 pub record StageSeen (side : Side) (config : Config) (strict : Bool) (stage : Stage) (theirs : List (List ℕ)) : Type 0 where
-  pub names : (n : Names) → names_of stage ≡ Some n → (read : Names) × (payload : List ℕ) × (block_names side config strict theirs ≡ Some read) × (names_read side (offers_of side config) strict payload ≡ Ok read) × Holds read n
-  pub at_end : (n : Names) → names_of stage ≡ Some n → NoneAtEnd stage n
+  pub names : (n : Names) → names_in_stage stage ≡ Some n → (read : Names) × (payload : List ℕ) × (block_names side config strict theirs ≡ Some read) × (names_read side (offers_of side config) strict payload ≡ Ok read) × Holds read n
+  pub at_end : (n : Names) → names_in_stage stage ≡ Some n → NoneAtEnd stage n
   pub due : due_by side (kind_in (block_names side config strict theirs)) (length theirs) ≡ due_of stage
   pub type_is : awaited stage ≡ type_due (kind_in (block_names side config strict theirs)) (due_of stage)
-  pub some : (stage_names : names_of stage ≡ None → ⊥) → theirs ≡ [] → ⊥
+  pub some : (stage_names : names_in_stage stage ≡ None → ⊥) → theirs ≡ [] → ⊥
 
 none_named : {A : Type 0} (n : Names) → None ≡ Some n → A
 none_named n e = cc
@@ -156,7 +156,7 @@ opened_names says Server config own_id st o h = record { read = h.read_names; re
 kind_first : (side : Side) (config : Config) (strict : Bool) (payload : List ℕ) (more : List (List ℕ)) (held : Names) (kind : Bool) → (f : FirstNames side config strict payload held) → is_gex held.kex ≡ kind → kind_in (block_names side config strict (payload ∷ more)) ≡ kind
 kind_first side config strict payload more held kind f e = ap (λ r. kind_in (known_names r)) f.reads ∙ (ap is_gex (holds_kex f.read held f.holds) ∙ e)
 
-seen_first : (side : Side) (config : Config) (strict : Bool) (stage : Stage) (payload : List ℕ) (more : List (List ℕ)) (held : Names) (kind : Bool) → FirstNames side config strict payload held → is_gex held.kex ≡ kind → names_of stage ≡ Some held → NoneAtEnd stage held → due_by side kind (suc (length more)) ≡ due_of stage → awaited stage ≡ type_due kind (due_of stage) → StageSeen side config strict stage (payload ∷ more)
+seen_first : (side : Side) (config : Config) (strict : Bool) (stage : Stage) (payload : List ℕ) (more : List (List ℕ)) (held : Names) (kind : Bool) → FirstNames side config strict payload held → is_gex held.kex ≡ kind → names_in_stage stage ≡ Some held → NoneAtEnd stage held → due_by side kind (suc (length more)) ≡ due_of stage → awaited stage ≡ type_due kind (due_of stage) → StageSeen side config strict stage (payload ∷ more)
 seen_first side config strict stage payload more held kind f e names end due type_is =
     let k = kind_first side config strict payload more held kind f e in
     record {

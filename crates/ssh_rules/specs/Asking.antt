@@ -67,11 +67,11 @@ kex_count [] = 0
 kex_count (i ∷ items) = (if is_kex_type (type_of i) then 1 else 0) + kex_count items
 
 -- the packet that is refused
-abbrev pub packet_of : RefusalCause → List Item
-packet_of (OfPacket i) = i ∷ []
-packet_of (OfFault fault) = []
-packet_of OfVersion = []
-packet_of OfMemory = []
+abbrev pub refused_packet : RefusalCause → List Item
+refused_packet (OfPacket i) = i ∷ []
+refused_packet (OfFault fault) = []
+refused_packet OfVersion = []
+refused_packet OfMemory = []
 
 -- each part was asked at most so often
 pub record AsksAtMost (bound : ℕ) (calls calls' : PartCalls) : Type 0 where
@@ -100,4 +100,4 @@ pub record RefusesAsking (says : Says) (old : Standing) (piece : List ℕ) (new 
   pub cause : RefusalCause
   pub refuses : RefusesInput says old piece cause new
   pub asks : AsksUntil old.side cause old.state refuses.at calls calls'
-  pub few : AsksAtMost (kex_count (handled refuses.events ++ packet_of cause)) calls calls'
+  pub few : AsksAtMost (kex_count (handled refuses.events ++ refused_packet cause)) calls calls'

@@ -50,16 +50,16 @@ pub record Seen : Type 0 where
   pub own : List Item
 
 -- the packets handled, without dropped guesses
-abbrev pub kept_of : Seen → List Item → List Item
-kept_of v items = without_guesses v.side v.config BeforeKexinit items
+abbrev pub without_dropped : Seen → List Item → List Item
+without_dropped v items = without_guesses v.side v.config BeforeKexinit items
 
 -- how many exchanges they end
 abbrev pub done_by : Seen → List Item → ℕ
-done_by v items = epochs_ended (kept_of v items)
+done_by v items = epochs_ended (without_dropped v items)
 
 -- the other's messages of the exchange that comes next or is open, and the own ones
 abbrev pub open_block : Seen → List Item → List (List ℕ)
-open_block v items = exchange_block (done_by v items) (kept_of v items)
+open_block v items = exchange_block (done_by v items) (without_dropped v items)
 
 abbrev pub own_block : Seen → List Item → List (List ℕ)
 own_block v items = exchange_block (done_by v items) v.own
@@ -415,10 +415,10 @@ seen_in side config fed exchanges own =
     record { side = side; config = config; heard = text_of (id_text_in (heard_in side fed)); exchanges = exchanges; own = own }
 
 -- the packet that is refused
-abbrev pub packet_at : Ending → List Item
-packet_at AllRead = []
-packet_at (AtFault fault) = []
-packet_at (AtPacket i) = i ∷ []
+abbrev pub refused_packet_at : Ending → List Item
+refused_packet_at AllRead = []
+refused_packet_at (AtFault fault) = []
+refused_packet_at (AtPacket i) = i ∷ []
 
 -- what a side took by then are the first of the packets that it handled, and what it refuses stands in the table
 abbrev pub judged_in : PartsDo → Seen → (handled : List Item) → Judged
@@ -431,7 +431,7 @@ pub record IsAnsweredSide (parts : PartsDo) (side : Side) (config : Config) (ste
   pub answered : AreAnswers (judged_in parts (seen_in side config (fed_to side steps) exchanges own) handled) side
       (record { config = config; exchanges = exchanges; fed = []; failed = false }) steps answers
   pub accepted : AllAccepted parts.offers (seen_in side config (fed_to side steps) exchanges own) [] handled
-  pub asked : AsksAtMost (kex_count (handled ++ packet_at ending)) parts.before parts.after
+  pub asked : AsksAtMost (kex_count (handled ++ refused_packet_at ending)) parts.before parts.after
 
 -- What the report of an attacked run says: of both sides together, and of each side's answers, of the same packets.
 pub record IsAttackedRun (client_parts server_parts : PartsDo) (client server : Config) (steps : List AttackStep) (report : AttackReport) : Type 0 where

@@ -14,7 +14,7 @@ use Rattle.ssh_kex.specs.Exchange.{outgoing}
 use Rattle.ssh_kex.specs.Messages.{newkeys}
 use Rattle.ssh_kex.specs.Setting.{Says, Setting, offers_of}
 use Rattle.ssh_kex.specs.Stages as stages
-use Rattle.ssh_kex.specs.Stages.{Stage, Created, AwaitsGroup, AwaitsReply, AwaitsRequest, AwaitsValue, AwaitsNewkeys, drops_guess, guess_dropped, names_of}
+use Rattle.ssh_kex.specs.Stages.{Stage, Created, AwaitsGroup, AwaitsReply, AwaitsRequest, AwaitsValue, AwaitsNewkeys, drops_guess, guess_dropped, names_in_stage}
 use Rattle.ssh_kex.specs.declared.config.Config.{Config}
 use Rattle.ssh_kex.specs.declared.exchange.Exchange.{Exchange}
 use Rattle.ssh_kex.specs.declared.exchange.FinishedExchange.{FinishedExchange}
@@ -128,7 +128,7 @@ strict_now (Inside (AwaitsNewkeys exchange made host)) = made.names.strict_kex
 abbrev pub names_now : Where → Option Names
 names_now Silent = None
 names_now Outside = None
-names_now (Inside stage) = names_of stage
+names_now (Inside stage) = names_in_stage stage
 
 -- why an exchange may be opened
 abbrev pub MayBegin : Config → SideState → Cause → Type 0

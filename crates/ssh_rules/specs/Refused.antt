@@ -49,8 +49,8 @@ pub record AwaitsNext (t : Talkers) (w : World) (cl sl : List Event) (side : Sid
       (one_of side w.client w.server).unfinished ≡ Whole item behind
 
 -- the side refuses the packet's message, as its parts say and deny
-abbrev pub RefusesNext : Says → Denies → Config → Side → LinkEnd → Stage → Item → Error → Type 0
-RefusesNext says denies config side h stage item error =
+abbrev pub RefusesNextMessage : Says → Denies → Config → Side → LinkEnd → Stage → Item → Error → Type 0
+RefusesNextMessage says denies config side h stage item error =
     RefusesMessage says denies (setting side config (id_text config.id) h.state) stage
     (next_number h.state.reading.number) item.payload error
 
@@ -96,7 +96,7 @@ PartsRefuseAlone {A} {H} {G} lawful lawful_hosts lawful_groups says denies =
     → lawful a setup → lawful b setup → lawful_hosts h setup → lawful_hosts i setup → lawful_groups j setup
     → AreValid setup names
     → AwaitsNext (talkers (says_by says setup a b h i g j) (config_of setup)) w cl sl side stage item
-    → RefusesNext (says_by says setup a b h i g j side) (denies v v' x x' y y') (config_of setup side) side
+    → RefusesNextMessage (says_by says setup a b h i g j side) (denies v v' x x' y y') (config_of setup side) side
     (one_of side w.client w.server) stage item error
     → PartsDecide (says_by says setup a b h i g j side) (denies v v' x x' y y')
     (setting side (config_of setup side) (id_text (config_of setup side).id) (one_of side w.client w.server).state)
@@ -117,7 +117,7 @@ NothingRefused {A} {H} {G} obliging signs judges obliging_groups offered keeps k
     → AreValid setup names → offered (one_of side a b) names.kex ≡ true
     → keeps (one_of side a b) v → keeps_hosts (one_of side h i) x → keeps_groups (one_of side g j) y
     → AwaitsNext (talkers (says_by says setup a b h i g j) (config_of setup)) w cl sl side stage item
-    → RefusesNext (says_by says setup a b h i g j side)
+    → RefusesNextMessage (says_by says setup a b h i g j side)
     (denies v (one_of side a' b') x (one_of side h' i') y (one_of side g' j')) (config_of setup side) side
     (one_of side w.client w.server) stage item error
     → error ≡ errors.Memory

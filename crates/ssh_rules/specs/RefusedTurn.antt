@@ -15,7 +15,7 @@ use Rattle.ssh_kex.specs.declared.exchange.Exchange.{Exchange}
 use Rattle.ssh_kex.specs.declared.exchange.FinishedExchange.{FinishedExchange}
 use Rattle.ssh_kex.specs.declared.exchange.ServerHost.{ServerHost}
 use Rattle.ssh_rules.specs.Machine.{Event}
-use Rattle.ssh_rules.specs.Refused.{AwaitsNext, RefusesNext, one_of}
+use Rattle.ssh_rules.specs.Refused.{AwaitsNext, RefusesNextMessage, one_of}
 use Rattle.ssh_rules.specs.Refusing.{RefusesPiece}
 use Rattle.ssh_rules.specs.RunLaws.{config_of, says_by}
 use Rattle.ssh_rules.specs.Snapshots.{IsReached, IsWholeId, StandsAs}
@@ -30,7 +30,7 @@ pub record MessageRefused (t : Talkers) (denies : Denies) (w : World) (cl sl : L
   pub stage : Stage
   pub item : Item
   pub awaits : AwaitsNext t w cl sl side stage item
-  pub refuses : RefusesNext (t.says side) denies (t.config side) side (one_of side w.client w.server) stage item error
+  pub refuses : RefusesNextMessage (t.says side) denies (t.config side) side (one_of side w.client w.server) stage item error
 
 -- the last message of an exchange, whose host isn't trusted
 pub record HostRefused (t : Talkers) (untrusted : ServerHost → Type 0) (w : World) (cl sl : List Event) (side : Side)

@@ -21,7 +21,7 @@ use Rattle.ssh_kex.specs.declared.exchange.ServerHost.{ServerHost}
 use Rattle.ssh_rules.specs.Machine.{InOrder, Inside, MayDeliver, Outside, SideState, guesses, names_now, setting}
 use Rattle.ssh_rules.specs.MessageTypes.{is_kex_type, is_payload_type, type_of, is_violation}
 use Rattle.ssh_rules.specs.Refused.{LooksIn}
-use Rattle.ssh_rules.specs.Asking.{AsksAtMost, PartCalls, kex_count, packet_of}
+use Rattle.ssh_rules.specs.Asking.{AsksAtMost, PartCalls, kex_count, refused_packet}
 use Rattle.ssh_rules.specs.Log.{handled}
 use Rattle.ssh_rules.specs.Standing.{OfFault, OfMemory, OfPacket, OfVersion, RefusalCause, RefusesInput, Standing}
 
@@ -104,4 +104,4 @@ pub record RefusesPiece (says : Says) (denies : Denies) (untrusted : ServerHost 
 pub record RefusesPieceAsking (says : Says) (denies : Denies) (untrusted : ServerHost → Type 0) (old : Standing) (piece : List ℕ)
     (error : Error) (new : Standing) (calls calls' : PartCalls) : Type 0 where
   pub refused : RefusesPiece says denies untrusted old piece error new
-  pub few : AsksAtMost (kex_count (handled refused.refuses.events ++ packet_of refused.cause)) calls calls'
+  pub few : AsksAtMost (kex_count (handled refused.refuses.events ++ refused_packet refused.cause)) calls calls'

@@ -31,7 +31,7 @@ use Rattle.ssh_rules.specs.declared.link.SideMark.{SideMark}
 use Rattle.ssh_rules.specs.declared.link.SideReport.{SideReport}
 use Rattle.ssh_rules.specs.declared.link.Step.{Step}
 use Rattle.ssh_rules.proofs.Lemmas.{FindsOnly, is_known, link_in_group, link_is, new_stands, recorded_is, run_handled, run_says, run_signed, start_is_snapshot}
-use Rattle.ssh_run.specs.Carrying.{CarriedEnd, CarriedLink, IsCarried, IsNewLink, first_end, last_link, reported_end, reported_link, side_mark}
+use Rattle.ssh_run.specs.Carrying.{CarriedEnd, CarriedLink, IsCarried, IsNewLink, first_carried_end, last_link, reported_end, reported_link, side_mark}
 use Rattle.ssh_run.proofs.LinkTurns.{Follows, IsTied, follows}
 use Rattle.ssh_run.proofs.SideTurns.{IsSide, wire_by}
 
@@ -45,7 +45,7 @@ pub line_has : (config : Config) → IsWholeId config → 0 < length (id_line co
 line_has config h = some_line (id_line config.id) (id_text config.id) h
 
 -- a new side of a link
-new_side : (says : Side → Says) (config : Side → Config) (side : Side) (t : Standing) → ((s : Side) → IsWholeId (config s)) → IsNew side (config side) t → IsSide says config side [] turns.first_end turns.first_end (first_end t)
+new_side : (says : Side → Says) (config : Side → Config) (side : Side) (t : Standing) → ((s : Side) → IsWholeId (config s)) → IsNew side (config side) t → IsSide says config side [] turns.first_end turns.first_end (first_carried_end t)
 new_side says config side t whole e = record {
   ran = record { steps = refl; sent_is = refl; fed_is = refl };
   rests = rests side;
@@ -66,8 +66,8 @@ new_side says config side t whole e = record {
   rests Server = (start_is_snapshot (talkers says config) true (line_has (config Client) (whole Client)) (line_has (config Server) (whole Server))).server_rests
 
 -- its mark
-new_mark : (side : Side) (config : Config) (t : Standing) → IsNew side config t → Rattle.ssh_rules.specs.Snapshots.first_mark (length (id_line config.id)) ≡ side_mark (first_end t)
-new_mark side config t e = ap (λ (x : Standing). side_mark (first_end x)) (sym e)
+new_mark : (side : Side) (config : Config) (t : Standing) → IsNew side config t → Rattle.ssh_rules.specs.Snapshots.first_mark (length (id_line config.id)) ≡ side_mark (first_carried_end t)
+new_mark side config t e = ap (λ (x : Standing). side_mark (first_carried_end x)) (sym e)
 
 pub first_tied : (says : Side → Says) (config : Side → Config) (kind : Bool) (l : CarriedLink) → ((s : Side) → IsWholeId (config s)) → IsNewLink (config Client) (config Server) l → IsTied says config kind (first_snapshot (talkers says config)) l
 first_tied says config kind l whole n = record {

@@ -20,8 +20,8 @@ use Rattle.ssh_rules.specs.declared.link.Mark.{Mark}
 use Rattle.ssh_rules.specs.declared.link.Step.{Step}
 use Rattle.ssh_rules.specs.declared.link.Step.TheVariants.{Submit, Deliver, Rekey, Settle}
 use Rattle.ssh_transport.proofs.Lemmas.{Denying, Weaker, kept_denying, kept_untrusting, kept_weaker, piece_still, steps_weaker}
-use Rattle.ssh_run.specs.Carrying.{AsksKeys, CarriedEnd, CarriedLink, CarriesTo, FewBegun, FewBehind, HasWaiting, IsCarried, IsNewLink, Repeats, Rests, RunsOn, SettlesAll, StepsLink, StepsLinks, SubmitsOne, TakesTurns, begun_by, both_marks, bound_after, bound_behind, last_link, reported_link}
-use Rattle.ssh_run.specs.RefusedCarrying.{BeginTooMany, IsConfigFault, IsRestless, HasNoEnd, RefusesCarrying, RefusesLink, RefusesRun, RefusesSettle, RefusesStep, RefusesTurn, Telling, most_turns, telling_of}
+use Rattle.ssh_run.specs.Carrying.{AsksKeys, CarriedEnd, CarriedLink, CarriesTo, FewBegun, FewBehind, HasWaiting, IsCarried, IsNewLink, RepeatsTurns, Rests, RunsOn, SettlesAll, StepsLink, StepsLinks, SubmitsOne, TakesTurns, begun_by, both_marks, bound_after, bound_behind, last_link, reported_link}
+use Rattle.ssh_run.specs.RefusedCarrying.{BeginTooMany, IsConfigFault, IsRestless, HasNoEnd, RefusesCarrying, RefusesLink, RefusesRun, RefusesSettle, RefusesLinkStep, RefusesTurn, Telling, settle_turns, telling_of}
 use Rattle.ssh_wire.specs.declared.error.ConfigFault.{ConfigFault}
 use Rattle.ssh_wire.specs.declared.error.Error.{Error}
 use Rattle.ssh_rules.specs.Valid.{config_fault, first_config_fault}
@@ -77,7 +77,7 @@ carries_weaker a b w old wire n new h = record {
 turns_weaker : (c c' s s' : Says) → Weaker c c' → Weaker s s' → (old new : CarriedLink) → TakesTurns c s old new → TakesTurns c' s' old new
 turns_weaker c c' s s' v w old new h = record { to_server = carries_weaker s s' w old.server old.client.transport.output _ new.server h.to_server; all_to_server = h.all_to_server; to_client = carries_weaker c c' v old.client new.server.transport.output _ new.client h.to_client; all_to_client = h.all_to_client }
 
-pub repeats_weaker : (c c' s s' : Says) → Weaker c c' → Weaker s s' → (n : ℕ) (old new : CarriedLink) → Repeats c s n old new → Repeats c' s' n old new
+pub repeats_weaker : (c c' s s' : Says) → Weaker c c' → Weaker s s' → (n : ℕ) (old new : CarriedLink) → RepeatsTurns c s n old new → RepeatsTurns c' s' n old new
 repeats_weaker c c' s s' v w zero old new h = h
 repeats_weaker c c' s s' v w (suc n) old new h = (h.0, repeats_weaker c c' s s' v w n old h.0 h.1, turns_weaker c c' s s' v w h.0 new h.2, h.3)
 
@@ -116,7 +116,7 @@ configs_join a b c p q = record { of_client = q.of_client ∙ p.of_client; of_se
 turns_config : (c s : Says) (old new : CarriedLink) → TakesTurns c s old new → KeepConfigs old new
 turns_config c s old new h = record { of_client = carries_config c old.client new.server.transport.output _ new.client h.to_client; of_server = carries_config s old.server old.client.transport.output _ new.server h.to_server }
 
-repeats_config : (c s : Says) (n : ℕ) (old new : CarriedLink) → Repeats c s n old new → KeepConfigs old new
+repeats_config : (c s : Says) (n : ℕ) (old new : CarriedLink) → RepeatsTurns c s n old new → KeepConfigs old new
 repeats_config c s zero old new h = record { of_client = ap (λ (l : CarriedLink). l.client.transport.config) h; of_server = ap (λ (l : CarriedLink). l.server.transport.config) h }
 repeats_config c s (suc n) old new h = configs_join old h.0 new (repeats_config c s n old h.0 h.1) (turns_config c s h.0 new h.2)
 
@@ -133,7 +133,7 @@ step_config c s Settle old new h = repeats_config c s h.times old new h.turns
 
 -- behind so many turns
 pub record TurnsSoFar (c s : Says) (times : ℕ) (old new : CarriedLink) : Type 0 where
-  pub turns : Repeats c s times old new
+  pub turns : RepeatsTurns c s times old new
   pub configs : KeepConfigs old new
 
 pub none_turned : (c s : Says) (l : CarriedLink) → TurnsSoFar c s 0 l l
@@ -273,7 +273,7 @@ settle_later c c' s s' v w bound l e r = record {
   refused = elim r.refused [ inl t ↦ inl (turn_later c c' s s' v w r.mid e t) | inr d ↦ inr d ];
 }
 
-step_later : (c c' s s' : Telling) → TellsLater c' c → TellsLater s' s → (bound : ℕ) (step : Step) (l : CarriedLink) (e : Error) → RefusesStep c' s' bound step l e → RefusesStep c s bound step l e
+step_later : (c c' s s' : Telling) → TellsLater c' c → TellsLater s' s → (bound : ℕ) (step : Step) (l : CarriedLink) (e : Error) → RefusesLinkStep c' s' bound step l e → RefusesLinkStep c s bound step l e
 step_later c c' s s' v w bound (Submit side p) l e h = h
 step_later c c' s s' v w bound (Deliver Client n) l e h = carrying_later c' c v l.client l.server.transport.output n e h
 step_later c c' s s' v w bound (Deliver Server n) l e h = carrying_later s' s w l.server l.client.transport.output n e h
@@ -296,7 +296,7 @@ rekeys_live says false old new h l = ap (λ (t : Standing). t.failed) h ∙ l
 end_live : (old new : CarriedEnd) → new ≡ old → old.transport.failed ≡ false → new.transport.failed ≡ false
 end_live old new e l = ap (λ (x : CarriedEnd). x.transport.failed) e ∙ l
 
-pub repeats_live : (c s : Says) (n : ℕ) (old new : CarriedLink) → Repeats c s n old new → BothLive old → BothLive new
+pub repeats_live : (c s : Says) (n : ℕ) (old new : CarriedLink) → RepeatsTurns c s n old new → BothLive old → BothLive new
 repeats_live c s zero old new h l = subst BothLive (sym h) l
 repeats_live c s (suc n) old new h l = record { of_client = carries_live c h.0.client new.server.transport.output _ new.client h.2.to_client; of_server = carries_live s h.0.server h.0.client.transport.output _ new.server h.2.to_server }
 
@@ -335,7 +335,7 @@ never_settled : (c s : Telling) (bound times : ℕ) (old mid : CarriedLink) (e :
 never_settled c s bound times old mid e d h n = record { times = times; mid = mid; turns = h.turns; refused = inr (d, n) }
 
 -- all its turns are taken
-pub turns_ended : (c s : Telling) (bound times : ℕ) (old mid : CarriedLink) (e : Error) → e ≡ errors.Disconnect → TurnsSoFar c.says s.says times old mid → times ≡ most_turns bound → HasWaiting mid → RefusesSettle c s bound old e
+pub turns_ended : (c s : Telling) (bound times : ℕ) (old mid : CarriedLink) (e : Error) → e ≡ errors.Disconnect → TurnsSoFar c.says s.says times old mid → times ≡ settle_turns bound → HasWaiting mid → RefusesSettle c s bound old e
 turns_ended c s bound times old mid e d h n w = never_settled c s bound times old mid e d h (inl (n, w))
 
 -- too many exchanges are begun
@@ -382,10 +382,10 @@ pub steps_split : (steps done : List Step) (step : Step) (n : ℕ) → take n st
 steps_split steps done step n e = sym (take-append-drop n steps) ∙ (ap (λ q. q ++ drop n steps) e ∙ append_assoc done (step ∷ []) (drop n steps))
 
 -- by a step
-pub run_refused : (c c' s s' : Telling) (first : ℕ) (steps done : List Step) (step : Step) (more : List Step) (bound : ℕ) (old mid : CarriedLink) (marks : List Mark) (e : Error) → steps ≡ done ++ step ∷ more → bound ≡ bound_of done → TellsLater c' c → TellsLater s' s → RunsSoFar c.says s.says first done old mid marks → (mid.client.transport.failed ≡ false → mid.server.transport.failed ≡ false → RefusesStep c' s' bound step mid e) → old.client.transport.failed ≡ false → old.server.transport.failed ≡ false → RefusesRun c s steps old e
+pub run_refused : (c c' s s' : Telling) (first : ℕ) (steps done : List Step) (step : Step) (more : List Step) (bound : ℕ) (old mid : CarriedLink) (marks : List Mark) (e : Error) → steps ≡ done ++ step ∷ more → bound ≡ bound_of done → TellsLater c' c → TellsLater s' s → RunsSoFar c.says s.says first done old mid marks → (mid.client.transport.failed ≡ false → mid.server.transport.failed ≡ false → RefusesLinkStep c' s' bound step mid e) → old.client.transport.failed ≡ false → old.server.transport.failed ≡ false → RefusesRun c s steps old e
 run_refused c c' s s' first steps done step more bound old mid marks e at b v w h t lc ls =
     let l = subst BothLive h.on.last (steps_live c.says s.says done old h.on.links h.on.each (record { of_client = lc; of_server = ls })) in
-    inr (record { done = done; step = step; more = more; steps_are = at; links = h.on.links; each = h.on.each; refused = subst (λ x. RefusesStep c s (bound_of done) step x e) (sym h.on.last) (subst (λ n. RefusesStep c s n step mid e) b (step_later c c' s s' v w bound step mid e (t l.of_client l.of_server))) })
+    inr (record { done = done; step = step; more = more; steps_are = at; links = h.on.links; each = h.on.each; refused = subst (λ x. RefusesLinkStep c s (bound_of done) step x e) (sym h.on.last) (subst (λ n. RefusesLinkStep c s n step mid e) b (step_later c c' s s' v w bound step mid e (t l.of_client l.of_server))) })
 
 -- ---- what is told of an answer
 

@@ -14,7 +14,7 @@ use Rattle.ssh_rules.specs.declared.link.Step as link
 use Rattle.ssh_rules.specs.declared.link.Step.TheVariants.{Submit, Deliver, Rekey, Settle}
 use Rattle.ssh_rules.specs.declared.link.SideMark.{SideMark}
 use Rattle.ssh_rules.proofs.Lemmas.{IsKnown, client_leads, client_snapshot, client_turned, leads_join, leads_stay, server_leads, server_snapshot, server_turned, settle_turns, submitted_more}
-use Rattle.ssh_run.specs.Carrying.{AsksKeys, CarriedEnd, CarriedLink, CarriesTo, Repeats, SettlesAll, StepsLink, StepsLinks, SubmitsOne, both_marks, last_link, side_mark}
+use Rattle.ssh_run.specs.Carrying.{AsksKeys, CarriedEnd, CarriedLink, CarriesTo, RepeatsTurns, SettlesAll, StepsLink, StepsLinks, SubmitsOne, both_marks, last_link, side_mark}
 use Rattle.ssh_run.proofs.SideTurns.{IsSide, SideGoes, begin_goes, carry_goes, is_mark, peer_sends, submit_goes}
 
 -- A snapshot is that of a carried link.
@@ -220,7 +220,7 @@ pub record Settles (says : Side → Says) (config : Side → Config) (kind : Boo
   pub cl : submitted_in next.cl ≡ submitted_in s.cl
   pub sl : submitted_in next.sl ≡ submitted_in s.sl
 
-pub repeated : (says : Side → Says) (config : Side → Config) (kind : Bool) (n : ℕ) (s : Snapshot) (l l' : CarriedLink) → ((side : Side) → IsWholeId (config side)) → IsTied says config kind s l → Repeats (says Client) (says Server) n l l' → Settles says config kind s l'
+pub repeated : (says : Side → Says) (config : Side → Config) (kind : Bool) (n : ℕ) (s : Snapshot) (l l' : CarriedLink) → ((side : Side) → IsWholeId (config side)) → IsTied says config kind s l → RepeatsTurns (says Client) (says Server) n l l' → Settles says config kind s l'
 repeated says config kind zero s l l' whole i e = record { next = s; tied = subst (λ q. IsTied says config kind s q) (sym e) i; leads = leads_stay (talkers says config) (Some Settle) s; cl = refl; sl = refl }
 repeated says config kind (suc n) s l l' whole i r =
     let a = repeated says config kind n s l r.0 whole i r.1 in
@@ -268,7 +268,7 @@ step_to says config kind Settle s l l' whole room i d = settle_to says config ki
 abbrev pub all_submitted : CarriedLink → ℕ
 all_submitted l = l.client.submitted + l.server.submitted
 
-few_repeated : (client server : Says) (n : ℕ) (l l' : CarriedLink) → Repeats client server n l l' → all_submitted l' ≡ all_submitted l
+few_repeated : (client server : Says) (n : ℕ) (l l' : CarriedLink) → RepeatsTurns client server n l l' → all_submitted l' ≡ all_submitted l
 few_repeated client server zero l l' e = ap all_submitted e
 few_repeated client server (suc n) l l' r = let a = r.2.to_server.submitted in let b = r.2.to_client.submitted in let c = few_repeated client server n l r.0 r.1 in omega (arith, a, b, c)
 

@@ -4,7 +4,7 @@ use Rattle.ssh_packet.specs.Sealing.{Item, next_number}
 use Rattle.ssh_packet.specs.Stream.{number_after}
 use Rattle.ssh_packet.specs.Front.{Front, Unfinished, Refused}
 use Rattle.ssh_packet.specs.Reading.{Reader}
-use Rattle.ssh_run.specs.Delivering.{FindsPackets, payloads_of, DeliversOne, DeliversNone, RefusesPacket}
+use Rattle.ssh_run.specs.Delivering.{FindsPackets, payloads_of, DeliversOne, DeliversNone, RefusesFront}
 use Rattle.ssh_run.specs.Receiving.{ReadsOn, CannotRead}
 use Rattle.ssh_run.specs.declared.receiver.Receiver.{Receiver}
 
@@ -53,6 +53,6 @@ read_all first now bytes next h d =
     }
 
 -- a refusal behind some packets
-pub read_stops : (first now : Receiver) (bytes : List ℕ) → HasRead first bytes now → RefusesPacket now.reader → CannotRead first bytes
+pub read_stops : (first now : Receiver) (bytes : List ℕ) → HasRead first bytes now → RefusesFront now.reader → CannotRead first bytes
 read_stops first now bytes h (inl failed) = inl (sym h.failed ∙ failed)
 read_stops first now bytes h (inr refused) = inr (h.items ++ [], now.reader.waiting, refused.0, h.goes_on [] now.reader.waiting (Refused refused.0) (refl, refused.1))

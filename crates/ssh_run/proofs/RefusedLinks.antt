@@ -33,9 +33,9 @@ use Rattle.ssh_rules.specs.declared.link.Step.{Step}
 use Rattle.ssh_rules.specs.declared.link.Step.TheVariants.{Deliver, Rekey, Settle, Submit}
 use Rattle.ssh_rules.proofs.Lemmas.{HaveLimits, AreLawful, AreMet, AreSmall, Causes, Duties, IsKnown, PartLaws, Tells, any_refused, came, have_limits, duties_of, owes_of, is_known, link_cause, none_in_link, refused_turn, small_of}
 use Rattle.ssh_transport.proofs.Lemmas.{agreement_same, groups_same, hosts_same}
-use Rattle.ssh_run.specs.Carrying.{CarriedEnd, CarriedLink, IsNewLink, Repeats, all_bytes, carried_count, last_link}
-use Rattle.ssh_run.specs.RefusedCarrying.{HasNoEnd, IsConfigFault, RefusesAt, RefusesBytes, RefusesCarrying, RefusesLink, RefusesStep, RefusesSubmit, RefusesTurn, Telling, telling_of}
-use Rattle.ssh_run.specs.RunCauses.{IsAnyPartsCause, IsAnyRunCause, IsBadSubmit, IsPartsCause, IsRunCause, IsUnsettled, IsValidRun, ReachesStep, all_submits_good, carries_to, has_settle, most_brought, offered_by, rises_by}
+use Rattle.ssh_run.specs.Carrying.{CarriedEnd, CarriedLink, IsNewLink, RepeatsTurns, all_bytes, carried_count, last_link}
+use Rattle.ssh_run.specs.RefusedCarrying.{HasNoEnd, IsConfigFault, RefusesAt, RefusesBytes, RefusesCarrying, RefusesLink, RefusesLinkStep, RefusesSubmit, RefusesTurn, Telling, telling_of}
+use Rattle.ssh_run.specs.RunCauses.{IsAnyPartsCause, IsAnyRunCause, IsBadSubmit, IsPartsCause, IsRunCause, IsUnsettled, IsValidRun, ReachesStep, all_submits_good, carries_to, has_settle, most_brought, offered_on, rises_by}
 use Rattle.ssh_run.proofs.Brought.{bring_messages, few_taken, taken_by}
 use Rattle.ssh_run.proofs.CarriedLinks.{first_tied, nothing_submitted}
 use Rattle.ssh_run.proofs.Hears.{some_sent}
@@ -163,7 +163,7 @@ turn_refused tell config kind before s l e whole i (inr c) =
     let b = server_carry (says_in tell) config kind s l (record { client = l.client; server = c.mid }) all_bytes (whole Client) i c.taken refl in
     client_refused tell config kind before Settle b.next (record { client = l.client; server = c.mid }) all_bytes e (λ m q. absurd (no_delivery Client m q)) (whole Server) b.tied c.refused refl
 
-step_refused : (tell : Side → Telling) (config : Side → Config) (kind : Bool) (bound : ℕ) (step : Step) (s : Snapshot) (l : CarriedLink) (e : Error) → ((side : Side) → IsWholeId (config side)) → IsTied (says_in tell) config kind s l → ((times : ℕ) (mid : CarriedLink) → Repeats (says_in tell Client) (says_in tell Server) times l mid → HasNoEnd bound times mid → LawlessOnly tell config kind) → RefusesStep (tell Client) (tell Server) bound step l e → StepRefused tell config kind l step e
+step_refused : (tell : Side → Telling) (config : Side → Config) (kind : Bool) (bound : ℕ) (step : Step) (s : Snapshot) (l : CarriedLink) (e : Error) → ((side : Side) → IsWholeId (config side)) → IsTied (says_in tell) config kind s l → ((times : ℕ) (mid : CarriedLink) → RepeatsTurns (says_in tell Client) (says_in tell Server) times l mid → HasNoEnd bound times mid → LawlessOnly tell config kind) → RefusesLinkStep (tell Client) (tell Server) bound step l e → StepRefused tell config kind l step e
 step_refused tell config kind bound (Submit side p) s l e whole i ends h = inr (inl h)
 step_refused tell config kind bound (Deliver Client n) s l e whole i ends h = client_refused tell config kind l (Deliver Client n) s l n e (λ m q. (refl, delivered Client n m q)) (whole Server) i h refl
 step_refused tell config kind bound (Deliver Server n) s l e whole i ends h = server_refused tell config kind l (Deliver Server n) s l n e (λ m q. (refl, delivered Server n m q)) (whole Client) i h refl
@@ -318,7 +318,7 @@ pub lawful_causes : {A H G : Type 0} (lawful : A → Setup → Type 0) (obliging
     → (side : Side) → Causes (says_in (tells_by (telling_of lawful obliging offered client_makes server_makes agrees refusals lawful_hosts signs judges accepts trusts makes refused_sign refused_verify refused_check lawful_groups obliging_groups group refused_lookup t.client a a' h h' g g') (telling_of lawful obliging offered client_makes server_makes agrees refusals lawful_hosts signs judges accepts trusts makes refused_sign refused_verify refused_check lawful_groups obliging_groups group refused_lookup t.server b b' i i' j j'))) (config_of t) side
     (tells_by (telling_of lawful obliging offered client_makes server_makes agrees refusals lawful_hosts signs judges accepts trusts makes refused_sign refused_verify refused_check lawful_groups obliging_groups group refused_lookup t.client a a' h h' g g') (telling_of lawful obliging offered client_makes server_makes agrees refusals lawful_hosts signs judges accepts trusts makes refused_sign refused_verify refused_check lawful_groups obliging_groups group refused_lookup t.server b b' i i' j j') side).denies
     (tells_by (telling_of lawful obliging offered client_makes server_makes agrees refusals lawful_hosts signs judges accepts trusts makes refused_sign refused_verify refused_check lawful_groups obliging_groups group refused_lookup t.client a a' h h' g g') (telling_of lawful obliging offered client_makes server_makes agrees refusals lawful_hosts signs judges accepts trusts makes refused_sign refused_verify refused_check lawful_groups obliging_groups group refused_lookup t.server b b' i i' j j') side).untrusted
-    (rises_by (unobliged_of obliging refusals signs judges refused_sign refused_verify refused_check obliging_groups refused_lookup t i a a' h h' g g') (unobliged_of obliging refusals signs judges refused_sign refused_verify refused_check obliging_groups refused_lookup t i b b' i i' j j') side) (offered_by (offered a) (offered b) side) (group j t.client.gex)
+    (rises_by (unobliged_of obliging refusals signs judges refused_sign refused_verify refused_check obliging_groups refused_lookup t i a a' h h' g g') (unobliged_of obliging refusals signs judges refused_sign refused_verify refused_check obliging_groups refused_lookup t i b b' i i' j j') side) (offered_on (offered a) (offered b) side) (group j t.client.gex)
 lawful_causes lawful obliging offered cm sm ag refusals lh sg jd accepts trusts makes rs rv rc lg og group rl laws small t a a' b b' h h' i i' g g' j j' la lb lhh li lj m Client = record {
   lawful = m;
   small = small_of lawful offered cm sm ag lh sg jd accepts trusts makes lg group small t a b h i g j Client la lb lhh li lj;
@@ -349,7 +349,7 @@ pub obliging_complete : {A H G : Type 0} (lawful : A → Setup → Type 0) (obli
     → PartLaws lawful obliging signs judges accepts trusts makes lawful_groups obliging_groups group
     → ((v w : H) (s : Setup) → judges v w s → lawful_hosts v s) → ((v w : H) (s : Setup) → signs v w s → lawful_hosts v s)
     → ((v : G) (s : Setup) → lawful_groups v s → IsSmall (group v s.client.gex).prime × IsSmall (group v s.client.gex).generator)
-    → (t : Setup) (a a' b b' : A) (h h' i i' : H) (g g' j j' : G) (steps : List Step) (e : Error) → IsValidRun (config_of t) (offered_by (offered a) (offered b)) steps → ((side : Side) → HasSizes (config_of t side)) → obliging a a' t → obliging b b' t → judges h h' t → signs i i' t → lawful_groups j t → (kind_by (chosen_by t.client t.server) ≡ true → obliging_groups j j' t) → ((side : Side) → IsWholeId (config_of t side))
+    → (t : Setup) (a a' b b' : A) (h h' i i' : H) (g g' j j' : G) (steps : List Step) (e : Error) → IsValidRun (config_of t) (offered_on (offered a) (offered b)) steps → ((side : Side) → HasSizes (config_of t side)) → obliging a a' t → obliging b b' t → judges h h' t → signs i i' t → lawful_groups j t → (kind_by (chosen_by t.client t.server) ≡ true → obliging_groups j j' t) → ((side : Side) → IsWholeId (config_of t side))
     → RefusesLink (telling_of lawful obliging offered client_makes server_makes agrees refusals lawful_hosts signs judges accepts trusts makes refused_sign refused_verify refused_check lawful_groups obliging_groups group refused_lookup t.client a a' h h' g g') (telling_of lawful obliging offered client_makes server_makes agrees refusals lawful_hosts signs judges accepts trusts makes refused_sign refused_verify refused_check lawful_groups obliging_groups group refused_lookup t.server b b' i i' j j') t.client t.server steps e → e ≡ errors.Memory
 obliging_complete lawful obliging offered cm sm ag refusals lh sg jd accepts trusts makes rs rv rc lg og group rl one laws judging_lawful signing_lawful small_group t a a' b b' h h' i i' g g' j j' steps e v sizes oa ob jh si lj oj whole r = run_complete tell (config_of t) v.names steps e met duties small known whole v.good r where
   tell : Side → Telling

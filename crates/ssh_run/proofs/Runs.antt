@@ -11,7 +11,8 @@ use Rattle.ssh_wire.specs.declared.side.Side.TheVariants.{Client, Server}
 use Rattle.ssh_wire.specs.declared.ssh_id.SshId.{SshId}
 use Rattle.ssh_packet.specs.Sealing.{Clear, sealed_packet, next_number}
 use Rattle.ssh_run.specs.ClearLink.{IsFresh, Submits, CannotSubmit, Delivers, CannotDeliver, next_piece, StepsOn, CannotStep, TakesWithin}
-use Rattle.ssh_run.specs.ClearRun.{IsWholeLine, clear_item, packet_size, clear_wire, submitted_payloads, taken_in, whole_in, is_bad_size, first_refused, IsClearSide, IsClearRun, IsRefusedRun}
+use Rattle.ssh_run.specs.ClearRun.{IsWholeLine, clear_item, packet_size, clear_wire, submitted_payloads, taken_in, whole_in, first_refused, IsClearSide, IsClearRun, IsRefusedRun}
+use Rattle.ssh_rules.specs.Valid.{is_bad_size}
 use Rattle.ssh_run.specs.declared.clear_link.ClearEnd.{ClearEnd}
 use Rattle.ssh_run.specs.declared.clear_link.ClearLink.{ClearLink}
 use Rattle.ssh_run.specs.declared.receiver.Receiver.{Receiver}

@@ -20,8 +20,8 @@ use Rattle.ssh_rules.specs.declared.link.SideMark.{SideMark}
 use Rattle.ssh_rules.specs.declared.link.Step as link
 use Rattle.ssh_rules.specs.declared.link.Step.TheVariants.{Deliver, Rekey, Settle, Submit}
 use Rattle.ssh_rules.proofs.Lemmas.{HaveLimits, IsKnown, all_rest, begun_steps, both_lower, few_with_first, leads_stay, settle_few, settle_measure, settle_starts, side_lowers, waits_for}
-use Rattle.ssh_run.specs.Carrying.{CarriedEnd, CarriedLink, CarriesTo, HasWaiting, Repeats, TakesTurns, begun_by, last_link, side_mark}
-use Rattle.ssh_run.specs.RefusedCarrying.{IsRestless, HasNoEnd, StaysRestless, most_turns}
+use Rattle.ssh_run.specs.Carrying.{CarriedEnd, CarriedLink, CarriesTo, HasWaiting, RepeatsTurns, TakesTurns, begun_by, last_link, side_mark}
+use Rattle.ssh_run.specs.RefusedCarrying.{IsRestless, HasNoEnd, StaysRestless, settle_turns}
 use Rattle.ssh_run.proofs.LinkSoFar.{few_bound}
 use Rattle.ssh_run.proofs.LinkTurns.{Follows, IsTied, Settles, repeated}
 use Rattle.ssh_run.proofs.SideTurns.{IsSide, wire_by}
@@ -58,7 +58,7 @@ turn_lowers c s bound old new h waits cf sf =
     (let e = carry_sent s old.server old.client.transport.output _ new.server h.to_server in omega (arith, e))
     (some_wait old waits)
 
-repeats_lower : (c s : Says) (bound n : ℕ) (old new : CarriedLink) → Repeats c s n old new → begun new.client.transport.state ≤ bound → begun new.server.transport.state ≤ bound → link_measure bound new + n ≤ link_measure bound old
+repeats_lower : (c s : Says) (bound n : ℕ) (old new : CarriedLink) → RepeatsTurns c s n old new → begun new.client.transport.state ≤ bound → begun new.server.transport.state ≤ bound → link_measure bound new + n ≤ link_measure bound old
 repeats_lower c s bound zero old new h cf sf = (let e = ap (λ (x : CarriedLink). link_measure bound x) h in let k : link_measure bound new ≡ link_measure bound old = e in by (link_measure bound new) (link_measure bound old) k) where
   by : (a b : ℕ) → a ≡ b → a + 0 ≤ b
   by a b e = omega (arith, e)
@@ -117,7 +117,7 @@ beyond : (bound n : ℕ) → n ≤ bound → bound < n → ⊥
 beyond bound n a b = omega (arith, a, b)
 
 -- a settle that began with no more than its turns has one left where bytes wait
-turn_left : (bound times cl sl cl' sl' cw sw now : ℕ) → settle_measure cl' sl' 1 1 ≤ 32 * bound → cl ≡ cl' → sl ≡ sl' → cw ≤ 1 → sw ≤ 1 → now + times ≤ settle_measure cl sl cw sw → 1 ≤ now → bound < 2 ^ 66 → times ≡ most_turns bound → ⊥
+turn_left : (bound times cl sl cl' sl' cw sw now : ℕ) → settle_measure cl' sl' 1 1 ≤ 32 * bound → cl ≡ cl' → sl ≡ sl' → cw ≤ 1 → sw ≤ 1 → now + times ≤ settle_measure cl sl cw sw → 1 ≤ now → bound < 2 ^ 66 → times ≡ settle_turns bound → ⊥
 turn_left bound times cl sl cl' sl' cw sw now a e f c d low some few all = omega (arith, a, e, f, c, d, low, some, few, all)
 
 some_left : (a b cw sw : ℕ) → 1 ≤ cw + sw → 1 ≤ settle_measure a b cw sw
@@ -127,7 +127,7 @@ same_few : (bound : ℕ) (a b : SideState) → a ≡ b → begun b ≤ bound →
 same_few bound a b e h = subst (λ (q : SideState). begun q ≤ bound) (sym e) h
 
 -- With what is known of lawful parts, a settle behind some steps never comes to no end.
-pub always_settles : (says : Side → Says) (config : Side → Config) (kind : Bool) (steps : List link.Step) (l mid : CarriedLink) (links : List CarriedLink) (times : ℕ) → ((side : Side) → IsWholeId (config side)) → length steps < 2 ^ 64 → IsKnown (talkers says config) kind → HaveLimits (talkers says config) → Follows says config kind steps (first_snapshot (talkers says config)) l links → Repeats (says Client) (says Server) times (last_link l links) mid → HasNoEnd (bound_of steps) times mid → ⊥
+pub always_settles : (says : Side → Says) (config : Side → Config) (kind : Bool) (steps : List link.Step) (l mid : CarriedLink) (links : List CarriedLink) (times : ℕ) → ((side : Side) → IsWholeId (config side)) → length steps < 2 ^ 64 → IsKnown (talkers says config) kind → HaveLimits (talkers says config) → Follows says config kind steps (first_snapshot (talkers says config)) l links → RepeatsTurns (says Client) (says Server) times (last_link l links) mid → HasNoEnd (bound_of steps) times mid → ⊥
 always_settles says config kind steps l mid links times whole few k limits f r never = elim never [
   | inl x ↦ turns_left x.0 x.1
   | inr y ↦ elim y [
@@ -162,7 +162,7 @@ always_settles says config kind steps l mid links times whole few k limits f r n
   begun_now : (begun settled.next.world.client.state ≤ bound) × (begun settled.next.world.server.state ≤ bound)
   begun_now = settle_few t kind steps f.snapshots settled.next k.fit limits (f.does k) f.leads settled.leads settled.cl settled.sl i
 
-  turns_left : times ≡ most_turns bound → HasWaiting mid → ⊥
+  turns_left : times ≡ settle_turns bound → HasWaiting mid → ⊥
   turns_left all waits =
       let first = last_link l links in
       turn_left bound times (left bound first.client.transport.state) (left bound first.server.transport.state) (left bound start.world.client.state) (left bound start.world.server.state) (waits_for first.client.taken (length first.server.transport.output)) (waits_for first.server.taken (length first.client.transport.output)) (link_measure bound mid)

@@ -11,7 +11,7 @@ use Rattle.ssh_rules.specs.declared.link.LinkReport.{LinkReport}
 use Rattle.ssh_rules.specs.declared.link.Mark.{Mark}
 use Rattle.ssh_rules.specs.declared.link.Step.{Step}
 use Rattle.ssh_rules.specs.declared.link.Step.TheVariants.{Submit, Deliver, Rekey, Settle}
-use Rattle.ssh_run.specs.Carrying.{CarriedEnd, CarriedLink, CarriesTo, FewBegun, FewBehind, IsCarried, IsNewLink, Repeats, SettlesAll, StepsLink, StepsLinks, TakesTurns, both_marks, bound_behind, last_link}
+use Rattle.ssh_run.specs.Carrying.{CarriedEnd, CarriedLink, CarriesTo, FewBegun, FewBehind, IsCarried, IsNewLink, RepeatsTurns, SettlesAll, StepsLink, StepsLinks, TakesTurns, both_marks, bound_behind, last_link}
 use Rattle.ssh_run.specs.Reports.{BothRest, IsWholeReport}
 use Rattle.ssh_run.proofs.LinkSoFar.{as_many, bound_on}
 
@@ -57,7 +57,7 @@ turns_within c s old new h w =
       of_server = omega (arith, a, k);
     }
 
-repeats_within : (c s : Says) (n : ℕ) (old new : CarriedLink) → Repeats c s n old new → AreWithin old → AreWithin new
+repeats_within : (c s : Says) (n : ℕ) (old new : CarriedLink) → RepeatsTurns c s n old new → AreWithin old → AreWithin new
 repeats_within c s zero old new h w = subst AreWithin (sym h) w
 repeats_within c s (suc n) old new h w = turns_within c s h.0 new h.2 (repeats_within c s n old h.0 h.1 w)
 

@@ -9,7 +9,7 @@ use Rattle.ssh_rules.specs.Headline.{bound_of, chosen_by, kind_by}
 use Rattle.ssh_rules.specs.Standing.{Standing}
 use Rattle.ssh_rules.specs.Valid.{config_fault}
 use Rattle.ssh_rules.specs.declared.link.Step.{Step}
-use Rattle.ssh_run.specs.Carrying.{CarriedEnd, CarriedLink, CarriesTo, IsNewLink, Repeats, StepsLinks, all_bytes, carried_count, last_link}
+use Rattle.ssh_run.specs.Carrying.{CarriedEnd, CarriedLink, CarriesTo, IsNewLink, RepeatsTurns, StepsLinks, all_bytes, carried_count, last_link}
 
 -- between two transports the parts of their side were asked no more often than its events let them be
 pub record SideAsks (old new : Standing) (calls calls' : PartCalls) : Type 0 where
@@ -46,7 +46,7 @@ pub record TurnsAsk (client server : Says) (old : CarriedLink)
     (client_calls client_calls' server_calls server_calls' : PartCalls) : Type 0 where
   pub times : ℕ
   pub mid : CarriedLink
-  pub turns : Repeats client server times old mid
+  pub turns : RepeatsTurns client server times old mid
   pub client_before : PartCalls
   pub of_client : SideAsks old.client.transport mid.client.transport client_calls client_before
   pub server_before : PartCalls

@@ -48,8 +48,8 @@ abbrev pub both_marks : CarriedLink → Mark
 both_marks l = record { client = side_mark l.client; server = side_mark l.server }
 
 -- a side that has written its id line, and done nothing else
-abbrev pub first_end : Standing → CarriedEnd
-first_end t = record { transport = t; taken = 0; delivered = []; submitted = 0 }
+abbrev pub first_carried_end : Standing → CarriedEnd
+first_carried_end t = record { transport = t; taken = 0; delivered = []; submitted = 0 }
 
 -- a good payload was submitted
 pub record SubmitsOne (says : Says) (old : CarriedEnd) (payload : List ℕ) (new : CarriedEnd) : Type 0 where
@@ -95,9 +95,9 @@ abbrev pub HasWaiting : CarriedLink → Type 0
 HasWaiting l = (l.client.taken < length l.server.transport.output) ⊎ (l.server.taken < length l.client.transport.output)
 
 -- so many times, as long as bytes wait
-abbrev pub Repeats : (client server : Says) → ℕ → CarriedLink → CarriedLink → Type 0
-Repeats client server zero old new = new ≡ old
-Repeats client server (suc n) old new = (mid : CarriedLink) × Repeats client server n old mid × TakesTurns client server mid new × HasWaiting mid
+abbrev pub RepeatsTurns : (client server : Says) → ℕ → CarriedLink → CarriedLink → Type 0
+RepeatsTurns client server zero old new = new ≡ old
+RepeatsTurns client server (suc n) old new = (mid : CarriedLink) × RepeatsTurns client server n old mid × TakesTurns client server mid new × HasWaiting mid
 
 -- it is outside an exchange and holds no unfinished input
 pub record Rests (e : CarriedEnd) : Type 0 where
@@ -107,7 +107,7 @@ pub record Rests (e : CarriedEnd) : Type 0 where
 -- until no byte waits, and both sides rest
 pub record SettlesAll (client server : Says) (old new : CarriedLink) : Type 0 where
   pub times : ℕ
-  pub turns : Repeats client server times old new
+  pub turns : RepeatsTurns client server times old new
   pub to_client : length new.server.transport.output ≤ new.client.taken
   pub to_server : length new.client.transport.output ≤ new.server.taken
   pub client_rests : Rests new.client
@@ -179,8 +179,8 @@ pub record RunsOn (client server : Says) (bound : ℕ) (steps : List Step) (old 
 
 -- both transports are new
 pub record IsNewLink (client server : Config) (l : CarriedLink) : Type 0 where
-  pub of_client : (t : Standing) × IsNew Client client t × (l.client ≡ first_end t)
-  pub of_server : (t : Standing) × IsNew Server server t × (l.server ≡ first_end t)
+  pub of_client : (t : Standing) × IsNew Client client t × (l.client ≡ first_carried_end t)
+  pub of_server : (t : Standing) × IsNew Server server t × (l.server ≡ first_carried_end t)
 
 -- what is reported of a side
 abbrev pub reported_end : CarriedEnd → SideReport

@@ -7,7 +7,8 @@ use Rattle.ssh_wire.specs.declared.error.Error.TheVariants.{PacketSize, Memory}
 use Rattle.ssh_wire.specs.declared.side.Side.TheVariants.{Client, Server}
 use Rattle.ssh_wire.specs.declared.ssh_id.SshId.{SshId}
 use Rattle.ssh_packet.specs.Sealing.{Clear, sealed_packet, next_number, IsAdmissible}
-use Rattle.ssh_run.specs.ClearRun.{clear_item, is_bad_size}
+use Rattle.ssh_rules.specs.Valid.{is_bad_size}
+use Rattle.ssh_run.specs.ClearRun.{clear_item}
 use Rattle.ssh_run.specs.Receiving.{TakesPiece, CannotTake}
 use Rattle.ssh_run.specs.declared.clear_link.ClearEnd.{ClearEnd}
 use Rattle.ssh_run.specs.declared.clear_link.ClearLink.{ClearLink}

@@ -58,10 +58,6 @@ pub record IsClearRun (client_id server_id : SshId) (steps : List ClearStep) (re
   pub client : IsClearSide client_id server_id Client steps report.client
   pub server : IsClearSide server_id client_id Server steps report.server
 
--- a payload that isn't sent
-abbrev pub is_bad_size : ℕ → Bool
-is_bad_size n = (n == 0) || nat_lt longest_payload n
-
 -- the size of the first payload that isn't sent
 abbrev pub first_refused : List ClearStep → Option ℕ
 first_refused [] = None

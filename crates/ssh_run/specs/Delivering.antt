@@ -31,5 +31,5 @@ pub record DeliversNone (old new : Reader) (delivered delivered' : List (List �
   pub delivers : delivered' ≡ delivered
 
 -- the reader has failed, or refuses what stands at the front
-abbrev pub RefusesPacket : Reader → Type 0
-RefusesPacket old = (old.failed ≡ true) ⊎ ((fault : Fault) × (front_of Clear old.number old.waiting ≡ Refused fault))
+abbrev pub RefusesFront : Reader → Type 0
+RefusesFront old = (old.failed ≡ true) ⊎ ((fault : Fault) × (front_of Clear old.number old.waiting ≡ Refused fault))

@@ -7,8 +7,8 @@ use Rattle.ssh_run.specs.declared.link.Link.{Link}
 use Rattle.ssh_run.specs.declared.link_end.LinkEnd.{LinkEnd}
 
 -- one side
-abbrev pub end_of : LinkEnd → CarriedEnd
-end_of end = record {
+abbrev pub carried_end : LinkEnd → CarriedEnd
+carried_end end = record {
   transport = end.transport;
   taken = end.taken;
   delivered = end.delivered.items;
@@ -17,7 +17,7 @@ end_of end = record {
 
 -- both sides
 abbrev pub link_of : Link → CarriedLink
-link_of link = record { client = end_of link.client; server = end_of link.server }
+link_of link = record { client = carried_end link.client; server = carried_end link.server }
 
 -- something holds where neither side has failed
 abbrev pub WhereUnfailed : Link → Type 0 → Type 0
@@ -25,7 +25,7 @@ WhereUnfailed link holds = link.client.transport.failed ≡ false → link.serve
 
 -- where a side stands
 abbrev pub end_mark : LinkEnd → SideMark
-end_mark end = side_mark (end_of end)
+end_mark end = side_mark (carried_end end)
 
 -- where both sides stand
 abbrev pub link_mark : Link → Mark

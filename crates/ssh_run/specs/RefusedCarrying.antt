@@ -21,7 +21,7 @@ use Rattle.ssh_rules.specs.Standing.{Standing, is_outside, unfinished}
 use Rattle.ssh_rules.specs.Valid.{config_fault, first_config_fault, is_bad_size}
 use Rattle.ssh_rules.specs.declared.link.Step.{Step}
 use Rattle.ssh_rules.specs.declared.link.Step.TheVariants.{Deliver, Rekey, Settle, Submit}
-use Rattle.ssh_run.specs.Carrying.{CarriedEnd, CarriedLink, CarriesTo, HasWaiting, IsNewLink, Repeats, StepsLinks, all_bytes, begun_by, carried_count, last_link}
+use Rattle.ssh_run.specs.Carrying.{CarriedEnd, CarriedLink, CarriesTo, HasWaiting, IsNewLink, RepeatsTurns, StepsLinks, all_bytes, begun_by, carried_count, last_link}
 
 -- what a side's parts said before a call, and what a refusal in it means
 pub record Telling : Type 1 where
@@ -93,8 +93,8 @@ RefusesTurn client server old error =
     RefusesCarrying server old.server old.client.transport.output all_bytes error ⊎ ClientRefuses client server old error
 
 -- how many turns a settle has, where so many exchanges may be begun
-abbrev pub most_turns : ℕ → ℕ
-most_turns bound = min (32 * bound) (2 ^ 128 - 1)
+abbrev pub settle_turns : ℕ → ℕ
+settle_turns bound = min (32 * bound) (2 ^ 128 - 1)
 
 -- a side has begun more exchanges than may be begun
 abbrev pub BeginTooMany : ℕ → CarriedLink → Type 0
@@ -114,24 +114,24 @@ pub record StaysRestless (l : CarriedLink) : Type 0 where
 -- exchanges, or no byte waits and a side does not rest.
 abbrev pub HasNoEnd : (bound times : ℕ) → CarriedLink → Type 0
 HasNoEnd bound times l =
-    ((times ≡ most_turns bound) × HasWaiting l) ⊎ (BeginTooMany bound l ⊎ StaysRestless l)
+    ((times ≡ settle_turns bound) × HasWaiting l) ⊎ (BeginTooMany bound l ⊎ StaysRestless l)
 
 -- of a settle, behind some turns: a turn is refused, or it comes to no end
 pub record RefusesSettle (client server : Telling) (bound : ℕ) (old : CarriedLink) (error : Error) : Type 0 where
   pub times : ℕ
   pub mid : CarriedLink
-  pub turns : Repeats client.says server.says times old mid
+  pub turns : RepeatsTurns client.says server.says times old mid
   pub refused : RefusesTurn client server mid error ⊎ ((error ≡ errors.Disconnect) × HasNoEnd bound times mid)
 
 -- what refuses each step, where so many exchanges may be begun
-abbrev pub RefusesStep : (client server : Telling) → ℕ → Step → CarriedLink → Error → Type 0
-RefusesStep client server bound (Submit side p) old error = RefusesSubmit p error
-RefusesStep client server bound (Deliver Client n) old error =
+abbrev pub RefusesLinkStep : (client server : Telling) → ℕ → Step → CarriedLink → Error → Type 0
+RefusesLinkStep client server bound (Submit side p) old error = RefusesSubmit p error
+RefusesLinkStep client server bound (Deliver Client n) old error =
     RefusesCarrying client old.client old.server.transport.output n error
-RefusesStep client server bound (Deliver Server n) old error =
+RefusesLinkStep client server bound (Deliver Server n) old error =
     RefusesCarrying server old.server old.client.transport.output n error
-RefusesStep client server bound (Rekey side) old error = error ≡ errors.Memory
-RefusesStep client server bound Settle old error = RefusesSettle client server bound old error
+RefusesLinkStep client server bound (Rekey side) old error = error ≡ errors.Memory
+RefusesLinkStep client server bound Settle old error = RefusesSettle client server bound old error
 
 -- The steps lead up to one that is refused.
 pub record RefusesAt (client server : Telling) (steps : List Step) (old : CarriedLink) (error : Error) : Type 0 where
@@ -141,7 +141,7 @@ pub record RefusesAt (client server : Telling) (steps : List Step) (old : Carrie
   pub steps_are : steps ≡ done ++ step ∷ more
   pub links : List CarriedLink
   pub each : StepsLinks client.says server.says done old links
-  pub refused : RefusesStep client server (bound_of done) step (last_link old links) error
+  pub refused : RefusesLinkStep client server (bound_of done) step (last_link old links) error
 
 -- or memory was wanting for the marks
 abbrev pub RefusesRun : (client server : Telling) → List Step → CarriedLink → Error → Type 0

@@ -135,6 +135,6 @@ rises_by client server Client = client
 rises_by client server Server = server
 
 -- what both sides' agreements offer
-abbrev pub offered_by : (KexName → Bool) → (KexName → Bool) → Side → KexName → Bool
-offered_by client server Client = client
-offered_by client server Server = server
+abbrev pub offered_on : (KexName → Bool) → (KexName → Bool) → Side → KexName → Bool
+offered_on client server Client = client
+offered_on client server Server = server

@@ -11,7 +11,7 @@ ghost use Rattle.ssh_run.specs.Asking.{CarriedAsks, RunAsks};
 ghost use Rattle.ssh_run.specs.Carrying.{IsCarried, text_of_id};
 ghost use Rattle.ssh_run.specs.Reports.{IsWholeReport};
 ghost use Rattle.ssh_run.specs.RefusedCarrying.{RefusesLink};
-ghost use Rattle.ssh_run.specs.RunCauses.{IsAnyRunCause, IsRunCause, IsValidRun, all_submits_good, offered_by, rises_by};
+ghost use Rattle.ssh_run.specs.RunCauses.{IsAnyRunCause, IsRunCause, IsValidRun, all_submits_good, offered_on, rises_by};
 ghost use Rattle.ssh_rules.specs.RunLaws.{config_of};
 ghost use Rattle.ssh_wire.specs.declared.error.Error.TheVariants.{InvalidConfig, Memory};
 ghost use Rattle.ssh_wire.specs.declared.side.Side.TheVariants.{Client as client_side, Server as server_side};
@@ -79,10 +79,10 @@ pub fn run_link<A: Agreement, H: HostKeys, G: GroupLookup, R: Rng>(
         (⟦<Parts<A, H, G, R> as Asked>⟧.unobliged (between client.now server.now)
         server_parts.old server_parts.old server_parts.new))
         (config_of (between client.now server.now))
-        (offered_by (A.offered client_parts.old.agreement) (A.offered server_parts.old.agreement))
+        (offered_on (A.offered client_parts.old.agreement) (A.offered server_parts.old.agreement))
         (G.group server_parts.old.groups client.now.gex) steps.now) }
     ensures complete { IsValidRun (config_of (between client.now server.now))
-        (offered_by (A.offered client_parts.old.agreement) (A.offered server_parts.old.agreement)) steps.now
+        (offered_on (A.offered client_parts.old.agreement) (A.offered server_parts.old.agreement)) steps.now
         → A.obliging client_parts.old.agreement client_parts.new.agreement (between client.now server.now)
         → A.obliging server_parts.old.agreement server_parts.new.agreement (between client.now server.now)
         → H.judges client_parts.old.hosts client_parts.new.hosts (between client.now server.now)

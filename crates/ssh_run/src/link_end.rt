@@ -22,14 +22,14 @@ pub(crate) struct LinkEnd<'c> {
 }
 
 impl<'c> LinkEnd<'c> {
-    ghost use Rattle.ssh_run.specs.Carrying.{Rests, all_bytes, begun_by, first_end};
-    ghost use Rattle.ssh_run.specs.LinkEnds.{end_mark, end_of};
+    ghost use Rattle.ssh_run.specs.Carrying.{Rests, all_bytes, begun_by, first_carried_end};
+    ghost use Rattle.ssh_run.specs.LinkEnds.{end_mark, carried_end};
     ghost use Rattle.ssh_run.specs.RefusedCarrying.{IsRestless, RefusesSubmit};
     ghost use Rattle.ssh_wire.specs.declared.error.Error.TheVariants.{Memory};
 
     /// A side that has sent its id line.
     pub(crate) fn new(alloc: Global, transport: Transport<'c>) -> LinkEnd<'c>
-        ensures { end_of result ≡ first_end transport.entry }
+        ensures { carried_end result ≡ first_carried_end transport.entry }
     {
         LinkEnd {
             transport,
@@ -115,15 +115,15 @@ impl<'c> LinkEnd<'c> {
 
     /// How many exchanges it has begun, with the first, inside which it is from its start on.
     pub(crate) fn begun(&self) -> u128
-        ensures { result ≡ begun_by (end_of self.now) }
+        ensures { result ≡ begun_by (carried_end self.now) }
     {
         self.transport.finished() as u128 + u128::from(self.transport.inside())
     }
 
     /// Whether it is outside an exchange and holds no unfinished input.
     pub(crate) fn rests(&self) -> bool
-        ensures rests { result ≡ true → Rests (end_of self.now) }
-        ensures restless { result ≡ false → IsRestless (end_of self.now) }
+        ensures rests { result ≡ true → Rests (carried_end self.now) }
+        ensures restless { result ≡ false → IsRestless (carried_end self.now) }
     {
         !self.transport.inside() && self.transport.unfinished() == 0
     }

@@ -4,7 +4,7 @@ ghost use Rattle.std.specs.Prelude.{◌≡◌, ◌++◌, ◌∷◌, ◌⊎◌, �
 ghost use Rattle.ssh_wire.specs.Reading.{Waiting};
 ghost use Rattle.ssh_wire.specs.declared.error.Error.TheVariants.{Memory};
 ghost use Rattle.ssh_packet.specs.Sealing.{Item};
-ghost use Rattle.ssh_run.specs.Delivering.{DeliversOne, DeliversNone, RefusesPacket};
+ghost use Rattle.ssh_run.specs.Delivering.{DeliversOne, DeliversNone, RefusesFront};
 
 use ssh_packet::{OpenKey, PacketReader, clear};
 use ssh_wire::{Error, IdProgress, Payload, ReadSshIdBuffer};
@@ -75,7 +75,7 @@ fn read_packet(
         → (item : Item) × DeliversOne reader.old reader.new delivered.old.items delivered.new.items item) }
     ensures none { IfOk result (λ found. found ≡ false
         → DeliversNone reader.old reader.new delivered.old.items delivered.new.items) }
-    ensures cause { IfErr result (λ e. (e ≡ Memory) ⊎ RefusesPacket reader.old) }
+    ensures cause { IfErr result (λ e. (e ≡ Memory) ⊎ RefusesFront reader.old) }
 {
     match reader.next(&mut OpenKey::Clear(clear::Key))? {
         Some(incoming) => {

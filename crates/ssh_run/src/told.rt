@@ -7,8 +7,8 @@ ghost use Rattle.ssh_rules.specs.declared.link.Mark.{Mark};
 ghost use Rattle.ssh_rules.specs.declared.link.Step.{Step};
 ghost use Rattle.ssh_run.specs.Asking.{LinkAsks, PartAsks, PieceAsks, SideAsks, TurnsAsk};
 ghost use Rattle.ssh_run.specs.Carrying.{AsksKeys, CarriesTo, RunsOn, SettlesAll, StepsLink, SubmitsOne, TakesTurns};
-ghost use Rattle.ssh_run.specs.LinkEnds.{end_of, link_of};
-ghost use Rattle.ssh_run.specs.RefusedCarrying.{RefusesCarrying, RefusesRun, RefusesSettle, RefusesStep, RefusesTurn, Telling, telling_of};
+ghost use Rattle.ssh_run.specs.LinkEnds.{carried_end, link_of};
+ghost use Rattle.ssh_run.specs.RefusedCarrying.{RefusesCarrying, RefusesRun, RefusesSettle, RefusesLinkStep, RefusesTurn, Telling, telling_of};
 ghost use Rattle.ssh_run.specs.declared.link.Link.{Link};
 ghost use Rattle.ssh_run.specs.declared.link_end.LinkEnd.{LinkEnd};
 ghost use Rattle.ssh_wire.specs.declared.error.Error.{Error};
@@ -45,18 +45,18 @@ impl<A: Agreement, H: HostKeys, G: GroupLookup, R> Told for Parts<A, H, G, R> {
         p.agreement q.agreement p.hosts q.hosts p.groups q.groups };
 
     ghost submits = { λ e p payload e'. SubmitsOne (⟦<Parts<A, H, G, R> as Handed>⟧.says e.transport.config p)
-        (end_of e) payload (end_of e') };
+        (carried_end e) payload (carried_end e') };
 
-    ghost rekeys = { λ e p e'. AsksKeys (⟦<Parts<A, H, G, R> as Handed>⟧.says e.transport.config p) (end_of e)
-        (end_of e') };
+    ghost rekeys = { λ e p e'. AsksKeys (⟦<Parts<A, H, G, R> as Handed>⟧.says e.transport.config p) (carried_end e)
+        (carried_end e') };
 
     ghost carries = { λ e p wire count e'. CarriesTo (⟦<Parts<A, H, G, R> as Handed>⟧.says e.transport.config p)
-        (end_of e) wire count (end_of e') };
+        (carried_end e) wire count (carried_end e') };
 
     ghost refuses = { λ e p q wire count error. RefusesCarrying (telling_of A.lawful A.obliging A.offered A.client_makes
         A.server_makes A.agrees A.refusals H.lawful H.signs H.judges H.accepts H.trusts H.makes H.refused_sign
         H.refused_verify H.refused_check G.lawful G.obliging G.group G.refusals e.transport.config
-        p.agreement q.agreement p.hosts q.hosts p.groups q.groups) (end_of e) wire count error };
+        p.agreement q.agreement p.hosts q.hosts p.groups q.groups) (carried_end e) wire count error };
 
     ghost unasked = { λ p q. (⟦<Parts<A, H, G, R> as Asked>⟧.calls q) ≡ (⟦<Parts<A, H, G, R> as Asked>⟧.calls p) };
 
@@ -64,7 +64,7 @@ impl<A: Agreement, H: HostKeys, G: GroupLookup, R> Told for Parts<A, H, G, R> {
         (⟦<Parts<A, H, G, R> as Asked>⟧.calls q) };
 
     ghost asks_for_piece = { λ e wire count p q. PieceAsks (⟦<Parts<A, H, G, R> as Handed>⟧.says e.transport.config p)
-        (end_of e) wire count (⟦<Parts<A, H, G, R> as Asked>⟧.calls p) (⟦<Parts<A, H, G, R> as Asked>⟧.calls q) };
+        (carried_end e) wire count (⟦<Parts<A, H, G, R> as Asked>⟧.calls p) (⟦<Parts<A, H, G, R> as Asked>⟧.calls q) };
 }
 
 /// What calls on a link do by what the parts of both sides say, the client's before the server's.
@@ -109,7 +109,7 @@ impl<A: Agreement, H: HostKeys, G: GroupLookup, R> LinkTold for Parts<A, H, G, R
         (⟦<Parts<A, H, G, R> as Handed>⟧.says l.server.transport.config q) l.bound steps (link_of l)
         (link_of l') marks };
 
-    ghost refuses_step = { λ l p p' q q' step e. RefusesStep (⟦<Parts<A, H, G, R> as Told>⟧.telling
+    ghost refuses_step = { λ l p p' q q' step e. RefusesLinkStep (⟦<Parts<A, H, G, R> as Told>⟧.telling
         l.client.transport.config p p') (⟦<Parts<A, H, G, R> as Told>⟧.telling l.server.transport.config q q') l.bound
         step (link_of l) e };
 

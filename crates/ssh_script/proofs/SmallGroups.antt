@@ -9,7 +9,7 @@ use Rattle.ssh_kex.specs.declared.group.GexParams.{GexParams}
 use Rattle.ssh_rules.specs.declared.link.AttackStep.{AttackStep}
 use Rattle.ssh_rules.specs.declared.link.Step.{Step}
 use Rattle.ssh_script.specs.Plans.{Plan, HasSmallGroups, HasSmallSizes}
-use Rattle.ssh_script.specs.RunScript.{attack_step, first_plan, link_form, part_of, run_step, set_before, set_by, set_server, set_side, set_words, setting_of, sizes, with_attack, with_default_key, with_limits, with_refusal, with_step}
+use Rattle.ssh_script.specs.RunScript.{attack_step, first_plan, link_form, part_of, run_step, set_before, set_by, set_server, set_side, set_words, setting_in, sizes, with_attack, with_default_key, with_limits, with_refusal, with_step}
 use Rattle.ssh_lines.specs.Fields.{all_three, both, form_makes, from_three, from_two, from_word, size_from, size_of}
 use Rattle.ssh_lines.specs.Fields.{number_of, side_of}
 use Rattle.ssh_lines.specs.Lines.{is_comment, pieces, words_of}
@@ -128,7 +128,7 @@ by_small (Some Server) (Some what) words p p' h e = map_ok HasSmallGroups _ _ p'
 set_small : (words : List (List ℕ)) (p p' : Plan) → HasSmallGroups p → set_words words p ≡ Some p' → HasSmallGroups p'
 set_small [] p p' h e = cc
 set_small (side ∷ []) p p' h e = cc
-set_small (side ∷ what ∷ words) p p' h e = by_small (side_of side) (setting_of what) words p p' h e
+set_small (side ∷ what ∷ words) p p' h e = by_small (side_of side) (setting_in what) words p p' h e
 
 before_small : (steps : List Step) (attacks : List AttackStep) (words : List (List ℕ)) (p p' : Plan) → HasSmallGroups p → set_before steps attacks words p ≡ Some p' → HasSmallGroups p'
 before_small [] [] words p p' h e = set_small words p p' h e

@@ -24,8 +24,8 @@ side_lines side report = report_line side (codes "wire") (hex_word report.wire)
 
 -- The room for what is told of a side, in bytes: two for each byte of its wire and of a payload, 64 for the words of the
 -- wire and of a number, and 32 for those of a payload.
-abbrev pub room_for : List ℕ → List (List ℕ) → ℕ
-room_for wire delivered = 2 * length wire + 64 + sum (map (λ (payload : List ℕ). 2 * length payload + 32) delivered)
+abbrev pub report_room : List ℕ → List (List ℕ) → ℕ
+report_room wire delivered = 2 * length wire + 64 + sum (map (λ (payload : List ℕ). 2 * length payload + 32) delivered)
 
 -- the report of a clear link: the client, then the server
 abbrev pub clear_report_text : ClearReport → List ℕ

@@ -16,7 +16,7 @@ use Rattle.ssh_rules.specs.declared.link.SideReport.{SideReport}
 use Rattle.ssh_rules.specs.declared.link.LinkReport.{LinkReport}
 use Rattle.ssh_wire.specs.declared.error.Error.{Error}
 use Rattle.ssh_wire.specs.declared.error.Error.TheVariants as errors
-use Rattle.ssh_script.specs.Report.{report_line, room_for, delivered_lines}
+use Rattle.ssh_script.specs.Report.{report_line, report_room, delivered_lines}
 use Rattle.ssh_lines.specs.Printed.{side_name, hex_word, error_text}
 
 -- KEY: the type of the certificate where one was chosen
@@ -54,7 +54,7 @@ link_side_lines side report =
 
 -- the room for it: besides 512 bytes for each exchange, and 32 for how many these are
 abbrev pub link_room : SideReport → ℕ
-link_room report = room_for report.wire report.delivered + 512 * length report.exchanges + 32
+link_room report = report_room report.wire report.delivered + 512 * length report.exchanges + 32
 
 -- the report of a link: the client, then the server
 abbrev pub link_report_text : LinkReport → List ℕ

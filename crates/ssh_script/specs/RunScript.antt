@@ -70,12 +70,12 @@ abbrev pub mac_names : List macs.Name
 mac_names = mac.NoMac ∷ mac.HmacSha1 ∷ mac.HmacSha256 ∷ mac.HmacSha512 ∷ mac.HmacSha1Etm ∷ mac.HmacSha256Etm ∷ mac.HmacSha512Etm ∷ []
 
 -- ALGORITHM
-abbrev pub algorithm_of : List ℕ → Option Algorithm
-algorithm_of word = named_by algorithm_name algorithms word
+abbrev pub algorithm_for : List ℕ → Option Algorithm
+algorithm_for word = named_by algorithm_name algorithms word
 
 -- what a word sets
-abbrev pub setting_of : List ℕ → Option Setting
-setting_of word =
+abbrev pub setting_in : List ℕ → Option Setting
+setting_in word =
     if bytes_eq word (codes "id") then Some setting.Id
     else if bytes_eq word (codes "rawid") then Some setting.RawId
     else if bytes_eq word (codes "kex") then Some setting.Kex
@@ -190,9 +190,9 @@ set_server setting.Cipher words s = set_side setting.Cipher words s
 set_server setting.Mac words s = set_side setting.Mac words s
 set_server setting.Limits words s = set_side setting.Limits words s
 set_server setting.GroupSizes words s = set_side setting.GroupSizes words s
-set_server setting.Host words s = option_map (with_hosts s) (with_key s.config.host (from_two host_key algorithm_of hex_of words))
+set_server setting.Host words s = option_map (with_hosts s) (with_key s.config.host (from_two host_key algorithm_for hex_of words))
 set_server setting.HostCertificate words s =
-    option_map (with_hosts s) (with_certificate s.config.host (from_three host_certificate algorithm_of hex_of hex_of words))
+    option_map (with_hosts s) (with_certificate s.config.host (from_three host_certificate algorithm_for hex_of hex_of words))
 set_server setting.Seed words s = set_side setting.Seed words s
 set_server setting.Refuse words s = set_side setting.Refuse words s
 set_server setting.Group words s = option_map (λ bits. record s { group_bits = bits }) (from_word size_of words)
@@ -206,7 +206,7 @@ set_by (Some Server) (Some what) words plan = option_map (λ s. record plan { se
 abbrev pub set_words : List (List ℕ) → Plan → Option Plan
 set_words [] plan = None
 set_words (side ∷ []) plan = None
-set_words (side ∷ what ∷ words) plan = set_by (side_of side) (setting_of what) words plan
+set_words (side ∷ what ∷ words) plan = set_by (side_of side) (setting_in what) words plan
 
 -- the words behind `set`: nothing is set behind a step
 abbrev pub set_before : List Step → List AttackStep → List (List ℕ) → Plan → Option Plan

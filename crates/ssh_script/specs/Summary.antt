@@ -8,9 +8,9 @@ use Rattle.ssh_rules.specs.declared.link.LinkReport.{LinkReport}
 use Rattle.ssh_lines.specs.Printed.{side_name}
 
 -- how many bytes the payloads have together
-abbrev pub bytes_in : List (List ℕ) → ℕ
-bytes_in [] = 0
-bytes_in (payload ∷ payloads) = length payload + bytes_in payloads
+abbrev pub bytes_together : List (List ℕ) → ℕ
+bytes_together [] = 0
+bytes_together (payload ∷ payloads) = length payload + bytes_together payloads
 
 -- the largest number that is printed
 abbrev pub largest : ℕ
@@ -20,7 +20,7 @@ largest = 2 ^ 64 - 1
 abbrev pub side_summary : Side → SideReport → List ℕ
 side_summary side report =
     side_name side ++ (codes " sent " ++ decimal (length report.wire)) ++ (codes " finished " ++ decimal (length report.exchanges))
-    ++ (codes " delivered " ++ decimal (length report.delivered)) ++ (codes " bytes " ++ decimal (min (bytes_in report.delivered) largest))
+    ++ (codes " delivered " ++ decimal (length report.delivered)) ++ (codes " bytes " ++ decimal (min (bytes_together report.delivered) largest))
     ++ 10 ∷ []
 
 -- `steps N`, then a line for each side: there is one mark more than steps

@@ -2,7 +2,7 @@
 
 ghost use Rattle.std.specs.Prelude.{◌≡◌, ◌++◌, ◌-◌, ◌^◌, min, IfOk, IfErr, OnOk};
 ghost use Rattle.ssh_wire.specs.declared.error.Error.TheVariants.{Memory};
-ghost use Rattle.ssh_script.specs.Report.{room_for, side_lines, clear_report_text};
+ghost use Rattle.ssh_script.specs.Report.{report_room, side_lines, clear_report_text};
 
 use crate::report::{ClearReport, ClearSide};
 use crate::report_line::{push_delivered, push_hex_line, push_number_line, room_of};
@@ -25,7 +25,7 @@ pub fn print_clear(alloc: Global, report: &ClearReport) -> Result<Vec<u8>, Error
 
 /// More than the length of what is printed of a side, so that the text doesn't grow.
 fn text_room(report: &ClearSide) -> usize
-    ensures { result ≡ min (room_for report.now.wire report.now.delivered) (2 ^ 64 - 1) }
+    ensures { result ≡ min (report_room report.now.wire report.now.delivered) (2 ^ 64 - 1) }
 {
     room_of(report.wire.as_slice(), report.delivered.as_slice())
 }

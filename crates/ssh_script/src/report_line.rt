@@ -2,7 +2,7 @@
 
 ghost use Rattle.std.specs.Prelude.{◌≡◌, ◌∷◌, [], ◌++◌, ◌-◌, ◌^◌, decimal, min, IfErr, OnOk};
 ghost use Rattle.ssh_wire.specs.declared.error.Error.TheVariants.{Memory};
-ghost use Rattle.ssh_script.specs.Report.{report_line, room_for, delivered_lines};
+ghost use Rattle.ssh_script.specs.Report.{report_line, report_room, delivered_lines};
 ghost use Rattle.ssh_lines.specs.Printed.{side_name, hex_word};
 
 use ssh_lines::{name_of_side, push_decimal, push_hex};
@@ -10,7 +10,7 @@ use ssh_wire::{Error, Payload, Side, put_u8};
 
 /// More than the length of what is printed of a wire, a number and payloads; it stops at its end.
 pub(crate) fn room_of(wire: &[u8], delivered: &[Payload]) -> usize
-    ensures { result ≡ min (room_for wire.now delivered.now) (2 ^ 64 - 1) }
+    ensures { result ≡ min (report_room wire.now delivered.now) (2 ^ 64 - 1) }
 {
     let mut room = wire.len().saturating_mul(2).saturating_add(64);
     for payload in delivered {

@@ -3,7 +3,7 @@
 ghost use Rattle.std.specs.Prelude.{◌≡◌, ◌∷◌, [], Some, IfOk, IfErr, OnOk};
 ghost use Rattle.ssh_script.specs.GivenBlobs.{AreBlobsOf};
 ghost use Rattle.ssh_lines.specs.LineFaults.{AreWrong};
-ghost use Rattle.ssh_script.specs.RunScript.{setting_of, part_of, set_before, set_server, set_side, with_refusal, with_limits, with_key, with_certificate, host_key, host_certificate, sizes, standard_of, raw_of, algorithm_of, utf8_of, list_of};
+ghost use Rattle.ssh_script.specs.RunScript.{setting_in, part_of, set_before, set_server, set_side, with_refusal, with_limits, with_key, with_certificate, host_key, host_certificate, sizes, standard_of, raw_of, algorithm_for, utf8_of, list_of};
 ghost use Rattle.ssh_lines.specs.Fields.{from_word, from_two, from_three, size_of};
 ghost use Rattle.ssh_lines.specs.Fields.{hex_of, number_of};
 
@@ -47,7 +47,7 @@ pub(crate) enum Part {
 
 /// What the word behind the side sets.
 fn setting_named(word: &[u8]) -> Option<Setting>
-    ensures { result ≡ setting_of word.now }
+    ensures { result ≡ setting_in word.now }
 {
     if word == b"id".as_slice() {
         Some(Setting::Id)
@@ -332,8 +332,8 @@ fn add_key(
 ) -> Result<(), LineFault>
     requires { AreBlobsOf host.old given.old }
     ensures given { OnOk result (AreBlobsOf host.new given.new) }
-    ensures ok { OnOk result (with_key host.old (from_two host_key algorithm_of hex_of words.entry) ≡ Some host.new) }
-    ensures fault { IfErr result (AreWrong (with_key host.old (from_two host_key algorithm_of hex_of words.entry))) }
+    ensures ok { OnOk result (with_key host.old (from_two host_key algorithm_for hex_of words.entry) ≡ Some host.new) }
+    ensures fault { IfErr result (AreWrong (with_key host.old (from_two host_key algorithm_for hex_of words.entry))) }
 {
     let key = key_in(alloc, words)?;
     if !given.add(alloc, key.blob.as_slice())? {
@@ -344,8 +344,8 @@ fn add_key(
 }
 
 fn key_in(alloc: Global, mut words: Words) -> Result<HostKey, LineFault>
-    ensures ok { IfOk result (λ key. from_two host_key algorithm_of hex_of words.entry ≡ Some key) }
-    ensures fault { IfErr result (AreWrong (from_two host_key algorithm_of hex_of words.entry)) }
+    ensures ok { IfOk result (λ key. from_two host_key algorithm_for hex_of words.entry ≡ Some key) }
+    ensures fault { IfErr result (AreWrong (from_two host_key algorithm_for hex_of words.entry)) }
 {
     let (Some(algorithm_word), Some(blob_word), None) = (words.take(), words.take(), words.take())
     else {
@@ -365,10 +365,10 @@ fn add_certificate(
 ) -> Result<(), LineFault>
     requires { AreBlobsOf host.old given.old }
     ensures given { OnOk result (AreBlobsOf host.new given.new) }
-    ensures ok { OnOk result (with_certificate host.old (from_three host_certificate algorithm_of hex_of hex_of
+    ensures ok { OnOk result (with_certificate host.old (from_three host_certificate algorithm_for hex_of hex_of
         words.entry) ≡ Some host.new) }
     ensures fault { IfErr result (AreWrong (with_certificate host.old
-        (from_three host_certificate algorithm_of hex_of hex_of words.entry))) }
+        (from_three host_certificate algorithm_for hex_of hex_of words.entry))) }
 {
     let certificate = certificate_in(alloc, words)?;
     if !given.add(alloc, certificate.blob.as_slice())? {
@@ -379,9 +379,9 @@ fn add_certificate(
 }
 
 fn certificate_in(alloc: Global, mut words: Words) -> Result<HostCertificate, LineFault>
-    ensures ok { IfOk result (λ certificate. from_three host_certificate algorithm_of hex_of hex_of words.entry ≡ Some
+    ensures ok { IfOk result (λ certificate. from_three host_certificate algorithm_for hex_of hex_of words.entry ≡ Some
         certificate) }
-    ensures fault { IfErr result (AreWrong (from_three host_certificate algorithm_of hex_of hex_of words.entry)) }
+    ensures fault { IfErr result (AreWrong (from_three host_certificate algorithm_for hex_of hex_of words.entry)) }
 {
     let (Some(algorithm_word), Some(blob_word), Some(key_word), None) = (
         words.take(),
@@ -403,8 +403,8 @@ fn certificate_in(alloc: Global, mut words: Words) -> Result<HostCertificate, Li
 
 /// ALGORITHM
 fn algorithm_in(word: &[u8]) -> Result<Algorithm, LineFault>
-    ensures ok { IfOk result (λ algorithm. algorithm_of word.now ≡ Some algorithm) }
-    ensures fault { IfErr result (AreWrong (algorithm_of word.now)) }
+    ensures ok { IfOk result (λ algorithm. algorithm_for word.now ≡ Some algorithm) }
+    ensures fault { IfErr result (AreWrong (algorithm_for word.now)) }
 {
     named(&HOST_KEY_NAMES, word).ok_or(LineFault::Malformed)
 }

@@ -2,7 +2,7 @@
 
 ghost use Rattle.std.specs.Prelude.{◌≡◌, ◌++◌, ◌-◌, min, length, IfOk, IfErr, OnOk};
 ghost use Rattle.ssh_wire.specs.declared.error.Error.TheVariants.{Memory};
-ghost use Rattle.ssh_script.specs.Summary.{bytes_in, largest, side_summary, summary_text};
+ghost use Rattle.ssh_script.specs.Summary.{bytes_together, largest, side_summary, summary_text};
 
 use ssh_lines::{name_of_side, push_numbered, push_text};
 use ssh_rules::link::{LinkReport, SideReport};
@@ -40,7 +40,7 @@ fn push_side(out: &mut Vec<u8>, side: Side, report: &SideReport) -> Result<(), E
 
 /// How many bytes the payloads have together; the sum stands still at its end.
 fn total_bytes(payloads: &[Payload]) -> u64
-    ensures { result ≡ min (bytes_in payloads.now) largest }
+    ensures { result ≡ min (bytes_together payloads.now) largest }
 {
     let mut sum = 0u64;
     let mut rest = payloads;

@@ -14,7 +14,7 @@ use Rattle.ssh_wire.specs.declared.error.Error.TheVariants.{Memory}
 use Rattle.ssh_wire.specs.declared.side.Side.TheVariants.{Server}
 use Rattle.ssh_kex.specs.Views.{EndsAtOnce, HasKeys, Lasts}
 use Rattle.ssh_kex.specs.Messages.{is_gex, newkeys}
-use Rattle.ssh_server_kex.specs.ServerAnswers.{AnswersOpening, RefusesKexinit}
+use Rattle.ssh_server_kex.specs.ServerAnswers.{AnswersOpening, ServerRefusesKexinit}
 use Rattle.ssh_server_kex.specs.ServerRows.{CanAnswer, OpensServer}
 use Rattle.ssh_server_kex.specs.ServerViews.{Begins, CanAsk, CanBegin, IsFresh, server_machine, server_opened}
 use Rattle.ssh_kex.specs.Setting.{Says, Setting, Opened, kept_of}
@@ -166,7 +166,7 @@ pub opening_answered : (Offered : _) (config : Config) (cause : KexCause) (x y :
 opening_answered Offered config cause x y n i old new (Ok p) o h = record { names = n; exchange = y; opens = o; begins = h }
 opening_answered Offered config cause x y n i old new (Err e) o h = tt
 
-pub opening_wants : (Offered : _) (config : Config) (cause : KexCause) (i : Incoming) (r : Result (KexProgress Machine) Error) → IfErr r (λ e. e ≡ Memory) → IfErr r (RefusesKexinit Offered config cause i)
+pub opening_wants : (Offered : _) (config : Config) (cause : KexCause) (i : Incoming) (r : Result (KexProgress Machine) Error) → IfErr r (λ e. e ≡ Memory) → IfErr r (ServerRefusesKexinit Offered config cause i)
 opening_wants Offered config cause i (Ok p) h = tt
 opening_wants Offered config cause i (Err e) h = inl h
 

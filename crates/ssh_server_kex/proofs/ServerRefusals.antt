@@ -7,9 +7,9 @@ use Rattle.ssh_packet.specs.declared.reader.Incoming.{Incoming}
 use Rattle.ssh_wire.specs.declared.error.Error.{Error}
 use Rattle.ssh_kex.specs.Messages.{is_gex}
 use Rattle.ssh_kex.specs.Refusals.{Denies}
-use Rattle.ssh_server_kex.specs.ServerAnswers.{RefusesKexinit}
-use Rattle.ssh_server_kex.specs.ServerRows.{IsLongAnswer, RefusesRequest, RefusesValue}
-use Rattle.ssh_server_kex.specs.ServerViews.{drops_guess, server_machine}
+use Rattle.ssh_server_kex.specs.ServerAnswers.{ServerRefusesKexinit}
+use Rattle.ssh_server_kex.specs.ServerRows.{IsLongAnswer, RefusesRequest, ServerRefusesValue}
+use Rattle.ssh_server_kex.specs.ServerViews.{server_drops_guess, server_machine}
 use Rattle.ssh_kex.specs.Setting.{Says, group_of}
 use Rattle.ssh_kex.specs.Stages.{Machine}
 use Rattle.ssh_kex.specs.Stepping.{RefusesStep}
@@ -28,12 +28,12 @@ step_refuses says denies config cause x state known m i e view is h =
 
 -- ---- the client's KEXINIT
 
-kexinit_refuses : (says : Says) (denies : Denies) (config : Config) (cause : KexCause) (x : Exchange) (i : Incoming) (e : Error) → RefusesKexinit says.offers config cause i e → RefusesStep says denies (server_machine config cause x states.Created) (Some i) e
+kexinit_refuses : (says : Says) (denies : Denies) (config : Config) (cause : KexCause) (x : Exchange) (i : Incoming) (e : Error) → ServerRefusesKexinit says.offers config cause i e → RefusesStep says denies (server_machine config cause x states.Created) (Some i) e
 kexinit_refuses says denies config cause x i e h = by h where
   refused : Error → Type 0
   refused error = RefusesStep says denies (server_machine config cause x states.Created) (Some i) error
 
-  by : RefusesKexinit says.offers config cause i e → refused e
+  by : ServerRefusesKexinit says.offers config cause i e → refused e
   by (inl m) = subst refused (sym m) tt
   by (inr (inl k)) = refuses_names says denies (server_machine config cause x states.Created).setting x.server_kex_init i.seqn i.payload.now e k
   by (inr (inr (k, m))) =
@@ -42,7 +42,7 @@ kexinit_refuses says denies config cause x i e h = by h where
         (k.names, record { read = k.reads.read; first = k.reads.first; exchanges = k.exchanges }, k.unoffered),
       )
 
-pub opening_refused : (says : Says) (denies : Denies) (config : Config) (cause : KexCause) (x : Exchange) (state : ServerState) (m : Machine) (i : Incoming) (r : Result (KexProgress Machine) Error) → server_machine config cause x state ≡ m → state ≡ states.Created → IfErr r (RefusesKexinit says.offers config cause i) → IfErr r (λ e. RefusesStep says denies m (Some i) e)
+pub opening_refused : (says : Says) (denies : Denies) (config : Config) (cause : KexCause) (x : Exchange) (state : ServerState) (m : Machine) (i : Incoming) (r : Result (KexProgress Machine) Error) → server_machine config cause x state ≡ m → state ≡ states.Created → IfErr r (ServerRefusesKexinit says.offers config cause i) → IfErr r (λ e. RefusesStep says denies m (Some i) e)
 opening_refused says denies config cause x state m i (Ok p) view is h = tt
 opening_refused says denies config cause x state m i (Err e) view is h =
     step_refuses says denies config cause x state states.Created m i e view is (kexinit_refuses says denies config cause x i e h)
@@ -63,7 +63,7 @@ request_refuses says denies config cause x n i e kept h = by h where
       subst refused (sym m) (record { kept = kept; type_is = t }, l, record { sizes = k.sizes; group = k.group; read = k.read; finds = k.finds; size = k.size })
   by (inr (inr (inr m))) = subst refused (sym m) tt
 
-pub request_refused : (says : Says) (denies : Denies) (config : Config) (cause : KexCause) (x : Exchange) (state : ServerState) (m : Machine) (n : Names) (i : Incoming) (r : Result (KexProgress Machine) Error) → server_machine config cause x state ≡ m → state ≡ states.AwaitsRequest n → drops_guess state ≡ false → IfErr r (RefusesRequest says.finds denies.lookup i.payload.now) → IfErr r (λ e. RefusesStep says denies m (Some i) e)
+pub request_refused : (says : Says) (denies : Denies) (config : Config) (cause : KexCause) (x : Exchange) (state : ServerState) (m : Machine) (n : Names) (i : Incoming) (r : Result (KexProgress Machine) Error) → server_machine config cause x state ≡ m → state ≡ states.AwaitsRequest n → server_drops_guess state ≡ false → IfErr r (RefusesRequest says.finds denies.lookup i.payload.now) → IfErr r (λ e. RefusesStep says denies m (Some i) e)
 request_refused says denies config cause x state m n i (Ok p) view is kept h = tt
 request_refused says denies config cause x state m n i (Err e) view is kept h =
     step_refuses says denies config cause x state (states.AwaitsRequest n) m i e view is (request_refuses says denies config cause x n i e (kept_request n state is kept) h)
@@ -71,13 +71,13 @@ request_refused says denies config cause x state m n i (Err e) view is kept h =
 -- ---- a client's value
 
 value_refuses : (says : Says) (denies : Denies) (config : Config) (cause : KexCause) (x : Exchange) (n : Names) (i : Incoming) (e : Error) → n.ignore_guessed ≡ false
-    → RefusesValue (is_gex n.kex) (denies.value n.kex (group_of x.gex)) (denies.sign config) (IsLongAnswer (says.server_makes n.kex (group_of x.gex)) says.value_small says.signature_small config n i.payload.now) i.payload.now e
+    → ServerRefusesValue (is_gex n.kex) (denies.value n.kex (group_of x.gex)) (denies.sign config) (IsLongAnswer (says.server_makes n.kex (group_of x.gex)) says.value_small says.signature_small config n i.payload.now) i.payload.now e
     → RefusesStep says denies (server_machine config cause x (states.AwaitsValue n)) (Some i) e
 value_refuses says denies config cause x n i e kept h = by h where
   refused : Error → Type 0
   refused error = RefusesStep says denies (server_machine config cause x (states.AwaitsValue n)) (Some i) error
 
-  by : RefusesValue (is_gex n.kex) (denies.value n.kex (group_of x.gex)) (denies.sign config) (IsLongAnswer (says.server_makes n.kex (group_of x.gex)) says.value_small says.signature_small config n i.payload.now) i.payload.now e → refused e
+  by : ServerRefusesValue (is_gex n.kex) (denies.value n.kex (group_of x.gex)) (denies.sign config) (IsLongAnswer (says.server_makes n.kex (group_of x.gex)) says.value_small says.signature_small config n i.payload.now) i.payload.now e → refused e
   by (inl (inl (t, m))) = subst refused (sym m) (inl (refl, record { kept = kept; type_is = t }))
   by (inl (inr (t, (fault, read, m)))) = subst refused (sym m) (record { kept = kept; type_is = t }, read)
   by (inr (t, inl ((value, read, denied), m))) =
@@ -103,8 +103,8 @@ value_refuses says denies config cause x n i e kept h = by h where
       )
   by (inr (t, inr (inr (inr m)))) = subst refused (sym m) tt
 
-pub value_refused : (says : Says) (denies : Denies) (config : Config) (cause : KexCause) (x : Exchange) (state : ServerState) (m : Machine) (n : Names) (i : Incoming) (r : Result (KexProgress Machine) Error) → server_machine config cause x state ≡ m → state ≡ states.AwaitsValue n → drops_guess state ≡ false
-    → IfErr r (RefusesValue (is_gex n.kex) (denies.value n.kex (group_of x.gex)) (denies.sign config) (IsLongAnswer (says.server_makes n.kex (group_of x.gex)) says.value_small says.signature_small config n i.payload.now) i.payload.now)
+pub value_refused : (says : Says) (denies : Denies) (config : Config) (cause : KexCause) (x : Exchange) (state : ServerState) (m : Machine) (n : Names) (i : Incoming) (r : Result (KexProgress Machine) Error) → server_machine config cause x state ≡ m → state ≡ states.AwaitsValue n → server_drops_guess state ≡ false
+    → IfErr r (ServerRefusesValue (is_gex n.kex) (denies.value n.kex (group_of x.gex)) (denies.sign config) (IsLongAnswer (says.server_makes n.kex (group_of x.gex)) says.value_small says.signature_small config n i.payload.now) i.payload.now)
     → IfErr r (λ e. RefusesStep says denies m (Some i) e)
 value_refused says denies config cause x state m n i (Ok p) view is kept h = tt
 value_refused says denies config cause x state m n i (Err e) view is kept h =

@@ -28,7 +28,7 @@ use Rattle.ssh_kex.specs.Exchange.{exchange_hash}
 use Rattle.ssh_kex.specs.Messages.{Presented, by_certificate, by_holder, by_key, host_with, is_gex, newkeys, presented, reply_message, request_message, sizes_text, value_message}
 use Rattle.ssh_kex.specs.Parts.{Presents, Setup}
 use Rattle.ssh_kex.specs.Fields.{sizes_front, sizes_in, value_in}
-use Rattle.ssh_server_kex.specs.ServerRows.{AgreesOn, AnswersValue, AreShortBlobs, CanAnswer, IsLongAnswer, RefusesAnswer, RefusesSizes, RefusesText, RefusesValue}
+use Rattle.ssh_server_kex.specs.ServerRows.{AgreesOn, AnswersValue, AreShortBlobs, CanAnswer, IsLongAnswer, RefusesAnswer, RefusesSizes, RefusesText, ServerRefusesValue}
 use Rattle.ssh_kex.specs.Setting.{kept_of}
 use Rattle.ssh_kex.specs.Signature.{judged}
 use Rattle.ssh_kex.specs.Stepping.{PutsAll}
@@ -233,7 +233,7 @@ value_typed false payload value e = ap message_type e
 
 pub sign_refused : (Denied : List ℕ → Type 0) (Unsigned : Type 0) (Long : ℕ → Type 0) (n : Names) (payload value : List ℕ) (gex : Bool)
     → gex ≡ is_gex n.kex → payload ≡ value_message gex value → value_in (drop 1 payload) ≡ Ok value → Unsigned
-    → RefusesValue (is_gex n.kex) Denied Unsigned Long payload errors.Signature
+    → ServerRefusesValue (is_gex n.kex) Denied Unsigned Long payload errors.Signature
 sign_refused Denied Unsigned Long n payload value gex g is read u =
     inr (value_typed (is_gex n.kex) payload value (is ∙ ap (λ b. value_message b value) g), inr (inl ((value, read), u, refl)))
 
@@ -242,7 +242,7 @@ pub reply_refused : (Made : List ℕ → List ℕ → Type 0) (Denied : List ℕ
     → AgreesOn Made n.kex x y k → ((v w : List ℕ) → Made v w → Makes v) → ((v w : List ℕ) → Made v w → ValueSmall v) → SignatureSmall signature
     → Some p ≡ presented config.host n.host_key_is_certificate n.key
     → shown ≡ p.blob → own ≡ y.server_ephemeral → sent ≡ signature → reply ≡ reply_message gex shown own sent → IsSizeOrMemory (length reply) e
-    → RefusesValue (is_gex n.kex) Denied Unsigned (IsLongAnswer Makes ValueSmall SignatureSmall config n payload) payload e
+    → ServerRefusesValue (is_gex n.kex) Denied Unsigned (IsLongAnswer Makes ValueSmall SignatureSmall config n payload) payload e
 reply_refused Made Denied Unsigned Makes ValueSmall SignatureSmall config n x y payload e k p value signature shown own sent reply gex g is read a makes small signed presents shown_is own_is sent_is reply_is cause =
     inr (value_typed (is_gex n.kex) payload value (is ∙ ap (λ b. value_message b value) g), by cause)
   where

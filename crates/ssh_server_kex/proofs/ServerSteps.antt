@@ -13,7 +13,7 @@ use Rattle.ssh_wire.specs.declared.side.Side.TheVariants.{Server}
 use Rattle.ssh_kex.specs.Messages.{host_with, is_gex}
 use Rattle.ssh_server_kex.specs.ServerAnswers.{AnswersClient, AnswersSizes}
 use Rattle.ssh_server_kex.specs.ServerRows.{AnswersRequest, AnswersValue}
-use Rattle.ssh_server_kex.specs.ServerViews.{ServerKeeps, behind_guess, drops_guess, server_machine, server_opened}
+use Rattle.ssh_server_kex.specs.ServerViews.{ServerKeeps, server_behind_guess, server_drops_guess, server_machine, server_opened}
 use Rattle.ssh_kex.specs.Setting.{Says, Setting, group_of, made_of}
 use Rattle.ssh_kex.specs.Signature.{judged}
 use Rattle.ssh_kex.specs.Stages.{Machine, AwaitsNewkeys}
@@ -30,13 +30,13 @@ use Rattle.ssh_server_kex.specs.declared.server_kex.ServerState.TheVariants as s
 -- ---- a wrong guess
 
 -- the names of a state in which none is dropped
-pub kept_request : (n : Names) (state : ServerState) → state ≡ states.AwaitsRequest n → drops_guess state ≡ false → n.ignore_guessed ≡ false
-kept_request n state is kept = ap drops_guess (sym is) ∙ kept
+pub kept_request : (n : Names) (state : ServerState) → state ≡ states.AwaitsRequest n → server_drops_guess state ≡ false → n.ignore_guessed ≡ false
+kept_request n state is kept = ap server_drops_guess (sym is) ∙ kept
 
-pub kept_value : (n : Names) (state : ServerState) → state ≡ states.AwaitsValue n → drops_guess state ≡ false → n.ignore_guessed ≡ false
-kept_value n state is kept = ap drops_guess (sym is) ∙ kept
+pub kept_value : (n : Names) (state : ServerState) → state ≡ states.AwaitsValue n → server_drops_guess state ≡ false → n.ignore_guessed ≡ false
+kept_value n state is kept = ap server_drops_guess (sym is) ∙ kept
 
-pub still_keeps : (config : Config) (x : Exchange) (state : ServerState) → ServerKeeps config x state → ServerKeeps config x (behind_guess state)
+pub still_keeps : (config : Config) (x : Exchange) (state : ServerState) → ServerKeeps config x state → ServerKeeps config x (server_behind_guess state)
 still_keeps config x states.Created h = h
 still_keeps config x (states.AwaitsRequest n) h = record { blobs = h.blobs; client_id = h.client_id; server_id = h.server_id; client_kex_init = h.client_kex_init; server_kex_init = h.server_kex_init; kind = h.kind; exchanges = h.exchanges; shown = h.shown; presents = h.presents }
 still_keeps config x (states.AwaitsValue n) h = record { blobs = h.blobs; client_id = h.client_id; server_id = h.server_id; client_kex_init = h.client_kex_init; server_kex_init = h.server_kex_init; group = h.group; kind = h.kind; exchanges = h.exchanges; shown = h.shown; presents = h.presents }
@@ -55,7 +55,7 @@ request_answered says config cause x n i old new g kept a =
       puts = (new, a.puts, refl);
     })
 
-pub request_progresses : (says : Says) (config : Config) (cause : KexCause) (x : Exchange) (state : ServerState) (m : Machine) (n : Names) (i : Incoming) (old new : Writer) (r : Result (KexProgress Machine) Error) → server_machine config cause x state ≡ m → state ≡ states.AwaitsRequest n → drops_guess state ≡ false → IfOk r (λ p. AnswersSizes says.finds config cause x n i.payload.now p old new) → IfOk r (λ p. Progresses says m (Some i) old p new)
+pub request_progresses : (says : Says) (config : Config) (cause : KexCause) (x : Exchange) (state : ServerState) (m : Machine) (n : Names) (i : Incoming) (old new : Writer) (r : Result (KexProgress Machine) Error) → server_machine config cause x state ≡ m → state ≡ states.AwaitsRequest n → server_drops_guess state ≡ false → IfOk r (λ p. AnswersSizes says.finds config cause x n i.payload.now p old new) → IfOk r (λ p. Progresses says m (Some i) old p new)
 request_progresses says config cause x state m n i old new (Err e) v s kept h = tt
 request_progresses says config cause x state m n i old new (Ok p) v s kept h =
     subst (λ (k : Machine). Progresses says k (Some i) old p new) (ap (server_machine config cause x) (sym s) ∙ v)
@@ -104,7 +104,7 @@ takes_value says config cause x n i old new p kept h =
     (value_answered says config cause x h.exchange n i old new h.made _ kept h.answers refl)
 
 -- `says` goes by the configuration, which the machine holds
-pub value_progresses : (says : Config → Says) (config : Config) (cause : KexCause) (x : Exchange) (state : ServerState) (m : Machine) (n : Names) (i : Incoming) (old new : Writer) (r : Result (KexProgress Machine) Error) → server_machine config cause x state ≡ m → state ≡ states.AwaitsValue n → drops_guess state ≡ false
+pub value_progresses : (says : Config → Says) (config : Config) (cause : KexCause) (x : Exchange) (state : ServerState) (m : Machine) (n : Names) (i : Incoming) (old new : Writer) (r : Result (KexProgress Machine) Error) → server_machine config cause x state ≡ m → state ≡ states.AwaitsValue n → server_drops_guess state ≡ false
     → IfOk r (λ p. AnswersClient ((says config).server_makes n.kex (group_of x.gex)) ((says config).agrees n.kex (group_of x.gex)) (says config).signs config cause x n i.payload.now p old new)
     → IfOk r (λ p. Progresses (says m.setting.config) m (Some i) old p new)
 value_progresses says config cause x state m n i old new (Err e) v s kept h = tt

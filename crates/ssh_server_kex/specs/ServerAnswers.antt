@@ -34,8 +34,8 @@ pub record AnswersOpening (Offered : kexes.Name
   pub opens : OpensServer Offered config cause x exchange i.seqn i.payload.now names
   pub begins : Begins (shape_of names.kex).skip (is_gex names.kex) config cause exchange names p w w'
 
-abbrev pub RefusesKexinit : (kexes.Name → Type 0) → Config → KexCause → Incoming → Error → Type 0
-RefusesKexinit Offered config cause i error = (error ≡ Memory)
+abbrev pub ServerRefusesKexinit : (kexes.Name → Type 0) → Config → KexCause → Incoming → Error → Type 0
+ServerRefusesKexinit Offered config cause i error = (error ≡ Memory)
     ⊎ RefusesOpening Offered config cause i.seqn i.payload.now error
 
 -- the sizes that a client asks for

@@ -142,8 +142,8 @@ RefusesAnswer Denied Unsigned Long payload error =
     ⊎ (((n : ℕ) × (longest_payload < n) × Long n × (error ≡ errors.PacketSize n)) ⊎ (error ≡ errors.Memory)))
 
 -- another message; a value that can't be read; an agreement or a key that refuses; a reply that is too long
-abbrev pub RefusesValue : Bool → (List ℕ → Type 0) → Type 0 → (ℕ → Type 0) → List ℕ → Error → Type 0
-RefusesValue gex Denied Unsigned Long payload error = RefusesText gex payload error
+abbrev pub ServerRefusesValue : Bool → (List ℕ → Type 0) → Type 0 → (ℕ → Type 0) → List ℕ → Error → Type 0
+ServerRefusesValue gex Denied Unsigned Long payload error = RefusesText gex payload error
     ⊎ ((message_type payload ≡ message_type (value_message gex [])) × RefusesAnswer Denied Unsigned Long payload error)
 
 -- what is needed so that a server can answer a value: short byte strings, a group where it is a group exchange, and

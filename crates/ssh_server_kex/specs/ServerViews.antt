@@ -35,17 +35,17 @@ server_machine config cause x state = record {
 }
 
 -- whether the next message is a wrong guess, and the state behind it
-abbrev pub drops_guess : ServerState → Bool
-drops_guess states.Created = false
-drops_guess (states.AwaitsRequest names) = names.ignore_guessed
-drops_guess (states.AwaitsValue names) = names.ignore_guessed
-drops_guess (states.AwaitsNewkeys made cipher) = false
+abbrev pub server_drops_guess : ServerState → Bool
+server_drops_guess states.Created = false
+server_drops_guess (states.AwaitsRequest names) = names.ignore_guessed
+server_drops_guess (states.AwaitsValue names) = names.ignore_guessed
+server_drops_guess (states.AwaitsNewkeys made cipher) = false
 
-abbrev pub behind_guess : ServerState → ServerState
-behind_guess states.Created = states.Created
-behind_guess (states.AwaitsRequest names) = states.AwaitsRequest (opening.behind_guess names)
-behind_guess (states.AwaitsValue names) = states.AwaitsValue (opening.behind_guess names)
-behind_guess (states.AwaitsNewkeys made cipher) = states.AwaitsNewkeys made cipher
+abbrev pub server_behind_guess : ServerState → ServerState
+server_behind_guess states.Created = states.Created
+server_behind_guess (states.AwaitsRequest names) = states.AwaitsRequest (opening.behind_guess names)
+server_behind_guess (states.AwaitsValue names) = states.AwaitsValue (opening.behind_guess names)
+server_behind_guess (states.AwaitsNewkeys made cipher) = states.AwaitsNewkeys made cipher
 
 -- before the peer's KEXINIT
 pub record IsFresh (config : Config) (x : Exchange) : Type 0 where

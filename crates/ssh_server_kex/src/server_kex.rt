@@ -15,12 +15,12 @@ ghost use Rattle.ssh_wire.specs.Lines.{id_text};
 ghost use Rattle.ssh_wire.specs.declared.error.Error.TheVariants.{Memory};
 ghost use Rattle.ssh_wire.specs.declared.side.Side.TheVariants.{Server as server_side};
 ghost use Rattle.ssh_kex.specs.Parts.{IsSmall, KeepsAgreement, KeepsGroups, KeepsHosts, Setup};
-ghost use Rattle.ssh_server_kex.specs.ServerRows.{AreShortBlobs, CanAnswer, IsLongAnswer, RefusesRequest, RefusesValue};
-ghost use Rattle.ssh_server_kex.specs.ServerAnswers.{AnswersClient, AnswersOpening, AnswersSizes, RefusesKexinit};
+ghost use Rattle.ssh_server_kex.specs.ServerRows.{AreShortBlobs, CanAnswer, IsLongAnswer, RefusesRequest, ServerRefusesValue};
+ghost use Rattle.ssh_server_kex.specs.ServerAnswers.{AnswersClient, AnswersOpening, AnswersSizes, ServerRefusesKexinit};
 ghost use Rattle.ssh_wire.specs.Outside.{Rose};
-ghost use Rattle.ssh_server_kex.specs.ServerViews.{Begins, CanAsk, CanBegin, IsFresh, ServerKeeps, behind_guess, drops_guess, server_machine};
+ghost use Rattle.ssh_server_kex.specs.ServerViews.{Begins, CanAsk, CanBegin, IsFresh, ServerKeeps, server_behind_guess, server_drops_guess, server_machine};
 ghost use Rattle.ssh_kex.specs.Setting.{group_of, offers_of};
-ghost use Rattle.ssh_kex.specs.Stages.{Created as created_stage, has_ignored, is_strict, names_of};
+ghost use Rattle.ssh_kex.specs.Stages.{Created as created_stage, has_ignored, is_strict, names_in_stage};
 ghost use Rattle.ssh_kex.specs.declared.progress.KexProgress.TheVariants.{NeedsReply};
 ghost use Rattle.ssh_kex.specs.Stepping.{asks_agreement, asks_hosts, asks_groups, next_of, Progresses, RefusesStep};
 ghost use Rattle.ssh_kex.specs.Unasked.{asks_nobody};
@@ -147,14 +147,14 @@ impl<'c> ServerKex<'c> {
 
     /// Whether the client's KEXINIT was read.
     pub fn peer_kexinit_received(&self) -> bool
-        ensures { result ≡ is_some (names_of self.now.stage) }
+        ensures { result ≡ is_some (names_in_stage self.now.stage) }
     {
         self.names().is_some()
     }
 
     /// Whether the names are strict; not before the client's KEXINIT was read.
     pub fn strict_kex(&self) -> bool
-        ensures { result ≡ is_strict (names_of self.now.stage) }
+        ensures { result ≡ is_strict (names_in_stage self.now.stage) }
     {
         match self.names() {
             Some(names) => names.strict_kex,
@@ -164,7 +164,7 @@ impl<'c> ServerKex<'c> {
 
     /// Whether a wrong guess of the client was dropped.
     pub fn guess_ignored(&self) -> bool
-        ensures { result ≡ has_ignored (names_of self.now.stage) }
+        ensures { result ≡ has_ignored (names_in_stage self.now.stage) }
     {
         match self.names() {
             Some(names) => names.guessed_ignored,
@@ -234,7 +234,7 @@ impl<'c> ServerKex<'c> {
 
     /// The names, once the client's KEXINIT was read.
     fn names(&self) -> Option<Names>
-        ensures { result ≡ names_of self.now.stage }
+        ensures { result ≡ names_in_stage self.now.stage }
     {
         match &self.state {
             ServerState::Created => None,
@@ -248,7 +248,7 @@ impl<'c> ServerKex<'c> {
 
 /// Whether the next message is a wrong guess.
 fn drops_guess(state: &ServerState) -> bool
-    ensures { result ≡ drops_guess state.now }
+    ensures { result ≡ server_drops_guess state.now }
 {
     match state {
         ServerState::AwaitsRequest { names } | ServerState::AwaitsValue { names } => {
@@ -260,7 +260,7 @@ fn drops_guess(state: &ServerState) -> bool
 
 /// The state behind a wrong guess, which was dropped.
 fn behind_guess(state: ServerState) -> ServerState
-    ensures { result ≡ behind_guess state }
+    ensures { result ≡ server_behind_guess state }
 {
     match state {
         ServerState::AwaitsRequest { names } => ServerState::AwaitsRequest {
@@ -297,7 +297,7 @@ fn take_kexinit<'c, A: Agreement, R: Rng>(
     requires fresh { IsFresh base.config.now base.exchange }
     ensures ok { IfOk result (λ p. AnswersOpening (λ name. A.offered agreement.now name ≡ true) base.entry.config.now
         base.entry.cause base.entry.exchange incoming.entry p output.old output.new) }
-    ensures err { IfErr result (RefusesKexinit (λ name. A.offered agreement.now name ≡ true) base.entry.config.now
+    ensures err { IfErr result (ServerRefusesKexinit (λ name. A.offered agreement.now name ≡ true) base.entry.config.now
         base.entry.cause
         incoming.entry) }
     ensures unchanged { OnErr result (SameButRoom output.old output.new) }
@@ -376,7 +376,7 @@ fn take_value<'c, A: Agreement, H: HostKeys, G, R: Rng>(
         later s
         → H.makes base.entry.config.now host hash signature)
         base.entry.config.now base.entry.cause base.entry.exchange names payload.now p output.old output.new) }
-    ensures causes { IfErr result (RefusesValue (is_gex names.kex)
+    ensures causes { IfErr result (ServerRefusesValue (is_gex names.kex)
         (λ c. Rose (A.refusals parts.old.agreement) (A.refusals parts.new.agreement) × ((s : Setup) (l : List ℕ)
         → A.obliging parts.old.agreement parts.new.agreement s → A.offered parts.old.agreement names.kex ≡ true
         → A.client_makes names.kex (group_of base.entry.exchange.gex) l c → ⊥))

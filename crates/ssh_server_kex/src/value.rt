@@ -11,7 +11,7 @@ ghost use Rattle.ssh_kex.specs.Drawing.{AnswerDrawn, SecretDrawn};
 ghost use Rattle.ssh_kex.specs.Messages.{is_gex, reply_message, value_message};
 ghost use Rattle.ssh_kex.specs.Parts.{IsSmall, KeepsAgreement, KeepsHosts, Setup};
 ghost use Rattle.ssh_kex.specs.Fields.{value_in};
-ghost use Rattle.ssh_server_kex.specs.ServerRows.{AgreesOn, AnswersValue, CanAnswer, IsLongAnswer, RefusesText, RefusesValue};
+ghost use Rattle.ssh_server_kex.specs.ServerRows.{AgreesOn, AnswersValue, CanAnswer, IsLongAnswer, RefusesText, ServerRefusesValue};
 ghost use Rattle.ssh_kex.specs.Setting.{group_of};
 ghost use Rattle.ssh_kex.specs.Unasked.{is_early};
 
@@ -181,7 +181,7 @@ pub(crate) fn answer_value<A: Agreement, H: HostKeys, G, R: Rng>(
         → H.makes base.old.config.now host hash signature)
         base.old.config.now base.old.cause names.now base.old.exchange base.new.exchange payload.now output.old
         output.new) }
-    ensures causes { IfErr result (RefusesValue (is_gex names.now.kex)
+    ensures causes { IfErr result (ServerRefusesValue (is_gex names.now.kex)
         (λ c. Rose (A.refusals parts.old.agreement) (A.refusals parts.new.agreement) × ((s : Setup) (l : List ℕ)
         → A.obliging parts.old.agreement parts.new.agreement s → A.offered parts.old.agreement names.now.kex ≡ true
         → A.client_makes names.now.kex (group_of base.old.exchange.gex) l c → ⊥))

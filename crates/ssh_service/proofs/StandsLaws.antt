@@ -4,8 +4,8 @@ use Rattle.std.specs.List.{list_any}
 use Rattle.std.specs.Str.{bytes_eq}
 use Rattle.std.proofs.lemmas.Slice.Eq.{bytes_eq-Decides}
 use Rattle.ssh_wire.specs.declared.error.Error.{Error}
-use Rattle.ssh_service.specs.Answers.{IsAnswer, ServiceState, StandsFor, answer_after, answer_by, answer_read, asks_for, asks_in, has_name, is_for_above, tells_extensions, tells_in}
-use Rattle.ssh_service.specs.Messages.{made_of, message_of, spelling, whole}
+use Rattle.ssh_service.specs.Answers.{IsServiceAnswer, ServiceState, StandsFor, answer_after, answer_by, answer_read, asks_for, asks_in, has_name, is_for_above, tells_extensions, tells_in}
+use Rattle.ssh_service.specs.Messages.{made_message, message_of, spelling, whole}
 use Rattle.ssh_service.specs.ServiceNames.{name_at}
 use Rattle.ssh_service.specs.Extensions.{info_at}
 use Rattle.ssh_wire.specs.Forms.{string}
@@ -105,7 +105,7 @@ stands_next s earlier payload (Request n) st read = step (has_name n s.offered) 
 
 -- both of what a machine answered
 pub answers_so : (s : ServiceState) (earlier : List (List ℕ)) (payload : List ℕ) (m : ServiceMessage) (r : Result ServiceAnswer Error) → StandsFor s earlier → is_for_above payload ≡ false → message_of payload ≡ Ok m
-    → IfOk r (λ a. a ≡ answer_to s m) → IsAnswer (answer_after s.offered earlier payload) r
+    → IfOk r (λ a. a ≡ answer_to s m) → IsServiceAnswer (answer_after s.offered earlier payload) r
 answers_so s earlier payload m (Ok a) st other read h = h ∙ same_answer s earlier payload m st other read
 answers_so s earlier payload m (Err e) st other read h = tt
 
@@ -157,7 +157,7 @@ request_own [] name h = cc
 request_own (b ∷ fields) name h = step (b == 5) (b == 6) (b == 7) refl refl refl h
   where
     step : (t u v : Bool) → (b == 5) ≡ t → (b == 6) ≡ u → (b == 7) ≡ v
-        → (if t then made_of Request (whole (name_at fields)) else if u then made_of Accept (whole (name_at fields)) else if v then made_of Info (whole (info_at fields)) else Err Inconsistent) ≡ Ok (Request name)
+        → (if t then made_message Request (whole (name_at fields)) else if u then made_message Accept (whole (name_at fields)) else if v then made_message Info (whole (info_at fields)) else Err Inconsistent) ≡ Ok (Request name)
         → nat_le 50 b ≡ false
     step true u v e f g q = let is : b ≡ 5 = grind (arith, nat_tests) in grind (arith, nat_tests)
     step false true v e f g q = let is : b ≡ 6 = grind (arith, nat_tests) in grind (arith, nat_tests)

@@ -99,8 +99,8 @@ pub record ReceivesSome (s : ServiceState) (payloads : List (List ℕ)) (t : Ser
   pub stands : (earlier : List (List ℕ)) → StandsFor s earlier → StandsFor t (earlier ++ take count payloads)
 
 -- the answer is this one, unless memory is wanting
-abbrev pub IsAnswer : ServiceAnswer → Result ServiceAnswer Error → Type 0
-IsAnswer answer result = IfOk result (λ a. a ≡ answer)
+abbrev pub IsServiceAnswer : ServiceAnswer → Result ServiceAnswer Error → Type 0
+IsServiceAnswer answer result = IfOk result (λ a. a ≡ answer)
 
 once-example : answers_from (codes "x" ∷ []) [] (spelling (Request (codes "x")) ∷ spelling (Request (codes "x"))
     ∷ spelling (Request (codes "y")) ∷ (5 ∷ 0 ∷ 0 ∷ 0 ∷ 0 ∷ []) ∷ (50 ∷ []) ∷ [] ∷ [])

@@ -69,13 +69,13 @@ value_of name [] = None
 value_of name (e ∷ es) = if bytes_eq e.name name then Some e.value else value_of name es
 
 -- the names in a value
-abbrev pub names_in : List ℕ → Result (List (List ℕ)) EncodingFault
-names_in value = if is_utf8 value then names_of value else Err CharacterEncoding
+abbrev pub names_in_value : List ℕ → Result (List (List ℕ)) EncodingFault
+names_in_value value = if is_utf8 value then names_of value else Err CharacterEncoding
 
 -- the names in the value that was found
 abbrev pub algorithms_of : Option (List ℕ) → Result (Option (List (List ℕ))) EncodingFault
 algorithms_of None = Ok None
-algorithms_of (Some value) = names_in value >>= λ names. Ok (Some names)
+algorithms_of (Some value) = names_in_value value >>= λ names. Ok (Some names)
 
 -- the signature algorithms that a server tells (RFC 8308 section 3.1)
 abbrev pub told_algorithms : List Extension → Result (Option (List (List ℕ))) EncodingFault

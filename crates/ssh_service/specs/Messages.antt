@@ -36,16 +36,16 @@ abbrev pub whole : {A : Type 0} → Result (A × List ℕ) EncodingFault → Res
 whole read = read >>= λ x. all_of x.0 x.1
 
 -- a message that was made of a field, or its refusal
-abbrev pub made_of : {A : Type 0} → (A → ServiceMessage) → Result A EncodingFault → Result ServiceMessage Error
-made_of make (Ok x) = Ok (make x)
-made_of make (Err fault) = Err (SshEncoding fault)
+abbrev pub made_message : {A : Type 0} → (A → ServiceMessage) → Result A EncodingFault → Result ServiceMessage Error
+made_message make (Ok x) = Ok (make x)
+made_message make (Err fault) = Err (SshEncoding fault)
 
 -- the message of this type with these fields, or why there is none
 abbrev pub behind_type : ℕ → List ℕ → Result ServiceMessage Error
 behind_type message_type fields =
-    if message_type == 5 then made_of Request (whole (name_at fields))
-    else if message_type == 6 then made_of Accept (whole (name_at fields))
-    else if message_type == 7 then made_of Info (whole (info_at fields))
+    if message_type == 5 then made_message Request (whole (name_at fields))
+    else if message_type == 6 then made_message Accept (whole (name_at fields))
+    else if message_type == 7 then made_message Info (whole (info_at fields))
     else Err Inconsistent
 
 -- the message of a payload, or why it is refused: the first bad field decides
@@ -54,9 +54,9 @@ message_of [] = Err Inconsistent
 message_of (message_type ∷ fields) = behind_type message_type fields
 
 -- a read whose value is seen by `view`, unless memory is wanting
-abbrev pub Refuses : {X Y : Type 0} → (X → Y) → Result Y EncodingFault → Result X Error → Type 0
-Refuses view read (Ok x) = read ≡ Ok (view x)
-Refuses view read (Err e) = (e ≡ Memory) ⊎ (answer_of read ≡ Err e)
+abbrev pub ReadsWhole : {X Y : Type 0} → (X → Y) → Result Y EncodingFault → Result X Error → Type 0
+ReadsWhole view read (Ok x) = read ≡ Ok (view x)
+ReadsWhole view read (Err e) = (e ≡ Memory) ⊎ (answer_of read ≡ Err e)
 
 -- the answer to a payload, unless memory is wanting
 abbrev pub IsReadAs : Result ServiceMessage Error → Result ServiceMessage Error → Type 0

@@ -12,20 +12,20 @@ use Rattle.ssh_service.specs.declared.answer.ServiceAnswer.{ServiceAnswer}
 use Rattle.ssh_service.specs.declared.answer.ServiceAnswer.TheVariants.{Accepted, Bad, Extensions, Other, Refused}
 
 -- what an answer's line has before its end: the message that grants a service, the number of a reason, or the fault
-abbrev pub answer_word : ServiceAnswer → List ℕ
-answer_word (Accepted reply) = codes "accepted " ++ hex_word reply
-answer_word (Refused reason) = codes "refused " ++ decimal (reason_code reason)
-answer_word Extensions = codes "extensions"
-answer_word Other = codes "other"
-answer_word (Bad e) = codes "bad " ++ error_text e
+abbrev pub service_answer_word : ServiceAnswer → List ℕ
+service_answer_word (Accepted reply) = codes "accepted " ++ hex_word reply
+service_answer_word (Refused reason) = codes "refused " ++ decimal (reason_code reason)
+service_answer_word Extensions = codes "extensions"
+service_answer_word Other = codes "other"
+service_answer_word (Bad e) = codes "bad " ++ error_text e
 
 -- the line of an answer
-abbrev pub answer_line : ServiceAnswer → List ℕ
-answer_line answer = answer_word answer ++ 10 ∷ []
+abbrev pub service_answer_line : ServiceAnswer → List ℕ
+service_answer_line answer = service_answer_word answer ++ 10 ∷ []
 
 -- a line for each answer
 abbrev pub answers_text : List ServiceAnswer → List ℕ
-answers_text answers = flat_map answer_line answers
+answers_text answers = flat_map service_answer_line answers
 
 text-example : answers_text (Accepted (6 ∷ 0 ∷ []) ∷ Refused ServiceNotAvailable ∷ Extensions ∷ Other
     ∷ Bad (SshEncoding TrailingData) ∷ [])

@@ -17,13 +17,13 @@ pub record ServicePlan : Type 0 where
   pub payloads : List (List ℕ)
 
 -- a name, where it has no fault
-abbrev pub unless_faulty : Option EncodingFault → List ℕ → Option (List ℕ)
-unless_faulty None name = Some name
-unless_faulty (Some fault) name = None
+abbrev pub faultless_name : Option EncodingFault → List ℕ → Option (List ℕ)
+faultless_name None name = Some name
+faultless_name (Some fault) name = None
 
 -- NAME: the name of a service
 abbrev pub name_in : List ℕ → Option (List ℕ)
-name_in word = unless_faulty (name_fault word) word
+name_in word = faultless_name (name_fault word) word
 
 -- one offered service more
 abbrev pub with_offer : ServicePlan → List ℕ → ServicePlan
@@ -47,12 +47,12 @@ service_form plan word words =
     else Err NotBuilt
 
 -- what is said before the first line
-abbrev pub nothing_said : ServicePlan
-nothing_said = record { offered = []; payloads = [] }
+abbrev pub empty_plan : ServicePlan
+empty_plan = record { offered = []; payloads = [] }
 
 -- what a script of services says, or its fault
 abbrev pub service_script : List ℕ → Result ServicePlan ScriptFault
-service_script text = said_by service_form nothing_said text
+service_script text = said_by service_form empty_plan text
 
 script-example : service_script (codes "offer x\n# y\noffer x\nmessage 05\nmessage -\n")
     ≡ Ok (record { offered = codes "x" ∷ codes "x" ∷ []; payloads = (5 ∷ []) ∷ [] ∷ [] })

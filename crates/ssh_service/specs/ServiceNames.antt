@@ -40,9 +40,9 @@ name_at bytes = string_at bytes >>= λ s. unless_fault (name_fault s.0) s
 
 -- A read at the front of bytes, its value seen by `view`, unless memory is wanting. After a refusal the reader isn't
 -- used.
-abbrev pub Reads : {X Y : Type 0} → (X → Y) → Result (Y × List ℕ) EncodingFault → Result X Error → List ℕ → Type 0
-Reads view read (Ok x) new = read ≡ Ok (view x, new)
-Reads view read (Err e) new = (e ≡ Memory) ⊎ (answer_of read ≡ Err e)
+abbrev pub ReadsFront : {X Y : Type 0} → (X → Y) → Result (Y × List ℕ) EncodingFault → Result X Error → List ℕ → Type 0
+ReadsFront view read (Ok x) new = read ≡ Ok (view x, new)
+ReadsFront view read (Err e) new = (e ≡ Memory) ⊎ (answer_of read ≡ Err e)
 
 -- bytes that more bytes may have been appended to
 abbrev pub Grows : List ℕ → List ℕ → Type 0

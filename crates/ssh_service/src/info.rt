@@ -2,7 +2,7 @@
 
 ghost use Rattle.std.specs.Prelude.{◌≡◌, ◌⊎◌, ◌≤◌, ◌<◌, Err, ◌++◌, ◌∷◌, [], List, ℕ, length, OnOk, OnErr, IfErr, IfOk};
 ghost use Rattle.std.specs.List.{flat_map};
-ghost use Rattle.ssh_service.specs.ServiceNames.{Grows, Reads};
+ghost use Rattle.ssh_service.specs.ServiceNames.{Grows, ReadsFront};
 ghost use Rattle.std.specs.Option.{option_map};
 ghost use Rattle.ssh_service.specs.Extensions.{AreExtensions, CannotPush, IsExtension, TellsAlgorithms, extension, extension_at, extensions_at, info_at, longest_value, most_extensions, told_algorithms, value_at, value_of};
 ghost use Rattle.ssh_wire.specs.Forms.{u32be};
@@ -98,7 +98,7 @@ impl ExtInfo {
 /// Reads an extension. SshEncoding as of its name, then Length where the value is cut short or too long.
 #[tactic(auto, unfolding(crate::specs::Extensions::extension_at))]
 fn read_extension(alloc: Global, r: &mut Reader<'_>) -> Result<Extension, Error>
-    ensures read { Reads (λ e. e) (extension_at r.old) result r.new }
+    ensures read { ReadsFront (λ e. e) (extension_at r.old) result r.new }
     ensures extension { IfOk result IsExtension }
 {
     let name = read_name(alloc, r)?;
@@ -111,7 +111,7 @@ fn read_extension(alloc: Global, r: &mut Reader<'_>) -> Result<Extension, Error>
 /// Reads a value.
 #[tactic(auto, unfolding(crate::specs::Extensions::value_at))]
 fn read_value<'a>(r: &mut Reader<'a>) -> Result<&'a [u8], Error>
-    ensures read { Reads (λ v. v.now) (value_at r.old) result r.new }
+    ensures read { ReadsFront (λ v. v.now) (value_at r.old) result r.new }
     ensures short { IfOk result (λ v. length v.now ≤ longest_value) }
 {
     let value = r.read_string()?;
@@ -124,7 +124,7 @@ fn read_value<'a>(r: &mut Reader<'a>) -> Result<&'a [u8], Error>
 /// Reads the number of extensions, at most 16, and then the extensions.
 #[tactic(auto, unfolding(crate::specs::Extensions::info_at))]
 pub(crate) fn read_info(alloc: Global, r: &mut Reader<'_>) -> Result<ExtInfo, Error>
-    ensures { Reads (λ i. i) (info_at r.old) result r.new }
+    ensures { ReadsFront (λ i. i) (info_at r.old) result r.new }
 {
     let count = r.read_u32()?;
     if count as usize > MOST_EXTENSIONS {
@@ -136,7 +136,7 @@ pub(crate) fn read_info(alloc: Global, r: &mut Reader<'_>) -> Result<ExtInfo, Er
 /// Reads so many extensions.
 fn read_extensions(alloc: Global, count: u32, r: &mut Reader<'_>) -> Result<ExtInfo, Error>
     requires { count ≤ most_extensions }
-    ensures { Reads (λ i. i) (extensions_at count r.old) result r.new }
+    ensures { ReadsFront (λ i. i) (extensions_at count r.old) result r.new }
 {
     let mut info = ExtInfo::new(alloc);
     for _ in 0..count {

@@ -4,7 +4,7 @@
 ghost use Rattle.std.specs.Prelude.{◌≡◌, ◌++◌, ◌∷◌, List, ℕ, length, Ok, OnOk, OnErr, IfErr, IfOk};
 ghost use Rattle.ssh_wire.specs.declared.error.Error.TheVariants.{Memory};
 ghost use Rattle.ssh_service.specs.Extensions.{info_at};
-ghost use Rattle.ssh_service.specs.Messages.{IsMessage, IsReadAs, Refuses, behind_type, message_of, spelling, whole};
+ghost use Rattle.ssh_service.specs.Messages.{IsMessage, IsReadAs, ReadsWhole, behind_type, message_of, spelling, whole};
 ghost use Rattle.ssh_service.specs.ServiceNames.{Grows, IsServiceName, name_at};
 ghost use Rattle.ssh_wire.specs.Forms.{string};
 ghost use Rattle.ssh_service.specs.declared.message.ServiceMessage.TheVariants.{Accept};
@@ -78,7 +78,7 @@ fn read_message(alloc: Global, message_type: u8, fields: &[u8]) -> Result<Servic
 
 /// A name, and nothing behind it.
 fn whole_name(alloc: Global, fields: &[u8]) -> Result<ServiceName, Error>
-    ensures { Refuses (λ n. n) (whole (name_at fields.now)) result }
+    ensures { ReadsWhole (λ n. n) (whole (name_at fields.now)) result }
 {
     let mut r = Reader::new(fields);
     let name = read_name(alloc, &mut r)?;
@@ -88,7 +88,7 @@ fn whole_name(alloc: Global, fields: &[u8]) -> Result<ServiceName, Error>
 
 /// Extensions, and nothing behind them.
 fn whole_info(alloc: Global, fields: &[u8]) -> Result<ExtInfo, Error>
-    ensures { Refuses (λ i. i) (whole (info_at fields.now)) result }
+    ensures { ReadsWhole (λ i. i) (whole (info_at fields.now)) result }
 {
     let mut r = Reader::new(fields);
     let info = read_info(alloc, &mut r)?;

@@ -4,7 +4,7 @@ ghost use Rattle.std.specs.Prelude.{◌≡◌, List, ℕ};
 ghost use Rattle.std.specs.List.{list_all};
 ghost use Rattle.std.specs.Prelude.{nat_lt};
 ghost use Rattle.std.specs.String.{string_bytes};
-ghost use Rattle.ssh_service.specs.ServiceNames.{IsServiceName, IsNamed, Reads, name_at, name_fault};
+ghost use Rattle.ssh_service.specs.ServiceNames.{IsServiceName, IsNamed, ReadsFront, name_at, name_fault};
 
 use ssh_wire::{EncodingFault, Error, Reader};
 use std::alloc::Global;
@@ -78,7 +78,7 @@ fn is_ascii(bytes: &[u8]) -> bool
 
 /// Reads a `string` that is a name. SshEncoding(Length) where it is cut short, then as `ServiceName::new`.
 pub(crate) fn read_name(alloc: Global, r: &mut Reader<'_>) -> Result<ServiceName, Error>
-    ensures { Reads (λ n. n) (name_at r.old) result r.new }
+    ensures { ReadsFront (λ n. n) (name_at r.old) result r.new }
 {
     let text = r.read_string()?;
     name_of(alloc, text)

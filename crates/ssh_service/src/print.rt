@@ -2,7 +2,7 @@
 
 ghost use Rattle.std.specs.Prelude.{◌≡◌, ◌++◌, IfOk, IfErr, OnOk};
 ghost use Rattle.ssh_wire.specs.declared.error.Error.TheVariants.{Memory};
-ghost use Rattle.ssh_service.specs.Report.{answer_line, answer_word, answers_text};
+ghost use Rattle.ssh_service.specs.Report.{service_answer_line, service_answer_word, answers_text};
 
 use crate::answer::ServiceAnswer;
 use ssh_lines::{push_error, push_hex, push_numbered, push_text};
@@ -25,7 +25,7 @@ pub fn print_answers(alloc: Global, answers: &[ServiceAnswer]) -> Result<Vec<u8>
 
 /// The line of an answer.
 fn push_line(out: &mut Vec<u8>, answer: &ServiceAnswer) -> Result<(), Error>
-    ensures ok { OnOk result (out.new.items ≡ out.old.items ++ answer_line answer.now) }
+    ensures ok { OnOk result (out.new.items ≡ out.old.items ++ service_answer_line answer.now) }
     ensures err { IfErr result (λ e. e ≡ Memory) }
 {
     push_answer(out, answer)?;
@@ -34,7 +34,7 @@ fn push_line(out: &mut Vec<u8>, answer: &ServiceAnswer) -> Result<(), Error>
 
 /// What the line of an answer has before its end.
 fn push_answer(out: &mut Vec<u8>, answer: &ServiceAnswer) -> Result<(), Error>
-    ensures ok { OnOk result (out.new.items ≡ out.old.items ++ answer_word answer.now) }
+    ensures ok { OnOk result (out.new.items ≡ out.old.items ++ service_answer_word answer.now) }
     ensures err { IfErr result (λ e. e ≡ Memory) }
 {
     match answer {

@@ -5,7 +5,7 @@ ghost use Rattle.std.specs.Process.{exit_status};
 ghost use Rattle.ssh_wire.specs.Outside.{Rose, TakesAtMost, ReachesEnd};
 ghost use Rattle.ssh_program.specs.Programs.{AreWords, IsAnswer, IsCommand, IsReading, IsWritten, longest_script, status_told, text_told};
 ghost use Rattle.ssh_program.specs.Statuses.{no_command, report_written, run_refused, script_faulty, source_failed, sink_failed, want_of_memory};
-ghost use Rattle.ssh_service.specs.Program.{AnswersCommand, HasFault, IsAnswerable, Shows, ShowsNone, answer_status, answer_text, command_in, reads};
+ghost use Rattle.ssh_service.specs.Program.{AnswersServiceCommand, HasFault, IsAnswerable, ShowsAnswers, ShowsNoAnswers, service_status, service_text, service_command_in, needs_messages};
 ghost use Rattle.ssh_service.specs.declared.service_program.ScriptAnswer.{ScriptAnswer};
 
 use crate::answer::ServiceAnswer;
@@ -34,7 +34,7 @@ impl ServiceMain {
     /// An end with what was answered, if anything was.
     pub fn with(alloc: Global, answer: Option<ScriptAnswer>, status: u8) -> ServiceMain
         ensures status { result.status ≡ status }
-        ensures shown { Shows answer result }
+        ensures shown { ShowsAnswers answer result }
     {
         match answer {
             None => ServiceMain {
@@ -67,21 +67,21 @@ pub fn exit_code<S: Source, K: Sink>(
     ensures status { exit_status result ≤ want_of_memory }
     ensures answered { exit_status result ≢ source_failed → exit_status result ≢ want_of_memory
         → (words : List (List ℕ)) × AreWords arguments words
-        × ((answer : Option ScriptAnswer) × IsAnswer command_in reads AnswersCommand words (S.left source.old)
-        (S.left source.new) answer × IsWritten (text_told answer_text answer) (status_told answer_status answer)
+        × ((answer : Option ScriptAnswer) × IsAnswer service_command_in needs_messages AnswersServiceCommand words (S.left source.old)
+        (S.left source.new) answer × IsWritten (text_told service_text answer) (status_told service_status answer)
         (exit_status result) (K.held sink.old) (K.held sink.new) (K.faults sink.old) (K.faults sink.new)) }
     ensures ends { exit_status result ≡ report_written → ReachesEnd (S.left source.old) (S.left source.new) }
     ensures source_failed { exit_status result ≡ source_failed → Rose (S.faults source.old) (S.faults source.new) }
     ensures silent { (exit_status result ≡ source_failed) ⊎ (exit_status result ≡ want_of_memory)
         → K.held sink.new ≡ K.held sink.old }
-    ensures usage { (words : List (List ℕ)) → AreWords arguments words → ¬ (IsCommand command_in words)
+    ensures usage { (words : List (List ℕ)) → AreWords arguments words → ¬ (IsCommand service_command_in words)
         → (exit_status result ≡ no_command)
         ⊎ ((exit_status result ≡ sink_failed) ⊎ (exit_status result ≡ want_of_memory)) }
     ensures read { (words : List (List ℕ)) → AreWords arguments words → exit_status result ≡ source_failed
-        → IsReading command_in reads words }
+        → IsReading service_command_in needs_messages words }
     ensures source_unfailed { exit_status result ≢ source_failed → S.faults source.new ≡ S.faults source.old }
     ensures sink_unfailed { exit_status result ≢ sink_failed → K.faults sink.new ≡ K.faults sink.old }
-    ensures unread { (words : List (List ℕ)) → AreWords arguments words → ¬ (IsReading command_in reads words)
+    ensures unread { (words : List (List ℕ)) → AreWords arguments words → ¬ (IsReading service_command_in needs_messages words)
         → S.left source.new ≡ S.left source.old }
     ensures bounded { TakesAtMost (longest_script + 1) (S.left source.old) (S.left source.new) }
     ensures served { (words : List (List ℕ)) → AreWords arguments words → IsAnswerable words (S.left source.old)
@@ -105,20 +105,20 @@ pub fn service_main<S: Source, K: Sink>(
 ) -> ServiceMain
     ensures status { result.status ≤ want_of_memory }
     ensures answered { result.status ≢ source_failed → result.status ≢ want_of_memory → (answer : Option ScriptAnswer)
-        × IsAnswer command_in reads AnswersCommand words.now (S.left source.old) (S.left source.new) answer
-        × Shows answer result × IsWritten (text_told answer_text answer) (status_told answer_status answer)
+        × IsAnswer service_command_in needs_messages AnswersServiceCommand words.now (S.left source.old) (S.left source.new) answer
+        × ShowsAnswers answer result × IsWritten (text_told service_text answer) (status_told service_status answer)
         result.status (K.held sink.old) (K.held sink.new) (K.faults sink.old) (K.faults sink.new) }
     ensures ends { (result.status ≡ report_written) ⊎ (result.answers.items ≢ [])
         → ReachesEnd (S.left source.old) (S.left source.new) }
     ensures source_failed { result.status ≡ source_failed → Rose (S.faults source.old) (S.faults source.new) }
-    ensures silent { (result.status ≡ source_failed) ⊎ (result.status ≡ want_of_memory) → ShowsNone result
+    ensures silent { (result.status ≡ source_failed) ⊎ (result.status ≡ want_of_memory) → ShowsNoAnswers result
         × (K.held sink.new ≡ K.held sink.old) }
-    ensures usage { ¬ (IsCommand command_in words.now) → (result.status ≡ no_command) ⊎ (result.status ≡ sink_failed) }
-    ensures read { result.status ≡ source_failed → IsReading command_in reads words.now }
-    ensures run { result.status ≡ want_of_memory → IsCommand command_in words.now }
+    ensures usage { ¬ (IsCommand service_command_in words.now) → (result.status ≡ no_command) ⊎ (result.status ≡ sink_failed) }
+    ensures read { result.status ≡ source_failed → IsReading service_command_in needs_messages words.now }
+    ensures run { result.status ≡ want_of_memory → IsCommand service_command_in words.now }
     ensures source_unfailed { result.status ≢ source_failed → S.faults source.new ≡ S.faults source.old }
     ensures sink_unfailed { result.status ≢ sink_failed → K.faults sink.new ≡ K.faults sink.old }
-    ensures unread { ¬ (IsReading command_in reads words.now) → S.left source.new ≡ S.left source.old }
+    ensures unread { ¬ (IsReading service_command_in needs_messages words.now) → S.left source.new ≡ S.left source.old }
     ensures bounded { TakesAtMost (longest_script + 1) (S.left source.old) (S.left source.new) }
     ensures served { IsAnswerable words.now (S.left source.old) → result.status ≢ source_failed
         → result.status ≢ sink_failed → (result.status ≡ report_written) ⊎ (result.status ≡ want_of_memory) }

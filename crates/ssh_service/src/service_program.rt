@@ -4,7 +4,7 @@ ghost use Rattle.std.specs.Prelude.{◌≡◌, ◌≤◌, [], Ok, IfOk, IfErr};
 ghost use Rattle.ssh_lines.specs.LineFaults.{IsRefusal};
 ghost use Rattle.ssh_wire.specs.declared.error.Error.TheVariants.{Memory};
 ghost use Rattle.ssh_service.specs.Answers.{answers_from};
-ghost use Rattle.ssh_service.specs.Program.{AnswersScript, command_in};
+ghost use Rattle.ssh_service.specs.Program.{AnswersServiceScript, service_command_in};
 ghost use Rattle.ssh_service.specs.Script.{service_script};
 
 use crate::answer::ServiceAnswer;
@@ -36,22 +36,22 @@ pub enum ScriptAnswer {
 pub struct ServiceProgram;
 
 impl Program for ServiceProgram {
-    ghost use Rattle.ssh_service.specs.Program.{AnswersCommand, answer_status, answer_text, command_in, reads};
+    ghost use Rattle.ssh_service.specs.Program.{AnswersServiceCommand, service_status, service_text, service_command_in, needs_messages};
     ghost use Rattle.ssh_service.specs.Alike.{answers_alike};
 
     type Command = ServiceCommand;
 
     type Answer = ScriptAnswer;
 
-    ghost command_in = { command_in };
+    ghost command_in = { service_command_in };
 
-    ghost reads = { reads };
+    ghost reads = { needs_messages };
 
-    ghost answers = { AnswersCommand };
+    ghost answers = { AnswersServiceCommand };
 
-    ghost text_for = { answer_text };
+    ghost text_for = { service_text };
 
-    ghost status_for = { answer_status };
+    ghost status_for = { service_status };
 
     fn command_of(words: &[Word]) -> Option<ServiceCommand> {
         match words {
@@ -97,7 +97,7 @@ impl Program for ServiceProgram {
 
 /// What is answered to a script.
 fn script_answer(alloc: Global, text: Vec<u8>) -> Result<ScriptAnswer, AllocError>
-    ensures answer { IfOk result (λ answer. AnswersScript (service_script text.items) answer) }
+    ensures answer { IfOk result (λ answer. AnswersServiceScript (service_script text.items) answer) }
 {
     match take_script(alloc, text) {
         Ok(script) => match answers_of(script) {

@@ -1,7 +1,7 @@
 //! The machine that grants services, each once (RFC 4253 section 10).
 
 ghost use Rattle.std.specs.Prelude.{◌≡◌, ◌++◌, ◌∷◌, [], List, ℕ, OnOk, OnErr, IfErr, IfOk, true, if◌then◌else◌};
-ghost use Rattle.ssh_service.specs.Answers.{IsAnswer, ReceivesSome, StandsFor, answer_after, answers_from, has_name, is_for_above};
+ghost use Rattle.ssh_service.specs.Answers.{IsServiceAnswer, ReceivesSome, StandsFor, answer_after, answers_from, has_name, is_for_above};
 ghost use Rattle.ssh_service.specs.Steps.{RepliesGrant, answer_to, moves};
 ghost use Rattle.ssh_service.specs.ServiceNames.{IsServiceName};
 ghost use Rattle.ssh_service.specs.Messages.{IsMessage};
@@ -74,7 +74,7 @@ impl Services {
     /// Memory, which leaves the machine as it was.
     pub fn receive(&mut self, payload: &[u8]) -> Result<ServiceAnswer, Error>
         ensures answer { (earlier : List (List ℕ)) → StandsFor self.old earlier
-            → IsAnswer (answer_after self.old.offered earlier payload.now) result }
+            → IsServiceAnswer (answer_after self.old.offered earlier payload.now) result }
         ensures stands { OnOk result ((earlier : List (List ℕ)) → StandsFor self.old earlier
             → StandsFor self.new (earlier ++ payload.now ∷ [])) }
         ensures offered { self.new.offered ≡ self.old.offered }

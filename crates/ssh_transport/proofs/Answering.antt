@@ -10,7 +10,7 @@ use Rattle.ssh_packet.specs.Stream.{message_type}
 use Rattle.ssh_packet.specs.Writing.{SameButRoom, Writer, with_item}
 use Rattle.ssh_kex.specs.Messages.{is_gex, newkeys, reply_message}
 use Rattle.ssh_kex.specs.Setting.{Says, Setting, Opened, offers_of}
-use Rattle.ssh_kex.specs.Stages.{AwaitsGroup, AwaitsNewkeys, AwaitsReply, AwaitsRequest, AwaitsValue, Created, OpensBy, Stage, Takes, guess_dropped, names_of, resets}
+use Rattle.ssh_kex.specs.Stages.{AwaitsGroup, AwaitsNewkeys, AwaitsReply, AwaitsRequest, AwaitsValue, Created, OpensBy, Stage, Takes, guess_dropped, names_in_stage, resets}
 use Rattle.ssh_kex.specs.Stepping.{Puts, PutsAll}
 use Rattle.ssh_kex.specs.declared.config.Config.{Config}
 use Rattle.ssh_kex.specs.declared.exchange.Exchange.{Exchange}
@@ -166,7 +166,7 @@ answered_still : (says : Says) (side : Side) (config : Config) (own : List ℕ) 
 answered_still says side config own st written w w' reset r e h = subst (λ (b : Bool). Answered says side config own st written w w' (spot_renumbered b (spot_of w'))) (sym r) (answered_all says side config own st written w w' e h)
 
 -- what a message that is taken makes a side write
-pub answered_taken : (says : Says) (side : Side) (config : Config) (own : List ℕ) (s : Setting) (stage next : Stage) (seqn : ℕ) (payload : List ℕ) (written : List (List ℕ)) (st : SideState) (w w' : Writer) (reset : Bool) → strict_now st.stands ≡ strict_now (Inside next) → IsFlagged s (names_of next) → reset ≡ resets s.cause next → Takes says s stage seqn payload written next → PutsAll w written w' → Answered says side config own st written w w' (spot_renumbered reset (spot_of w'))
+pub answered_taken : (says : Says) (side : Side) (config : Config) (own : List ℕ) (s : Setting) (stage next : Stage) (seqn : ℕ) (payload : List ℕ) (written : List (List ℕ)) (st : SideState) (w w' : Writer) (reset : Bool) → strict_now st.stands ≡ strict_now (Inside next) → IsFlagged s (names_in_stage next) → reset ≡ resets s.cause next → Takes says s stage seqn payload written next → PutsAll w written w' → Answered says side config own st written w w' (spot_renumbered reset (spot_of w'))
 answered_taken says side config own s stage (Created k) seqn payload written st w w' reset e f r t h = answered_still says side config own st written w w' reset r e h
 answered_taken says side config own s stage (AwaitsGroup o) seqn payload written st w w' reset e f r t h = answered_still says side config own st written w w' reset r e h
 answered_taken says side config own s stage (AwaitsReply o gex local public) seqn payload written st w w' reset e f r t h = answered_still says side config own st written w w' reset r e h
@@ -177,23 +177,23 @@ answered_taken says side config own s stage (AwaitsNewkeys exchange made host) s
 
 -- ---- the flags of the names
 
-opens_flagged : (says : Says) (side : Side) (kind : Bool) (s : Setting) (o : Opened) (written : List (List ℕ)) (next : Stage) → OpensBy side kind says s o written next → IsFlagged s (Some o.names) → IsFlagged s (names_of next)
-opens_flagged says Client true s o written next h f = subst (λ (x : Stage). IsFlagged s (names_of x)) (sym h.next_is) f
-opens_flagged says Client false s o written next h f = subst (λ (x : Stage). IsFlagged s (names_of x)) (sym h.leads.next_is) f
-opens_flagged says Server true s o written next h f = subst (λ (x : Stage). IsFlagged s (names_of x)) (sym h.next_is) f
-opens_flagged says Server false s o written next h f = subst (λ (x : Stage). IsFlagged s (names_of x)) (sym h.next_is) f
+opens_flagged : (says : Says) (side : Side) (kind : Bool) (s : Setting) (o : Opened) (written : List (List ℕ)) (next : Stage) → OpensBy side kind says s o written next → IsFlagged s (Some o.names) → IsFlagged s (names_in_stage next)
+opens_flagged says Client true s o written next h f = subst (λ (x : Stage). IsFlagged s (names_in_stage x)) (sym h.next_is) f
+opens_flagged says Client false s o written next h f = subst (λ (x : Stage). IsFlagged s (names_in_stage x)) (sym h.leads.next_is) f
+opens_flagged says Server true s o written next h f = subst (λ (x : Stage). IsFlagged s (names_in_stage x)) (sym h.next_is) f
+opens_flagged says Server false s o written next h f = subst (λ (x : Stage). IsFlagged s (names_in_stage x)) (sym h.next_is) f
 
-pub taken_flagged : (says : Says) (s : Setting) (stage next : Stage) (seqn : ℕ) (payload : List ℕ) (written : List (List ℕ)) → Takes says s stage seqn payload written next → IsFlagged s (names_of stage) → IsFlagged s (names_of next)
+pub taken_flagged : (says : Says) (s : Setting) (stage next : Stage) (seqn : ℕ) (payload : List ℕ) (written : List (List ℕ)) → Takes says s stage seqn payload written next → IsFlagged s (names_in_stage stage) → IsFlagged s (names_in_stage next)
 taken_flagged says s (Created own) next seqn payload written h f =
     let k = read_flags s.side (offers_of s.side s.config) (was_strict s.cause) payload h.names h.reads.read in
     opens_flagged says s.side (is_gex h.names.kex) s _ written next h.opens (λ w. k.strict w)
-taken_flagged says s (AwaitsGroup o) next seqn payload written h f = subst (λ (x : Stage). IsFlagged s (names_of x)) (sym h.leads.next_is) f
-taken_flagged says s (AwaitsReply o gex local public) next seqn payload written h f = subst (λ (x : Stage). IsFlagged s (names_of x)) (sym h.leads.next_is) f
-taken_flagged says s (AwaitsRequest o) next seqn payload written h f = subst (λ (x : Stage). IsFlagged s (names_of x)) (sym h.leads.next_is) f
-taken_flagged says s (AwaitsValue o gex) next seqn payload written h f = subst (λ (x : Stage). IsFlagged s (names_of x)) (sym h.leads.next_is) f
+taken_flagged says s (AwaitsGroup o) next seqn payload written h f = subst (λ (x : Stage). IsFlagged s (names_in_stage x)) (sym h.leads.next_is) f
+taken_flagged says s (AwaitsReply o gex local public) next seqn payload written h f = subst (λ (x : Stage). IsFlagged s (names_in_stage x)) (sym h.leads.next_is) f
+taken_flagged says s (AwaitsRequest o) next seqn payload written h f = subst (λ (x : Stage). IsFlagged s (names_in_stage x)) (sym h.leads.next_is) f
+taken_flagged says s (AwaitsValue o gex) next seqn payload written h f = subst (λ (x : Stage). IsFlagged s (names_in_stage x)) (sym h.leads.next_is) f
 taken_flagged says s (AwaitsNewkeys x m k) next seqn payload written h f = absurd h
 
-pub dropped_flagged : (s : Setting) (stage : Stage) → IsFlagged s (names_of stage) → IsFlagged s (names_of (guess_dropped stage))
+pub dropped_flagged : (s : Setting) (stage : Stage) → IsFlagged s (names_in_stage stage) → IsFlagged s (names_in_stage (guess_dropped stage))
 dropped_flagged s (Created own) f = f
 dropped_flagged s (AwaitsGroup o) f = f
 dropped_flagged s (AwaitsReply o gex local public) f = f

@@ -12,7 +12,7 @@ use Rattle.ssh_packet.specs.Stream.{message_type}
 use Rattle.ssh_packet.specs.Writing.{Writer}
 use Rattle.ssh_packet.specs.declared.reader.Incoming.{Incoming}
 use Rattle.ssh_kex.specs.Setting.{Says, Setting}
-use Rattle.ssh_kex.specs.Stages.{Stage, Created, AwaitsGroup, AwaitsReply, AwaitsRequest, AwaitsValue, AwaitsNewkeys, Machine, Finishes, Skips, names_of}
+use Rattle.ssh_kex.specs.Stages.{Stage, Created, AwaitsGroup, AwaitsReply, AwaitsRequest, AwaitsValue, AwaitsNewkeys, Machine, Finishes, Skips, names_in_stage}
 use Rattle.ssh_kex.specs.Stepping.{asks_agreement, asks_hosts, asks_groups, next_of, DropsGuess, IsDone, Progresses, TakesOne}
 use Rattle.ssh_kex.specs.declared.config.Config.{Config}
 use Rattle.ssh_kex.specs.declared.exchange.Exchange.{Exchange}
@@ -32,7 +32,7 @@ use Rattle.ssh_rules.proofs.Lemmas.{asks_join, asks_left, asks_lookups, asks_ste
 use Rattle.ssh_transport.specs.Asking.{AsksBetween, AsksTo, MoveAsks, StepAsks, asks_trust, nowhere, state_of}
 use Rattle.ssh_transport.specs.Handling.{Installs, IsFor, IsOpen, Moves}
 use Rattle.ssh_transport.specs.Saying.{GoesOn, GoesPart, IsFixed, nothing_said}
-use Rattle.ssh_transport.specs.States.{between, reading_of, stands_of, state_at}
+use Rattle.ssh_transport.specs.States.{after_exchanges, reading_spot, stands_of, state_at}
 use Rattle.ssh_transport.specs.Taking.{Hears, TakesUp}
 use Rattle.ssh_transport.specs.declared.connection.Connection.{Connection}
 use Rattle.ssh_transport.specs.declared.session.Handled.{Handled}
@@ -134,11 +134,11 @@ pub step_ended : (side : Side) (stage : Stage) (answer : Result (KexProgress Mac
 step_ended side stage answer p host k n n' a e h = subst (λ (x : Option Stage). StepCalls side stage x n n') (ap next_of a ∙ ap (λ (x : KexProgress Machine). next_of (Ok x)) e) h
 
 -- what is to come where no exchange is open
-outside_none : (side : Side) (records : List FinishedExchange) → (agreement_to_come side (between records) ≡ 0) × (hosts_to_come side (between records) ≡ 0) × (lookups_to_come side (between records) ≡ 0)
+outside_none : (side : Side) (records : List FinishedExchange) → (agreement_to_come side (after_exchanges records) ≡ 0) × (hosts_to_come side (after_exchanges records) ≡ 0) × (lookups_to_come side (after_exchanges records) ≡ 0)
 outside_none side [] = (refl, refl, refl)
 outside_none side (x ∷ records) = (refl, refl, refl)
 
-pub ends_on : (m : Machine) (i : Incoming) (old new : Writer) (host : Option ServerHost) (k : NewKeys) (records : List FinishedExchange) (n n' : PartCalls) → IsDone m i old host k new → EndCalls m.setting.side m.stage host n n' → MoveAsks m.setting.side m.stage (between records) n n'
+pub ends_on : (m : Machine) (i : Incoming) (old new : Writer) (host : Option ServerHost) (k : NewKeys) (records : List FinishedExchange) (n n' : PartCalls) → IsDone m i old host k new → EndCalls m.setting.side m.stage host n n' → MoveAsks m.setting.side m.stage (after_exchanges records) n n'
 ends_on m i old new host k records n n' d c =
     let b = stage_bounds m.setting.side m.stage in
     let e = end_bounds m.setting.side m.setting m.stage i.seqn i.payload.now d.written d.exchange d.made host d.ends in
@@ -164,7 +164,7 @@ ends_refused m i old new host k n n' d c =
     }
 
 -- the session behind it
-pub ended_asks : (s s' : Session) (k : NewKeys) (answer : Handled) (m : Machine) (n n' : PartCalls) → Installs s k answer s' → ((records : List FinishedExchange) → MoveAsks m.setting.side m.stage (between records) n n') → MoveAsks m.setting.side m.stage (stands_of s'.finished.items s'.kex) n n'
+pub ended_asks : (s s' : Session) (k : NewKeys) (answer : Handled) (m : Machine) (n n' : PartCalls) → Installs s k answer s' → ((records : List FinishedExchange) → MoveAsks m.setting.side m.stage (after_exchanges records) n n') → MoveAsks m.setting.side m.stage (stands_of s'.finished.items s'.kex) n n'
 ended_asks s s' k Delivers m n n' h f = absurd h
 ended_asks s s' k Done m n n' h f = absurd h
 ended_asks s s' k (Rekeys opening again) m n n' h f = subst (λ (x : Where). MoveAsks m.setting.side m.stage x n n') (sym (ap (λ (x : Session). stands_of s'.finished.items x.kex) h.3)) (f s'.finished.items)
@@ -180,12 +180,12 @@ moved_begun says s1 s' m i Delivers h = absurd h
 moved_begun says s1 s' m i Done h = ap (λ (x : Session). begun (state_of x)) h.becomes
 moved_begun says s1 s' m i (Rekeys opening again) h =
     let more = h.installs.2 in
-    let idle : stands_of s'.finished.items s'.kex ≡ between s'.finished.items = ap (λ (x : Session). stands_of s'.finished.items x.kex) h.installs.3 in
+    let idle : stands_of s'.finished.items s'.kex ≡ after_exchanges s'.finished.items = ap (λ (x : Session). stands_of s'.finished.items x.kex) h.installs.3 in
     let none : open_count (stands_of s'.finished.items s'.kex) ≡ 0 = ap open_count idle ∙ closed s'.finished.items in
     let l = one_more s'.finished.items s1.finished.items _ more in
     omega (arith, none, l)
   where
-    closed : (records : List FinishedExchange) → open_count (between records) ≡ 0
+    closed : (records : List FinishedExchange) → open_count (after_exchanges records) ≡ 0
     closed [] = refl
     closed (x ∷ records) = refl
 
@@ -249,14 +249,14 @@ parts_for s s1 m after e (inr f) =
 -- where a message is for a session's machine, its request and its group are those of the stage
 record GroupsFor (s : Session) (stage : Stage) (records : List FinishedExchange) : Type 0 where
   pub due : request_due (stands_of s.finished.items s.kex) ≡ request_due (Inside stage)
-  pub chosen : groups_chosen (state_of s) ≡ groups_in records + group_in (names_of stage)
+  pub chosen : groups_chosen (state_of s) ≡ groups_in records + group_in (names_in_stage stage)
 
 groups_for : (s s1 : Session) (m : Machine) → IsFor s m s1 → GroupsFor s m.stage s1.finished.items
 groups_for s s1 m (inl f) =
     let stage : m.stage ≡ Created (f.0).item.payload = (f.0).stage_is in
     let same : groups_in s1.finished.items ≡ groups_in s.finished.items = ap (λ (x : Session). groups_in x.finished.items) (f.0).becomes in
     let none : group_in (names_now (stands_of s.finished.items s.kex)) ≡ 0 = ap (λ (w : Where). group_in (names_now w)) f.1 in
-    let first : group_in (names_of m.stage) ≡ 0 = ap (λ (x : Stage). group_in (names_of x)) stage in
+    let first : group_in (names_in_stage m.stage) ≡ 0 = ap (λ (x : Stage). group_in (names_in_stage x)) stage in
     record {
       due = ap request_due f.1 ∙ sym (ap (λ (x : Stage). request_due (Inside x)) stage);
       chosen = omega (arith, same, none, first);
@@ -264,11 +264,11 @@ groups_for s s1 m (inl f) =
 groups_for s s1 m (inr f) =
     let same : groups_in s1.finished.items ≡ groups_in s.finished.items = ap (λ (x : Session). groups_in x.finished.items) f.1 in
     let stands : stands_of s.finished.items s.kex ≡ Inside m.stage = ap (λ (k : SessionKexState Machine). stands_of s.finished.items k) f.0 in
-    let now : group_in (names_now (stands_of s.finished.items s.kex)) ≡ group_in (names_of m.stage) = ap (λ (w : Where). group_in (names_now w)) stands in
+    let now : group_in (names_now (stands_of s.finished.items s.kex)) ≡ group_in (names_in_stage m.stage) = ap (λ (w : Where). group_in (names_now w)) stands in
     record { due = ap request_due stands; chosen = omega (arith, same, now) }
 
 -- an exchange that ends asks for no group any more
-ended_group : (s : Setting) (stage : Stage) (seqn : ℕ) (payload : List ℕ) (written : List (List ℕ)) (x : Exchange) (made : FinishedExchange) (host : Option ServerHost) → (Finishes stage payload x made host × (written ≡ [])) ⊎ Skips s stage seqn payload written x made host → asks_groups stage + group_in (names_of stage) ≤ request_due (Inside stage) + group_in (Some made.names)
+ended_group : (s : Setting) (stage : Stage) (seqn : ℕ) (payload : List ℕ) (written : List (List ℕ)) (x : Exchange) (made : FinishedExchange) (host : Option ServerHost) → (Finishes stage payload x made host × (written ≡ [])) ⊎ Skips s stage seqn payload written x made host → asks_groups stage + group_in (names_in_stage stage) ≤ request_due (Inside stage) + group_in (Some made.names)
 ended_group s (Created own) seqn payload written x made host (inl h) = absurd h.0
 ended_group s (Created own) seqn payload written x made host (inr h) = omega arith
 ended_group s (AwaitsGroup o) seqn payload written x made host (inl h) = absurd h.0
@@ -283,18 +283,18 @@ ended_group s (AwaitsNewkeys y m k) seqn payload written x made host (inl h) = (
 ended_group s (AwaitsNewkeys y m k) seqn payload written x made host (inr h) = absurd h
 
 -- a message that was handed to the machine
-moved_groups : (says : Says) (s1 s' : Session) (m : Machine) (i : Incoming) (answer : Handled) → Moves says s1 m i answer s' → asks_groups m.stage + request_due (stands_of s'.finished.items s'.kex) + (groups_in s1.finished.items + group_in (names_of m.stage)) ≤ request_due (Inside m.stage) + groups_chosen (state_of s')
+moved_groups : (says : Says) (s1 s' : Session) (m : Machine) (i : Incoming) (answer : Handled) → Moves says s1 m i answer s' → asks_groups m.stage + request_due (stands_of s'.finished.items s'.kex) + (groups_in s1.finished.items + group_in (names_in_stage m.stage)) ≤ request_due (Inside m.stage) + groups_chosen (state_of s')
 moved_groups says s1 s' m i Delivers h = absurd h
 moved_groups says s1 s' m i Done h =
     let due : request_due (stands_of s'.finished.items s'.kex) ≡ request_due (Inside (h.next).stage) = ap (λ (x : Session). request_due (stands_of x.finished.items x.kex)) h.becomes in
-    let chosen : groups_chosen (state_of s') ≡ groups_in s1.finished.items + group_in (names_of (h.next).stage) = ap (λ (x : Session). groups_chosen (state_of x)) h.becomes in
+    let chosen : groups_chosen (state_of s') ≡ groups_in s1.finished.items + group_in (names_in_stage (h.next).stage) = ap (λ (x : Session). groups_chosen (state_of x)) h.becomes in
     elim h.does [
       | inl d ↦ (
           let z = dropped_asks m.setting.side m.stage (Some (h.next).stage) d.drops in
           let k = dropped_group m.stage in
           let e : (h.next).stage ≡ Rattle.ssh_kex.specs.Stages.guess_dropped m.stage = ap (λ (x : Machine). x.stage) d.kex_is in
           let a = ap (λ (x : Stage). request_due (Inside x)) e in
-          let b = ap (λ (x : Stage). group_in (names_of x)) e in
+          let b = ap (λ (x : Stage). group_in (names_in_stage x)) e in
           omega (arith, due, chosen, z.2, k.0, k.1, a, b)
           )
       | inr t ↦ (
@@ -304,7 +304,7 @@ moved_groups says s1 s' m i Done h =
     ]
 moved_groups says s1 s' m i (Rekeys opening again) h =
     let more = h.installs.2 in
-    let idle : stands_of s'.finished.items s'.kex ≡ between s'.finished.items = ap (λ (x : Session). stands_of s'.finished.items x.kex) h.installs.3 in
+    let idle : stands_of s'.finished.items s'.kex ≡ after_exchanges s'.finished.items = ap (λ (x : Session). stands_of s'.finished.items x.kex) h.installs.3 in
     let due : request_due (stands_of s'.finished.items s'.kex) ≡ 0 = ap request_due idle ∙ none_due s'.finished.items in
     let now : group_in (names_now (stands_of s'.finished.items s'.kex)) ≡ 0 = ap (λ (w : Where). group_in (names_now w)) idle ∙ none_now s'.finished.items in
     let records = ap groups_in more ∙ groups_more s1.finished.items _ in
@@ -312,11 +312,11 @@ moved_groups says s1 s' m i (Rekeys opening again) h =
     let e = ended_group m.setting m.stage i.seqn i.payload.now (h.done).written (h.done).exchange (h.done).made h.host (h.done).ends in
     omega (arith, due, now, records, names, e)
   where
-    none_due : (records : List FinishedExchange) → request_due (between records) ≡ 0
+    none_due : (records : List FinishedExchange) → request_due (after_exchanges records) ≡ 0
     none_due [] = refl
     none_due (x ∷ records) = refl
 
-    none_now : (records : List FinishedExchange) → group_in (names_now (between records)) ≡ 0
+    none_now : (records : List FinishedExchange) → group_in (names_now (after_exchanges records)) ≡ 0
     none_now [] = refl
     none_now (x ∷ records) = refl
 
@@ -403,15 +403,15 @@ to_still s at read n cause events st h =
 
 pub between_heard : (c mid : Connection) (piece : List ℕ) (n : PartCalls) → Hears c piece mid → AsksBetween c.session mid.session n n
 between_heard c mid piece n h =
-    let k = asks_steps nothing_said c.session.side c.session.config.now (id_text c.session.config.now.id) h.events (state_at c.session (reading_of c) c.reader.count) (state_at mid.session (reading_of mid) mid.reader.count) n h.steps in
+    let k = asks_steps nothing_said c.session.side c.session.config.now (id_text c.session.config.now.id) h.events (state_at c.session (reading_spot c) c.reader.count) (state_at mid.session (reading_spot mid) mid.reader.count) n h.steps in
     record {
-      later = begun_steps nothing_said c.session.side c.session.config.now (id_text c.session.config.now.id) h.events (state_at c.session (reading_of c) c.reader.count) (state_at mid.session (reading_of mid) mid.reader.count) h.steps;
+      later = begun_steps nothing_said c.session.side c.session.config.now (id_text c.session.config.now.id) h.events (state_at c.session (reading_spot c) c.reader.count) (state_at mid.session (reading_spot mid) mid.reader.count) h.steps;
       within = record { agreement = k.agreement; hosts = k.hosts; lookups = k.lookups; groups = k.groups };
     }
 
 -- behind a packet what could be written was written, in part or all of it
-pub to_part : (c c1 c2 : Connection) (answer : Handled) (s' : Session) (read : ℕ) (n n' : PartCalls) → IsFixed c.session c1.session → AsksBetween c.session c1.session n n' → TakesUp answer c1 c2 → (g : GoesPart c2.session read s') → AsksTo c.session n n' OfMemory (state_at g.mid (reading_of c2) c2.reader.count)
-to_part c c1 c2 answer s' read n n' fixed a u g = to_written c.session g.mid (reading_of c2) c2.reader.count n n' (between_join c.session c1.session g.mid n n' n' fixed.0 a (subst (λ (x : Session). AsksBetween x g.mid n' n') (ap (λ (x : Connection). x.session) u.rest) (between_written c2.session g.mid read g.events n' (g.writes.steps nowhere))))
+pub to_part : (c c1 c2 : Connection) (answer : Handled) (s' : Session) (read : ℕ) (n n' : PartCalls) → IsFixed c.session c1.session → AsksBetween c.session c1.session n n' → TakesUp answer c1 c2 → (g : GoesPart c2.session read s') → AsksTo c.session n n' OfMemory (state_at g.mid (reading_spot c2) c2.reader.count)
+to_part c c1 c2 answer s' read n n' fixed a u g = to_written c.session g.mid (reading_spot c2) c2.reader.count n n' (between_join c.session c1.session g.mid n n' n' fixed.0 a (subst (λ (x : Session). AsksBetween x g.mid n' n') (ap (λ (x : Connection). x.session) u.rest) (between_written c2.session g.mid read g.events n' (g.writes.steps nowhere))))
 
 pub asks_on : (c c1 c2 : Connection) (answer : Handled) (s' : Session) (read : ℕ) (n n' : PartCalls) → IsFixed c.session c1.session → AsksBetween c.session c1.session n n' → TakesUp answer c1 c2 → GoesOn c2.session read s' → AsksBetween c.session s' n n'
 asks_on c c1 c2 answer s' read n n' fixed a u g = between_join c.session c1.session s' n n' n' fixed.0 a (subst (λ (x : Session). AsksBetween x s' n' n') (ap (λ (x : Connection). x.session) u.rest) (between_written c2.session s' read g.events n' (g.writes.steps nowhere)))

@@ -25,7 +25,7 @@ use Rattle.ssh_transport.specs.Asking.{AsksBetween, AsksTo}
 use Rattle.ssh_transport.specs.Handling.{IsHeard}
 use Rattle.ssh_transport.specs.Kept.{IsLive}
 use Rattle.ssh_transport.specs.Saying.{IsFixed, nothing_said}
-use Rattle.ssh_transport.specs.States.{bare_of, emptied, reading_of, standing_of, state_at}
+use Rattle.ssh_transport.specs.States.{bare_of, emptied, reading_spot, standing_of, state_at}
 use Rattle.ssh_transport.specs.Stopping.{Fails, HearsNot, HearsNothing, IsAsBefore, Stops}
 use Rattle.ssh_transport.specs.Submitting.{Breaks}
 use Rattle.ssh_transport.specs.Taking.{Hears}
@@ -53,21 +53,21 @@ no_id side Failed piece error new n h = absurd (n refl)
 
 -- what was asked where nothing was read
 abbrev Still : Connection → (RefusalCause → SideState → Type 0) → Type 0
-Still c asked = (cause : RefusalCause) (events : List Event) (at : SideState) → Steps nothing_said c.session.side c.session.config.now (id_text c.session.config.now.id) (state_at c.session (reading_of c) c.reader.count) events at → asked cause at
+Still c asked = (cause : RefusalCause) (events : List Event) (at : SideState) → Steps nothing_said c.session.side c.session.config.now (id_text c.session.config.now.id) (state_at c.session (reading_spot c) c.reader.count) events at → asked cause at
 
 fails_unheard : (says : Says) (denies : Denies) (untrusted : ServerHost → Type 0) (asked : RefusalCause → SideState → Type 0) (c c' : Connection) (piece : List ℕ) (error : Error) (line : IdReading) → Still c asked → IsLive c → IsAsBefore c.session c'.session → c'.delivered.items ≡ c.delivered.items → Feeds (lets_pass c.session.side) c.session.line piece (Err error) line → Fails says denies untrusted asked c piece error c'
 fails_unheard says denies untrusted asked c c' piece error line still live b d h =
     let n = no_id c.session.side c.session.line piece error line live.heeds h in
     record {
       cause = OfVersion;
-      state = state_at c.session (reading_of c) c.reader.count;
+      state = state_at c.session (reading_spot c) c.reader.count;
       events = [];
       steps = refl;
       output = b.output ∙ sym (append-nil c.session.writer.output);
       delivered = d ∙ sym (append-nil c.delivered.items);
       records = b.records;
       input = (refl, refl);
-      done = live.settled (reading_of c);
+      done = live.settled (reading_spot c);
       line = line;
       behind = [];
       heard = n.0;
@@ -75,13 +75,13 @@ fails_unheard says denies untrusted asked c c' piece error line still live b d h
       read = refl;
       next = tt;
       why = n.1;
-      asks = still OfVersion [] (state_at c.session (reading_of c) c.reader.count) refl;
+      asks = still OfVersion [] (state_at c.session (reading_spot c) c.reader.count) refl;
     }
 
 fails_begin : (says : Says) (denies : Denies) (untrusted : ServerHost → Type 0) (asked : RefusalCause → SideState → Type 0) (c c' : Connection) (piece : List ℕ) (error : Error) → Still c asked → IsAsBefore c.session c'.session → c'.delivered.items ≡ c.delivered.items → error ≡ errors.Memory → Fails says denies untrusted asked c piece error c'
 fails_begin says denies untrusted asked c c' piece error still b d e = record {
   cause = OfMemory;
-  state = state_at c.session (reading_of c) c.reader.count;
+  state = state_at c.session (reading_spot c) c.reader.count;
   events = [];
   steps = refl;
   output = b.output ∙ sym (append-nil c.session.writer.output);
@@ -96,7 +96,7 @@ fails_begin says denies untrusted asked c c' piece error still b d e = record {
   read = refl;
   next = tt;
   why = e;
-  asks = still OfMemory [] (state_at c.session (reading_of c) c.reader.count) refl;
+  asks = still OfMemory [] (state_at c.session (reading_spot c) c.reader.count) refl;
 }
 
 pub fails_hearing : (says : Says) (denies : Denies) (untrusted : ServerHost → Type 0) (asked : RefusalCause → SideState → Type 0) (c c' : Connection) (piece : List ℕ) (error : Error) → Still c asked → IsLive c → HearsNot c.session piece error c'.session → c'.delivered.items ≡ c.delivered.items → Fails says denies untrusted asked c piece error c'
@@ -140,10 +140,10 @@ fails_behind says denies untrusted asked later c mid c' piece error a h i k = re
   cause = k.cause;
   state = k.state;
   events = h.events ++ k.events;
-  steps = steps_join says c.session.side c.session.config.now (id_text c.session.config.now.id) h.events k.events (state_at c.session (reading_of c) c.reader.count) (state_at mid.session (reading_of mid) mid.reader.count) k.state first moved;
+  steps = steps_join says c.session.side c.session.config.now (id_text c.session.config.now.id) h.events k.events (state_at c.session (reading_spot c) c.reader.count) (state_at mid.session (reading_spot mid) mid.reader.count) k.state first moved;
   output = k.output ∙ ap (λ (b : List ℕ). b ++ sent_bytes mid.session.side (spot_of mid.session.writer) k.events) h.output ∙ append_assoc c.session.writer.output (sent_bytes c.session.side (spot_of c.session.writer) h.events) (sent_bytes mid.session.side (spot_of mid.session.writer) k.events)
       ∙ ap (λ (x : Side). c.session.writer.output ++ (sent_bytes c.session.side (spot_of c.session.writer) h.events ++ sent_bytes x (spot_of mid.session.writer) k.events)) h.side
-      ∙ ap (λ (b : List ℕ). c.session.writer.output ++ b) (sym (sent_join says c.session.side c.session.config.now (id_text c.session.config.now.id) h.events k.events (state_at c.session (reading_of c) c.reader.count) (state_at mid.session (reading_of mid) mid.reader.count) first));
+      ∙ ap (λ (b : List ℕ). c.session.writer.output ++ b) (sym (sent_join says c.session.side c.session.config.now (id_text c.session.config.now.id) h.events k.events (state_at c.session (reading_spot c) c.reader.count) (state_at mid.session (reading_spot mid) mid.reader.count) first));
   delivered = k.delivered ∙ ap (λ (b : List (List ℕ)). b ++ delivered_in k.events) h.delivered ∙ append_assoc c.delivered.items (delivered_in h.events) (delivered_in k.events) ∙ ap (λ (b : List (List ℕ)). c.delivered.items ++ b) (sym (delivered_more h.events k.events));
   records = k.records;
   input = input_more h.events k.events h.input k.input;
@@ -152,19 +152,19 @@ fails_behind says denies untrusted asked later c mid c' piece error a h i k = re
   behind = mid.reader.waiting;
   heard = hears_cause k.cause (bare_of c) piece (h.events ++ k.events) mid.session.line mid.reader.waiting k.line (line_more c.session.side c.session.line c.reader.waiting piece h.events k.events mid.session.line mid.reader.waiting k.silent (inl i) h.line);
   left = k.left;
-  read = k.bytes ∙ ap (λ (x : Side). read_bytes x (reading_of mid) k.events ++ k.left) h.side
-      ∙ ap (λ (b : List ℕ). b ++ k.left) (sym (read_join says c.session.side c.session.config.now (id_text c.session.config.now.id) h.events k.events (state_at c.session (reading_of c) c.reader.count) (state_at mid.session (reading_of mid) mid.reader.count) first
-      ∙ ap (λ (b : List ℕ). b ++ read_bytes c.session.side (reading_of mid) k.events) (h.bytes (reading_of c))));
+  read = k.bytes ∙ ap (λ (x : Side). read_bytes x (reading_spot mid) k.events ++ k.left) h.side
+      ∙ ap (λ (b : List ℕ). b ++ k.left) (sym (read_join says c.session.side c.session.config.now (id_text c.session.config.now.id) h.events k.events (state_at c.session (reading_spot c) c.reader.count) (state_at mid.session (reading_spot mid) mid.reader.count) first
+      ∙ ap (λ (b : List ℕ). b ++ read_bytes c.session.side (reading_spot mid) k.events) (h.bytes (reading_spot c))));
   next = k.next;
   why = subst (λ (x : Side). AnswersCause says denies untrusted x c.session.config.now k.cause k.state error) h.side (subst (λ (x : Bor Config). AnswersCause says denies untrusted mid.session.side x.now k.cause k.state error) h.config k.why);
-  asks = a k.cause k.state (begun_steps says mid.session.side mid.session.config.now (id_text mid.session.config.now.id) k.events (state_at mid.session (reading_of mid) mid.reader.count) k.state k.steps) k.asks;
+  asks = a k.cause k.state (begun_steps says mid.session.side mid.session.config.now (id_text mid.session.config.now.id) k.events (state_at mid.session (reading_spot mid) mid.reader.count) k.state k.steps) k.asks;
 } where
-  first : Steps says c.session.side c.session.config.now (id_text c.session.config.now.id) (state_at c.session (reading_of c) c.reader.count) h.events (state_at mid.session (reading_of mid) mid.reader.count)
-  first = unread_steps nothing_said says c.session.side c.session.config.now (id_text c.session.config.now.id) h.events (state_at c.session (reading_of c) c.reader.count) (state_at mid.session (reading_of mid) mid.reader.count) h.unread h.steps
+  first : Steps says c.session.side c.session.config.now (id_text c.session.config.now.id) (state_at c.session (reading_spot c) c.reader.count) h.events (state_at mid.session (reading_spot mid) mid.reader.count)
+  first = unread_steps nothing_said says c.session.side c.session.config.now (id_text c.session.config.now.id) h.events (state_at c.session (reading_spot c) c.reader.count) (state_at mid.session (reading_spot mid) mid.reader.count) h.unread h.steps
 
-  moved : Steps says c.session.side c.session.config.now (id_text c.session.config.now.id) (state_at mid.session (reading_of mid) mid.reader.count) k.events k.state
-  moved = subst (λ (x : Side). Steps says x c.session.config.now (id_text c.session.config.now.id) (state_at mid.session (reading_of mid) mid.reader.count) k.events k.state) h.side
-      (subst (λ (b : Bor Config). Steps says mid.session.side b.now (id_text b.now.id) (state_at mid.session (reading_of mid) mid.reader.count) k.events k.state) h.config k.steps)
+  moved : Steps says c.session.side c.session.config.now (id_text c.session.config.now.id) (state_at mid.session (reading_spot mid) mid.reader.count) k.events k.state
+  moved = subst (λ (x : Side). Steps says x c.session.config.now (id_text c.session.config.now.id) (state_at mid.session (reading_spot mid) mid.reader.count) k.events k.state) h.side
+      (subst (λ (b : Bor Config). Steps says mid.session.side b.now (id_text b.now.id) (state_at mid.session (reading_spot mid) mid.reader.count) k.events k.state) h.config k.steps)
 
 -- ---- as contracts see it
 

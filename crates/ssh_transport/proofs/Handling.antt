@@ -17,7 +17,7 @@ use Rattle.ssh_packet.specs.declared.reader.Incoming.{Incoming}
 use Rattle.ssh_kex.specs.Setting.{Says, Setting}
 use Rattle.ssh_kex.specs.Exchange.{outgoing}
 use Rattle.ssh_kex.specs.Messages.{newkeys}
-use Rattle.ssh_kex.specs.Stages.{AwaitsGroup, AwaitsNewkeys, AwaitsReply, AwaitsRequest, AwaitsValue, Finishes, Machine, Skips, Stage, Created, Takes, drops_guess, guess_dropped, names_of}
+use Rattle.ssh_kex.specs.Stages.{AwaitsGroup, AwaitsNewkeys, AwaitsReply, AwaitsRequest, AwaitsValue, Finishes, Machine, Skips, Stage, Created, Takes, drops_guess, guess_dropped, names_in_stage}
 use Rattle.ssh_kex.specs.Stepping.{DropsGuess, IsDone, PutsAll, TakesOne}
 use Rattle.ssh_kex.specs.declared.config.Config.{Config}
 use Rattle.ssh_kex.specs.declared.exchange.Exchange.{Exchange}
@@ -34,7 +34,7 @@ use Rattle.ssh_rules.specs.Valid.{config_fault}
 use Rattle.ssh_transport.specs.Handling.{Awaits, Ended, Handles, IsFlagged, IsOwn, IsReadAt, Moves, Passes, delivered_by, may_deliver_by, read_behind, spot_behind}
 use Rattle.ssh_transport.specs.Kexinits.{setting_between}
 use Rattle.ssh_transport.specs.Saying.{IsSettled}
-use Rattle.ssh_transport.specs.States.{between, heard_of, stands_of, state_at}
+use Rattle.ssh_transport.specs.States.{after_exchanges, heard_of, stands_of, state_at}
 use Rattle.ssh_transport.specs.declared.session.Handled.{Handled}
 use Rattle.ssh_transport.specs.declared.session.Handled.TheVariants.{Delivers, Done, Rekeys}
 use Rattle.ssh_transport.specs.declared.session.Session.{Session}
@@ -152,7 +152,7 @@ inside s m called at read = stated s s.held.items s.writer (Inside m.stage) call
 abbrev pub behind : Session → Stage → Bool → Writer → Spot → ℕ → Item → SideState
 behind s stage reset w at read i = record (stated s s.held.items w (Inside stage) false (spot_after at i) (count_after read (length i.payload))) { writing = spot_renumbered reset (spot_of w) }
 
-did_take : (says : Says) (s : Session) (m : Machine) (inc : Incoming) (next : Machine) (reset : Bool) (written : Writer) (at : Spot) (read : ℕ) (i : Item) (called : Bool) → IsOwn s m → IsReadAt at inc.seqn inc.payload.now i → OrderBy s.side at.number i s.finished.items (names_of m.stage) → TakesOne says m inc s.writer next reset written → Did says s (inside s m called at read) at i written (behind s next.stage reset written at read i)
+did_take : (says : Says) (s : Session) (m : Machine) (inc : Incoming) (next : Machine) (reset : Bool) (written : Writer) (at : Spot) (read : ℕ) (i : Item) (called : Bool) → IsOwn s m → IsReadAt at inc.seqn inc.payload.now i → OrderBy s.side at.number i s.finished.items (names_in_stage m.stage) → TakesOne says m inc s.writer next reset written → Did says s (inside s m called at read) at i written (behind s next.stage reset written at read i)
 did_take says s m inc next reset written at read i called o r ordered t = record {
   events = MessageTaken i ∷ a.events;
   steps = (answering base t.written (spot_of s.writer) s.writer.count, takes, a.steps);
@@ -165,7 +165,7 @@ did_take says s m inc next reset written at read i called o r ordered t = record
   base : SideState
   base = stated s s.held.items s.writer (Inside next.stage) false (spot_after at i) (count_after read (length i.payload))
 
-  flagged : IsFlagged m.setting (names_of next.stage)
+  flagged : IsFlagged m.setting (names_in_stage next.stage)
   flagged = taken_flagged says m.setting m.stage next.stage inc.seqn inc.payload.now t.written t.takes o.flagged
 
   a : Answered says s.side s.config.now (id_text s.config.now.id) base t.written s.writer written (spot_renumbered reset (spot_of written))
@@ -193,7 +193,7 @@ did_take says s m inc next reset written at read i called o r ordered t = record
     becomes = refl;
   }
 
-did_drop : (says : Says) (s : Session) (m : Machine) (inc : Incoming) (next : Machine) (reset : Bool) (written : Writer) (at : Spot) (read : ℕ) (i : Item) → is_kex_type (type_of i) ≡ true → IsReadAt at inc.seqn inc.payload.now i → OrderBy s.side at.number i s.finished.items (names_of m.stage) → DropsGuess m s.writer next reset written → Did says s (inside s m false at read) at i written (behind s next.stage reset written at read i)
+did_drop : (says : Says) (s : Session) (m : Machine) (inc : Incoming) (next : Machine) (reset : Bool) (written : Writer) (at : Spot) (read : ℕ) (i : Item) → is_kex_type (type_of i) ≡ true → IsReadAt at inc.seqn inc.payload.now i → OrderBy s.side at.number i s.finished.items (names_in_stage m.stage) → DropsGuess m s.writer next reset written → Did says s (inside s m false at read) at i written (behind s next.stage reset written at read i)
 did_drop says s m inc next reset written at read i kex r ordered d = record {
   events = GuessDropped i ∷ [];
   steps = (
@@ -227,7 +227,7 @@ abbrev pub IsCalled : Bool → Stage → Type 0
 IsCalled true stage = (own : List ℕ) × (stage ≡ Created own)
 IsCalled false stage = Unit {0}
 
-did_await : (says : Says) (s : Session) (m : Machine) (inc : Incoming) (next : Machine) (reset : Bool) (written : Writer) (at : Spot) (read : ℕ) (i : Item) (called : Bool) → IsCalled called m.stage → is_kex_type (type_of i) ≡ true → IsOwn s m → IsReadAt at inc.seqn inc.payload.now i → OrderBy s.side at.number i s.finished.items (names_of m.stage) → DropsGuess m s.writer next reset written ⊎ TakesOne says m inc s.writer next reset written → Did says s (inside s m called at read) at i written (behind s next.stage reset written at read i)
+did_await : (says : Says) (s : Session) (m : Machine) (inc : Incoming) (next : Machine) (reset : Bool) (written : Writer) (at : Spot) (read : ℕ) (i : Item) (called : Bool) → IsCalled called m.stage → is_kex_type (type_of i) ≡ true → IsOwn s m → IsReadAt at inc.seqn inc.payload.now i → OrderBy s.side at.number i s.finished.items (names_in_stage m.stage) → DropsGuess m s.writer next reset written ⊎ TakesOne says m inc s.writer next reset written → Did says s (inside s m called at read) at i written (behind s next.stage reset written at read i)
 did_await says s m inc next reset written at read i called c kex o r ordered (inr t) = did_take says s m inc next reset written at read i called o r ordered t
 did_await says s m inc next reset written at read i true c kex o r ordered (inl d) = absurd (let e : true ≡ false = sym d.drops ∙ created_drops m.stage c.0 c.1 in cc)
 did_await says s m inc next reset written at read i false c kex o r ordered (inl d) = did_drop says s m inc next reset written at read i kex r ordered d
@@ -250,7 +250,7 @@ skips_read s (AwaitsRequest o) seqn payload written x made host v h = h
 skips_read s (AwaitsValue o gex) seqn payload written x made host v h = h
 skips_read s (AwaitsNewkeys y m k) seqn payload written x made host v h = h
 
-behind_records : (records : List FinishedExchange) (x : FinishedExchange) → between (records ++ x ∷ []) ≡ Outside
+behind_records : (records : List FinishedExchange) (x : FinishedExchange) → after_exchanges (records ++ x ∷ []) ≡ Outside
 behind_records [] x = refl
 behind_records (y ∷ records) x = refl
 
@@ -273,7 +273,7 @@ ended s records stands at to = record {
   read = 0;
 }
 
-did_end : (says : Says) (s s' : Session) (m : Machine) (inc : Incoming) (at : Spot) (read : ℕ) (i : Item) (called : Bool) (opening : OpenKey) (again : Bool) → config_fault s.side s.config.now ≡ None → IsCalled called m.stage → IsOwn s m → IsReadAt at inc.seqn inc.payload.now i → OrderBy s.side at.number i s.finished.items (names_of m.stage) → Ended says s m inc (Rekeys opening again) s' → Did says s (inside s m called at read) at i s'.writer (state_at s' (spot_behind (Rekeys opening again) at i) 0)
+did_end : (says : Says) (s s' : Session) (m : Machine) (inc : Incoming) (at : Spot) (read : ℕ) (i : Item) (called : Bool) (opening : OpenKey) (again : Bool) → config_fault s.side s.config.now ≡ None → IsCalled called m.stage → IsOwn s m → IsReadAt at inc.seqn inc.payload.now i → OrderBy s.side at.number i s.finished.items (names_in_stage m.stage) → Ended says s m inc (Rekeys opening again) s' → Did says s (inside s m called at read) at i s'.writer (state_at s' (spot_behind (Rekeys opening again) at i) 0)
 did_end says s s' m inc at read i called opening again valid c o r ordered e = by d.ends
   where
     d : IsDone m inc s.writer e.host e.newkeys e.written
@@ -324,7 +324,7 @@ did_end says s s' m inc at read i called opening again valid c o r ordered e = b
               admissible = r.admissible;
               ordered = ordered;
               becomes = ap (λ (x : Session). state_at x (spot_behind (Rekeys opening again) at i) 0) becomes
-                  ∙ ap (λ (xs : List FinishedExchange). ended s xs (between xs) (spot_behind (Rekeys opening again) at i) (record { sealing = sealing_of k.cipher.value.local_to_remote; number = e.written.number })) records_are
+                  ∙ ap (λ (xs : List FinishedExchange). ended s xs (after_exchanges xs) (spot_behind (Rekeys opening again) at i) (record { sealing = sealing_of k.cipher.value.local_to_remote; number = e.written.number })) records_are
                   ∙ ap (λ (x : Where). ended s (s.finished.items ++ d.made ∷ []) x (spot_behind (Rekeys opening again) at i) (record { sealing = sealing_of k.cipher.value.local_to_remote; number = e.written.number })) (behind_records s.finished.items d.made)
                   ∙ ap (λ (x : Sealing). ended s (s.finished.items ++ d.made ∷ []) Outside (spot_renumbered again (record { sealing = x; number = next_number at.number })) (record { sealing = sealing_of k.cipher.value.local_to_remote; number = e.written.number })) opens_is
                   ∙ ap (λ (x : Bool). ended s (s.finished.items ++ d.made ∷ []) Outside (spot_renumbered x (record { sealing = (outgoing (other_side s.side) d.made).sealing; number = next_number at.number })) (record { sealing = sealing_of k.cipher.value.local_to_remote; number = e.written.number })) again_is
@@ -347,7 +347,7 @@ awaited_state : (says : Says) (s s' : Session) (m : Machine) (inc : Incoming) (a
 awaited_state says s s' m inc at read i a = sym (ap (λ (x : Session). state_at x (spot_after at i) (count_after read (length i.payload))) a.becomes
     ∙ ap (λ (w : Writer). stated s s.held.items w (Inside a.next.stage) false (spot_after at i) (count_after read (length i.payload))) a.writer_is)
 
-pub did_move : (says : Says) (s s' : Session) (m : Machine) (inc : Incoming) (at : Spot) (read : ℕ) (i : Item) (called : Bool) (answer : Handled) → config_fault s.side s.config.now ≡ None → IsCalled called m.stage → is_kex_type (type_of i) ≡ true → IsOwn s m → IsReadAt at inc.seqn inc.payload.now i → OrderBy s.side at.number i s.finished.items (names_of m.stage) → Moves says s m inc answer s' → Did says s (inside s m called at read) at i s'.writer (state_at s' (spot_behind answer at i) (read_behind answer read i)) × (delivered_by answer i ≡ [])
+pub did_move : (says : Says) (s s' : Session) (m : Machine) (inc : Incoming) (at : Spot) (read : ℕ) (i : Item) (called : Bool) (answer : Handled) → config_fault s.side s.config.now ≡ None → IsCalled called m.stage → is_kex_type (type_of i) ≡ true → IsOwn s m → IsReadAt at inc.seqn inc.payload.now i → OrderBy s.side at.number i s.finished.items (names_in_stage m.stage) → Moves says s m inc answer s' → Did says s (inside s m called at read) at i s'.writer (state_at s' (spot_behind answer at i) (read_behind answer read i)) × (delivered_by answer i ≡ [])
 did_move says s s' m inc at read i called Delivers valid c kex o r ordered h = absurd h
 did_move says s s' m inc at read i called Done valid c kex o r ordered h =
     let d = did_await says s m inc h.next h.reset h.written at read i called c kex o r ordered h.does in (

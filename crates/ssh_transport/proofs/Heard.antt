@@ -23,7 +23,7 @@ use Rattle.ssh_transport.specs.Handling.{IsHeard}
 use Rattle.ssh_transport.specs.Hearing.{BeginsWhere, EndsBy, HearsLine}
 use Rattle.ssh_transport.specs.Kept.{IsLive}
 use Rattle.ssh_transport.specs.Saying.{Begins, nothing_said}
-use Rattle.ssh_transport.specs.States.{WaitsBehind, emptied, heard_of, is_silent, reading_of, stands_of, state_at, with_more}
+use Rattle.ssh_transport.specs.States.{WaitsBehind, emptied, heard_of, is_silent, reading_spot, stands_of, state_at, with_more}
 use Rattle.ssh_transport.specs.Taking.{Hears}
 use Rattle.ssh_transport.specs.declared.connection.Connection.{Connection}
 use Rattle.ssh_transport.specs.declared.session.Session.{Session}
@@ -58,7 +58,7 @@ pub record Pushes (r : Reader) (bytes : List ℕ) (r' : Reader) : Type 0 where
   pub becomes : r' ≡ record r { waiting = r.waiting ++ bytes; handed = r'.handed; spent = r'.spent }
 
 abbrev pub steps_to : (c : Connection) (events : List Event) (s' : Session) (r : Reader) → Type 0
-steps_to c events s' r = Steps nothing_said c.session.side c.session.config.now (id_text c.session.config.now.id) (state_at c.session (reading_of c) c.reader.count) events (state_at s' (record { sealing = opening_of c.opening; number = r.number }) r.count)
+steps_to c events s' r = Steps nothing_said c.session.side c.session.config.now (id_text c.session.config.now.id) (state_at c.session (reading_spot c) c.reader.count) events (state_at s' (record { sealing = opening_of c.opening; number = r.number }) r.count)
 
 pushed : (c : Connection) (events : List Event) (s' : Session) (bytes : List ℕ) (r' : Reader) → Pushes c.reader bytes r' → steps_to c events s' c.reader → steps_to c events s' r'
 pushed c events s' bytes r' p h = subst (λ (r : Reader). steps_to c events s' r) (sym p.becomes) h
@@ -68,8 +68,8 @@ hears_none c s' piece r' w h p = record {
   events = [];
   side = ap (λ (x : Session). x.side) h.2;
   config = ap (λ (x : Session). x.config) h.2;
-  steps = pushed c [] s' [] r' p (ap (λ (x : Session). state_at x (reading_of c) c.reader.count) h.2
-      ∙ ap (λ (x : Option (List ℕ)). record (state_at c.session (reading_of c) c.reader.count) { heard = x }) (unheard_yet (lets_pass c.session.side) c.session.line piece s'.line h.0 ∙ sym (none_unheard (lets_pass c.session.side) c.session.line piece s'.line h.0)));
+  steps = pushed c [] s' [] r' p (ap (λ (x : Session). state_at x (reading_spot c) c.reader.count) h.2
+      ∙ ap (λ (x : Option (List ℕ)). record (state_at c.session (reading_spot c) c.reader.count) { heard = x }) (unheard_yet (lets_pass c.session.side) c.session.line piece s'.line h.0 ∙ sym (none_unheard (lets_pass c.session.side) c.session.line piece s'.line h.0)));
   output = ap (λ (x : Session). x.writer.output) h.2 ∙ sym (append-nil c.session.writer.output);
   unread = refl;
   bytes = λ at. refl;
@@ -146,9 +146,9 @@ hears_first c s' used piece r' bytes others live w h p e = record {
   side = ap (λ (x : Session). x.side) b.becomes;
   config = ap (λ (x : Session). x.config) b.becomes;
   steps = pushed c (IdHeard f.text ∷ ExchangeBegun Start b.item ∷ []) s' (drop used piece) r' p (
-    state_at s1 (reading_of c) c.reader.count,
-    record { unheard = ap heard_of e; silent = silent; becomes = ap (λ (x : Option (List ℕ)). record (state_at c.session (reading_of c) c.reader.count) { heard = x }) (ap heard_of f.new_is) },
-    (state_at s' (reading_of c) c.reader.count, begins_exchange s1 s' c.reader.count (reading_of c) Start b refl (silent, subst (λ (x : Option (List ℕ)). IsSome x) (sym (ap heard_of f.new_is)) refl), refl),
+    state_at s1 (reading_spot c) c.reader.count,
+    record { unheard = ap heard_of e; silent = silent; becomes = ap (λ (x : Option (List ℕ)). record (state_at c.session (reading_spot c) c.reader.count) { heard = x }) (ap heard_of f.new_is) },
+    (state_at s' (reading_spot c) c.reader.count, begins_exchange s1 s' c.reader.count (reading_spot c) Start b refl (silent, subst (λ (x : Option (List ℕ)). IsSome x) (sym (ap heard_of f.new_is)) refl), refl),
   );
   output = ap (λ (w : Writer). w.output) b.sends.written ∙ ap (λ (t : List ℕ). c.session.writer.output ++ t) (sym (append-nil (sealed_packet c.session.writer.sealing c.session.writer.number b.item)));
   unread = refl;
@@ -188,7 +188,7 @@ hears_later c s' used piece r' text live h p e = record {
   events = [];
   side = ap (λ (x : Session). x.side) same;
   config = ap (λ (x : Session). x.config) same;
-  steps = pushed c [] s' (drop used piece) r' p (ap (λ (x : Session). state_at x (reading_of c) c.reader.count) same ∙ ap (λ (x : IdReading). record (state_at c.session (reading_of c) c.reader.count) { heard = heard_of x }) (fed.1 ∙ sym e));
+  steps = pushed c [] s' (drop used piece) r' p (ap (λ (x : Session). state_at x (reading_spot c) c.reader.count) same ∙ ap (λ (x : IdReading). record (state_at c.session (reading_spot c) c.reader.count) { heard = heard_of x }) (fed.1 ∙ sym e));
   output = ap (λ (x : Session). x.writer.output) same ∙ sym (append-nil c.session.writer.output);
   unread = refl;
   bytes = λ at. refl;
@@ -203,7 +203,7 @@ hears_later c s' used piece r' text live h p e = record {
   none = let f : Ok (progress.Id used) ≡ Ok (progress.Id 0) = fed.0 in cc
 
   begun : is_silent (stands_of c.session.finished.items c.session.kex) ≡ false
-  begun = begun_by (stands_of c.session.finished.items c.session.kex) (λ k. let n : None ≡ Some text = sym ((live.settled (reading_of c)).silent k) ∙ ap heard_of e in cc)
+  begun = begun_by (stands_of c.session.finished.items c.session.kex) (λ k. let n : None ≡ Some text = sym ((live.settled (reading_spot c)).silent k) ∙ ap heard_of e in cc)
 
   same : s' ≡ record c.session { line = s'.line }
   same = begins_not (is_silent (stands_of c.session.finished.items c.session.kex)) (record c.session { line = s'.line }) s' begun h.2

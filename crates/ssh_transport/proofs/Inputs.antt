@@ -22,7 +22,7 @@ use Rattle.ssh_rules.proofs.Lemmas.{delivered_more, handled_more, kept_line, rea
 use Rattle.ssh_transport.specs.Handling.{IsHeard}
 use Rattle.ssh_transport.specs.Kept.{IsKept, IsLive}
 use Rattle.ssh_transport.specs.Saying.{nothing_said}
-use Rattle.ssh_transport.specs.States.{CanBegin, WaitsBehind, bare_of, emptied, heard_of, reading_of, standing_of, state_at}
+use Rattle.ssh_transport.specs.States.{CanBegin, WaitsBehind, bare_of, emptied, heard_of, reading_spot, standing_of, state_at}
 use Rattle.ssh_transport.specs.Taking.{Goes, Hears, Lends, LendsBehind, PollsOne, Reads, Takes, TakesPayload, lent_by, read_by}
 use Rattle.ssh_transport.specs.declared.connection.Connection.{Connection}
 use Rattle.ssh_transport.proofs.Answering.{spot_of}
@@ -114,34 +114,34 @@ line_more side Failed waiting piece a b new behind n i h = absurd h
 record Went (says : Says) (c : Connection) (piece : List ℕ) (events : List Event) (c' : Connection) : Type 0 where
   pub side : c'.session.side ≡ c.session.side
   pub config : c'.session.config ≡ c.session.config
-  pub steps : Steps says c.session.side c.session.config.now (id_text c.session.config.now.id) (state_at c.session (reading_of c) c.reader.count) events (state_at c'.session (reading_of c') c'.reader.count)
+  pub steps : Steps says c.session.side c.session.config.now (id_text c.session.config.now.id) (state_at c.session (reading_spot c) c.reader.count) events (state_at c'.session (reading_spot c') c'.reader.count)
   pub output : c'.session.writer.output ≡ c.session.writer.output ++ sent_bytes c.session.side (spot_of c.session.writer) events
   pub input : IsInput events
   pub behind : List ℕ
   pub line : ReadsLineFrom c.session.side c.session.line c.reader.waiting piece events c'.session.line behind
-  pub read : behind ≡ read_bytes c.session.side (reading_of c) events ++ c'.reader.waiting
+  pub read : behind ≡ read_bytes c.session.side (reading_spot c) events ++ c'.reader.waiting
 
 went : (says : Says) (c mid c' : Connection) (piece : List ℕ) (es : List Event) (h : Hears c piece mid) → Goes says mid es c' → IsHeard mid.session.line ⊎ (es ≡ []) → Went says c piece (h.events ++ es) c'
 went says c mid c' piece es h k heard = record {
   side = k.side ∙ h.side;
   config = k.config ∙ h.config;
-  steps = steps_join says c.session.side c.session.config.now (id_text c.session.config.now.id) h.events es (state_at c.session (reading_of c) c.reader.count) (state_at mid.session (reading_of mid) mid.reader.count) (state_at c'.session (reading_of c') c'.reader.count) first moved;
+  steps = steps_join says c.session.side c.session.config.now (id_text c.session.config.now.id) h.events es (state_at c.session (reading_spot c) c.reader.count) (state_at mid.session (reading_spot mid) mid.reader.count) (state_at c'.session (reading_spot c') c'.reader.count) first moved;
   output = k.output ∙ ap (λ (b : List ℕ). b ++ sent_bytes mid.session.side (spot_of mid.session.writer) es) h.output ∙ append_assoc c.session.writer.output (sent_bytes c.session.side (spot_of c.session.writer) h.events) (sent_bytes mid.session.side (spot_of mid.session.writer) es)
       ∙ ap (λ (x : Side). c.session.writer.output ++ (sent_bytes c.session.side (spot_of c.session.writer) h.events ++ sent_bytes x (spot_of mid.session.writer) es)) h.side
-      ∙ ap (λ (b : List ℕ). c.session.writer.output ++ b) (sym (sent_join says c.session.side c.session.config.now (id_text c.session.config.now.id) h.events es (state_at c.session (reading_of c) c.reader.count) (state_at mid.session (reading_of mid) mid.reader.count) first));
+      ∙ ap (λ (b : List ℕ). c.session.writer.output ++ b) (sym (sent_join says c.session.side c.session.config.now (id_text c.session.config.now.id) h.events es (state_at c.session (reading_spot c) c.reader.count) (state_at mid.session (reading_spot mid) mid.reader.count) first));
   input = input_more h.events es h.input k.input;
   behind = mid.reader.waiting;
   line = subst (λ (x : IdReading). ReadsLineFrom c.session.side c.session.line c.reader.waiting piece (h.events ++ es) x mid.reader.waiting) (sym k.line) (line_more c.session.side c.session.line c.reader.waiting piece h.events es mid.session.line mid.reader.waiting k.silent heard h.line);
-  read = k.bytes ∙ ap (λ (x : Side). read_bytes x (reading_of mid) es ++ c'.reader.waiting) h.side
-      ∙ ap (λ (b : List ℕ). b ++ c'.reader.waiting) (sym (read_join says c.session.side c.session.config.now (id_text c.session.config.now.id) h.events es (state_at c.session (reading_of c) c.reader.count) (state_at mid.session (reading_of mid) mid.reader.count) first
-      ∙ ap (λ (b : List ℕ). b ++ read_bytes c.session.side (reading_of mid) es) (h.bytes (reading_of c))));
+  read = k.bytes ∙ ap (λ (x : Side). read_bytes x (reading_spot mid) es ++ c'.reader.waiting) h.side
+      ∙ ap (λ (b : List ℕ). b ++ c'.reader.waiting) (sym (read_join says c.session.side c.session.config.now (id_text c.session.config.now.id) h.events es (state_at c.session (reading_spot c) c.reader.count) (state_at mid.session (reading_spot mid) mid.reader.count) first
+      ∙ ap (λ (b : List ℕ). b ++ read_bytes c.session.side (reading_spot mid) es) (h.bytes (reading_spot c))));
 } where
-  first : Steps says c.session.side c.session.config.now (id_text c.session.config.now.id) (state_at c.session (reading_of c) c.reader.count) h.events (state_at mid.session (reading_of mid) mid.reader.count)
-  first = unread_steps nothing_said says c.session.side c.session.config.now (id_text c.session.config.now.id) h.events (state_at c.session (reading_of c) c.reader.count) (state_at mid.session (reading_of mid) mid.reader.count) h.unread h.steps
+  first : Steps says c.session.side c.session.config.now (id_text c.session.config.now.id) (state_at c.session (reading_spot c) c.reader.count) h.events (state_at mid.session (reading_spot mid) mid.reader.count)
+  first = unread_steps nothing_said says c.session.side c.session.config.now (id_text c.session.config.now.id) h.events (state_at c.session (reading_spot c) c.reader.count) (state_at mid.session (reading_spot mid) mid.reader.count) h.unread h.steps
 
-  moved : Steps says c.session.side c.session.config.now (id_text c.session.config.now.id) (state_at mid.session (reading_of mid) mid.reader.count) es (state_at c'.session (reading_of c') c'.reader.count)
-  moved = subst (λ (x : Side). Steps says x c.session.config.now (id_text c.session.config.now.id) (state_at mid.session (reading_of mid) mid.reader.count) es (state_at c'.session (reading_of c') c'.reader.count)) h.side
-      (subst (λ (b : Bor Config). Steps says mid.session.side b.now (id_text b.now.id) (state_at mid.session (reading_of mid) mid.reader.count) es (state_at c'.session (reading_of c') c'.reader.count)) h.config k.steps)
+  moved : Steps says c.session.side c.session.config.now (id_text c.session.config.now.id) (state_at mid.session (reading_spot mid) mid.reader.count) es (state_at c'.session (reading_spot c') c'.reader.count)
+  moved = subst (λ (x : Side). Steps says x c.session.config.now (id_text c.session.config.now.id) (state_at mid.session (reading_spot mid) mid.reader.count) es (state_at c'.session (reading_spot c') c'.reader.count)) h.side
+      (subst (λ (b : Bor Config). Steps says mid.session.side b.now (id_text b.now.id) (state_at mid.session (reading_spot mid) mid.reader.count) es (state_at c'.session (reading_spot c') c'.reader.count)) h.config k.steps)
 
 takes_input : (says : Says) (c c' : Connection) (piece : List ℕ) → c'.failed ≡ false → IsLive c' → Takes says c piece c' → TakesInput says (bare_of c) piece (bare_of c')
 takes_input says c c' piece f live t = record {
@@ -152,7 +152,7 @@ takes_input says c c' piece f live t = record {
     steps = w.steps;
     output = w.output;
     delivered = t.reads.delivered ∙ ap (λ (b : List (List ℕ)). b ++ delivered_in t.reads.events) t.heard.delivered ∙ append_assoc c.delivered.items (delivered_in t.heard.events) (delivered_in t.reads.events) ∙ ap (λ (b : List (List ℕ)). c.delivered.items ++ b) (sym (delivered_more t.heard.events t.reads.events));
-    quiet = live.settled (reading_of c');
+    quiet = live.settled (reading_spot c');
     live = f;
   };
   input = w.input;
@@ -160,18 +160,18 @@ takes_input says c c' piece f live t = record {
   line = w.line;
   read = w.read;
   part = t.part;
-  small = left_short c'.session.line (reading_of c') c'.reader.waiting live.short t.part;
+  small = left_short c'.session.line (reading_spot c') c'.reader.waiting live.short t.part;
 } where
   w : Went says c piece (t.heard.events ++ t.reads.events) c'
   w = went says c t.mid c' piece t.reads.events t.heard (goes_of says t.mid c' t.reads) t.line
 
 -- a piece that ends before the line does
-pub takes_none : (says : Says) (c c' : Connection) (piece : List ℕ) → Hears c piece c' → WaitsInPart (reading_of c') c'.reader.waiting → Takes says c piece c'
+pub takes_none : (says : Says) (c c' : Connection) (piece : List ℕ) → Hears c piece c' → WaitsInPart (reading_spot c') c'.reader.waiting → Takes says c piece c'
 unfolding reads_none
 takes_none says c c' piece h p = record { mid = c'; heard = h; reads = reads_none says c'; line = inr refl; part = p }
 
 -- a piece behind whose line packets are read
-pub takes_read : (says : Config → Says) (c mid c' : Connection) (piece : List ℕ) (answer : Result (Unit {0}) Error) → Hears c piece mid → IsHeard mid.session.line → OnOk answer (Reads (says mid.session.config.now) mid c') → OnOk answer (WaitsInPart (reading_of c') c'.reader.waiting) → OnOk answer (Takes (says c.session.config.now) c piece c')
+pub takes_read : (says : Config → Says) (c mid c' : Connection) (piece : List ℕ) (answer : Result (Unit {0}) Error) → Hears c piece mid → IsHeard mid.session.line → OnOk answer (Reads (says mid.session.config.now) mid c') → OnOk answer (WaitsInPart (reading_spot c') c'.reader.waiting) → OnOk answer (Takes (says c.session.config.now) c piece c')
 takes_read says c mid c' piece (Ok u) h i k p = record { mid = mid; heard = h; reads = subst (λ (b : Bor Config). Reads (says b.now) mid c') h.config k; line = inl i; part = p }
 takes_read says c mid c' piece (Err e) h i k p = tt
 
@@ -195,7 +195,7 @@ lends_input says c c' payload f live t = record {
     steps = w.steps;
     output = w.output;
     delivered = ap (λ (b : List (List ℕ)). b ++ payload ∷ []) same ∙ ap (λ (b : List (List ℕ)). c.delivered.items ++ b) (sym lent);
-    quiet = live.settled (reading_of c');
+    quiet = live.settled (reading_spot c');
     live = f;
   };
   input = w.input;
@@ -244,16 +244,16 @@ takes_polled says c mid c' (Ok lends) h i d k = takes_payload says c mid c' lend
 takes_polled says c mid c' (Err e) h i d k = tt
 
 pub takes_nothing : (says : Says) (c c' : Connection) → Hears (emptied c) c.reader.waiting c' → c'.reader.waiting ≡ [] → c'.delivered ≡ c.delivered → TakesPayload says c false c'
-takes_nothing says c c' h n d = (takes_none says (emptied c) c' c.reader.waiting h (part_nothing (reading_of c') c'.reader.waiting n), d)
+takes_nothing says c c' h n d = (takes_none says (emptied c) c' c.reader.waiting h (part_nothing (reading_spot c') c'.reader.waiting n), d)
 
 -- behind the line what waits is part of a packet
-pub kept_all : (says : Says) (mid c' : Connection) (answer : Result (Unit {0}) Error) → IsHeard mid.session.line → CanBegin c'.session → OnOk answer (IsLive c') → OnOk answer (Reads says mid c') → OnOk answer (WaitsInPart (reading_of c') c'.reader.waiting) → OnOk answer (IsKept c')
+pub kept_all : (says : Says) (mid c' : Connection) (answer : Result (Unit {0}) Error) → IsHeard mid.session.line → CanBegin c'.session → OnOk answer (IsLive c') → OnOk answer (Reads says mid c') → OnOk answer (WaitsInPart (reading_spot c') c'.reader.waiting) → OnOk answer (IsKept c')
 kept_all says mid c' (Ok u) i b live h part = record {
   begins = b;
   heeds = live.heeds;
   within = (
       let none : waiting_length c'.session.line ≡ 0 = ap waiting_length (h.line ∙ i.1) in
-      let few = part_short (reading_of c') c'.reader.waiting part in
+      let few = part_short (reading_spot c') c'.reader.waiting part in
       omega (arith, none, few)
       );
   live = λ f. live;

@@ -10,7 +10,7 @@ use Rattle.ssh_packet.specs.Stream.{message_type}
 use Rattle.ssh_packet.specs.Writing.{Writer, with_item}
 use Rattle.ssh_packet.specs.declared.reader.Incoming.{Incoming}
 use Rattle.ssh_kex.specs.Setting.{Says, Setting}
-use Rattle.ssh_kex.specs.Stages.{Created, Machine, Stage, names_of}
+use Rattle.ssh_kex.specs.Stages.{Created, Machine, Stage, names_in_stage}
 use Rattle.ssh_kex.specs.Stepping.{DropsGuess, TakesOne}
 use Rattle.ssh_kex.specs.declared.config.Config.{Config}
 use Rattle.ssh_kex.specs.declared.exchange.FinishedExchange.{FinishedExchange}
@@ -50,7 +50,7 @@ own_taken s m o = record { setting_is = o.setting_is; flagged = o.flagged }
 handles_inside : (says : Says) (s s' : Session) (m : Machine) (inc : Incoming) (type : ℕ) (answer : Handled) → config_fault s.side s.config.now ≡ None → IsOwn s m → type ≡ message_type inc.payload.now → is_kex type ≡ true → Passes s inc.seqn type → s.kex ≡ InProgress m → Moves says (record s { kex = Taken }) m inc answer s' → Handles says s inc.seqn inc.payload.now answer s'
 handles_inside says s s' m inc type answer valid o t k passes e h at read i r q =
     let same : type_of i ≡ type = sym (t ∙ ap message_type r.payload_is) in
-    let ordered : OrderBy s.side at.number i s.finished.items (names_of m.stage) = subst (λ (x : SessionKexState Machine). OrderBy s.side at.number i s.finished.items (names_now (stands_of s.finished.items x))) e (passes at.number i r.small r.seqn_is same) in
+    let ordered : OrderBy s.side at.number i s.finished.items (names_in_stage m.stage) = subst (λ (x : SessionKexState Machine). OrderBy s.side at.number i s.finished.items (names_now (stands_of s.finished.items x))) e (passes at.number i r.small r.seqn_is same) in
     let p = did_move says (record s { kex = Taken }) s' m inc at read i false answer valid tt (kex_type type inc.payload.now i t r.payload_is k) (own_taken s m o) r ordered h in
     let d = p.0 in
     record {
@@ -68,8 +68,8 @@ handles_inside says s s' m inc type answer valid o t k passes e h at read i r q 
 
 handles_begun : (says : Says) (s s' : Session) (w : Writer) (item : Item) (m : Machine) (inc : Incoming) (type : ℕ) (answer : Handled) → config_fault s.side s.config.now ≡ None → stands_of s.finished.items s.kex ≡ Outside → SendsKexinit s.side s.config.now s.writer item w → m.setting ≡ setting_of s → m.stage ≡ Created item.payload → type ≡ message_type inc.payload.now → is_kex type ≡ true → Moves says (record s { writer = w }) m inc answer s' → Handles says s inc.seqn inc.payload.now answer s'
 handles_begun says s s' w item m inc type answer valid outside sends setting_is stage_is t k h at read i r q =
-    let o : IsOwn (record s { writer = w }) m = record { setting_is = setting_is; flagged = subst (λ (x : Stage). IsFlagged m.setting (names_of x)) (sym stage_is) tt } in
-    let ordered : OrderBy s.side at.number i s.finished.items (names_of m.stage) = order_none s.side at.number i s.finished.items (names_of m.stage) (ap names_of stage_is) in
+    let o : IsOwn (record s { writer = w }) m = record { setting_is = setting_is; flagged = subst (λ (x : Stage). IsFlagged m.setting (names_in_stage x)) (sym stage_is) tt } in
+    let ordered : OrderBy s.side at.number i s.finished.items (names_in_stage m.stage) = order_none s.side at.number i s.finished.items (names_in_stage m.stage) (ap names_in_stage stage_is) in
     let p = did_move says (record s { writer = w }) s' m inc at read i true answer valid (item.payload, stage_is) (kex_type type inc.payload.now i t r.payload_is k) o r ordered h in
     let d = p.0 in
     let begins : BeginsExchange s.side s.config.now (state_at s at read) Answering item (inside (record s { writer = w }) m true at read) = record {
@@ -104,7 +104,7 @@ next_own : (says : Says) (s : Session) (m : Machine) (inc : Incoming) (next : Ma
 next_own says s m inc next reset w written o (inl d) = subst (λ (x : Machine). IsOwn s x) (sym d.kex_is) (record { setting_is = o.setting_is; flagged = dropped_flagged m.setting m.stage o.flagged })
 next_own says s m inc next reset w written o (inr t) = record {
   setting_is = t.setting_is ∙ o.setting_is;
-  flagged = subst (λ (x : Setting). IsFlagged x (names_of next.stage)) (sym t.setting_is) (taken_flagged says m.setting m.stage next.stage inc.seqn inc.payload.now t.written t.takes o.flagged);
+  flagged = subst (λ (x : Setting). IsFlagged x (names_in_stage next.stage)) (sym t.setting_is) (taken_flagged says m.setting m.stage next.stage inc.seqn inc.payload.now t.written t.takes o.flagged);
 }
 
 open_move : (says : Says) (s s' : Session) (m : Machine) (inc : Incoming) (answer : Handled) → IsOwn s m → IsHeard s.line → Moves says s m inc answer s' → IsOpen s'
@@ -113,11 +113,11 @@ open_move says s s' m inc Done o l h = subst IsOpen (sym h.becomes) (record { ma
 open_move says s s' m inc (Rekeys opening again) o l h = subst IsOpen (sym h.installs.3) (record { machine = tt; heard = λ b. l })
 
 pub open_moved : (says : Says) (s s1 s' : Session) (m : Machine) (inc : Incoming) (answer : Handled) → IsOpen s → IsBegun s → IsFor s m s1 → Moves says s1 m inc answer s' → IsOpen s'
-open_moved says s s1 s' m inc answer o b (inl f) h = open_move says (record s { writer = s1.writer }) s' m inc answer (record { setting_is = (f.0).setting_is; flagged = subst (λ (x : Stage). IsFlagged m.setting (names_of x)) (sym (f.0).stage_is) tt }) (o.heard b) (subst (λ (x : Session). Moves says x m inc answer s') (f.0).becomes h)
+open_moved says s s1 s' m inc answer o b (inl f) h = open_move says (record s { writer = s1.writer }) s' m inc answer (record { setting_is = (f.0).setting_is; flagged = subst (λ (x : Stage). IsFlagged m.setting (names_in_stage x)) (sym (f.0).stage_is) tt }) (o.heard b) (subst (λ (x : Session). Moves says x m inc answer s') (f.0).becomes h)
 open_moved says s s1 s' m inc answer o b (inr f) h = open_move says (record s { kex = Taken }) s' m inc answer (own_taken s m (own_of s m f.0 o)) (o.heard b) (subst (λ (x : Session). Moves says x m inc answer s') f.1 h)
 
 pub for_config : (s s1 : Session) (m : Machine) → IsOpen s → IsFor s m s1 → m.setting.config ≡ s.config.now
-for_config s s1 m o (inl f) = own_config s m (record { setting_is = (f.0).setting_is; flagged = subst (λ (x : Stage). IsFlagged m.setting (names_of x)) (sym (f.0).stage_is) tt })
+for_config s s1 m o (inl f) = own_config s m (record { setting_is = (f.0).setting_is; flagged = subst (λ (x : Stage). IsFlagged m.setting (names_in_stage x)) (sym (f.0).stage_is) tt })
 for_config s s1 m o (inr f) = own_config s m (own_of s m f.0 o)
 
 pub if_ok : {T : Type 0} (answer : Result T Error) (P Q : T → Type 0) → ((x : T) → P x → Q x) → IfOk answer P → IfOk answer Q

@@ -6,7 +6,7 @@ use Rattle.ssh_wire.specs.declared.read_id.IdProgress.{IdProgress}
 use Rattle.ssh_wire.specs.declared.read_id.IdProgress.TheVariants as progress
 use Rattle.ssh_wire.specs.declared.side.Side.{Side}
 use Rattle.ssh_kex.specs.Setting.{Setting}
-use Rattle.ssh_kex.specs.Stages.{Machine, Stage, names_of}
+use Rattle.ssh_kex.specs.Stages.{Machine, Stage, names_in_stage}
 use Rattle.ssh_kex.specs.declared.config.Config.{Config}
 use Rattle.ssh_kex.specs.declared.exchange.FinishedExchange.{FinishedExchange}
 use Rattle.ssh_kex.specs.declared.session_state.SessionKexState.{SessionKexState}
@@ -40,7 +40,7 @@ open_fresh side config s f = fresh_by s s.kex s.finished.items refl refl f.kex_i
 
 pub open_begun : (s s' : Session) → IsHeard s.line → Begins s s' → IsOpen s'
 open_begun s s' h b = subst IsOpen (sym b.becomes) (record {
-  machine = record { setting_is = b.setting_is; flagged = subst (λ (x : Stage). IsFlagged b.machine.setting (names_of x)) (sym b.stage_is) tt };
+  machine = record { setting_is = b.setting_is; flagged = subst (λ (x : Stage). IsFlagged b.machine.setting (names_in_stage x)) (sym b.stage_is) tt };
   heard = λ n. h;
 })
 

@@ -15,7 +15,7 @@ use Rattle.ssh_rules.specs.Machine.{Asked, ExchangeBegun, Outside, PayloadSent, 
 use Rattle.ssh_rules.specs.Standing.{BeginsAsked, Rekeyed, RekeyedFrom, Standing, Submitted, is_outside, line_with, waiting_with}
 use Rattle.ssh_rules.specs.Valid.{is_good_payload}
 use Rattle.ssh_transport.specs.Saying.{AreGood, Begins, GoesOn, IsSettled, nothing_said}
-use Rattle.ssh_transport.specs.States.{CanBegin, heard_of, reading_of, standing_of, stands_of, state_at}
+use Rattle.ssh_transport.specs.States.{CanBegin, heard_of, reading_spot, standing_of, stands_of, state_at}
 use Rattle.ssh_transport.specs.Submitting.{Breaks, Submits}
 use Rattle.ssh_transport.specs.declared.connection.Connection.{Connection}
 use Rattle.ssh_transport.specs.declared.session.Session.{Session}
@@ -101,10 +101,10 @@ submitted c c' p f e h = record {
   acts = record {
     side = h.side;
     config = ap (λ (x : Bor Config). x.now) h.config;
-    steps = subst (λ (x : Connection). Rattle.ssh_rules.specs.Machine.Steps nothing_said c.session.side c.session.config.now (Rattle.ssh_wire.specs.Lines.id_text c.session.config.now.id) (state_at c.session (reading_of c) c.reader.count) (PayloadSubmitted p ∷ h.rest) (state_at c'.session (reading_of x) x.reader.count)) (sym e) (h.steps (reading_of c));
+    steps = subst (λ (x : Connection). Rattle.ssh_rules.specs.Machine.Steps nothing_said c.session.side c.session.config.now (Rattle.ssh_wire.specs.Lines.id_text c.session.config.now.id) (state_at c.session (reading_spot c) c.reader.count) (PayloadSubmitted p ∷ h.rest) (state_at c'.session (reading_spot x) x.reader.count)) (sym e) (h.steps (reading_spot c));
     output = h.output;
     delivered = ap (λ (x : Connection). x.delivered.items) e ∙ sym (ap (λ (t : List (List ℕ)). c.delivered.items ++ t) (log.delivered_none) ∙ append-nil c.delivered.items);
-    quiet = subst (λ (x : Connection). Rattle.ssh_rules.specs.Machine.IsQuiet c'.session.config.now (state_at c'.session (reading_of c') x.reader.count)) (sym e) (h.settled (reading_of c'));
+    quiet = subst (λ (x : Connection). Rattle.ssh_rules.specs.Machine.IsQuiet c'.session.config.now (state_at c'.session (reading_spot c') x.reader.count)) (sym e) (h.settled (reading_spot c'));
     live = ap (λ (x : Connection). x.failed) e ∙ f;
   };
   one = ap (λ (t : List (List ℕ)). p ∷ t) log.submitted_none;
@@ -145,17 +145,17 @@ begun_asked c c' f o e b = record {
   acts = record {
     side = ap (λ (x : Session). x.side) b.becomes;
     config = ap (λ (x : Session). x.config.now) b.becomes;
-    steps = (state_at c'.session (reading_of c') c'.reader.count, moved, refl);
+    steps = (state_at c'.session (reading_spot c') c'.reader.count, moved, refl);
     output = ap (λ (w : Writer). w.output) b.sends.written ∙ ap (λ (t : List ℕ). c.session.writer.output ++ t) (sym (append-nil (sealed_packet c.session.writer.sealing c.session.writer.number b.item)));
     delivered = ap (λ (x : Connection). x.delivered.items) e ∙ sym (append-nil c.delivered.items);
-    quiet = settled_inside c'.session c'.reader.count inside (λ k. absurd (let z : is_outside (stands_of c'.session.finished.items c'.session.kex) ≡ false = inside in not_silent k)) (reading_of c');
+    quiet = settled_inside c'.session c'.reader.count inside (λ k. absurd (let z : is_outside (stands_of c'.session.finished.items c'.session.kex) ≡ false = inside in not_silent k)) (reading_spot c');
     live = ap (λ (x : Connection). x.failed) e ∙ f;
   };
   line = line_same c c' e (ap (λ (x : Session). x.line) b.becomes);
   waiting = waiting_same c c' e (ap (λ (x : Session). x.line) b.becomes);
 } where
-  moved : Rattle.ssh_rules.specs.Machine.BeginsExchange c.session.side c.session.config.now (state_at c.session (reading_of c) c.reader.count) Asked b.item (state_at c'.session (reading_of c') c'.reader.count)
-  moved = subst (λ (x : Connection). Rattle.ssh_rules.specs.Machine.BeginsExchange c.session.side c.session.config.now (state_at c.session (reading_of c) c.reader.count) Asked b.item (state_at c'.session (reading_of x) x.reader.count)) (sym e) (begins_exchange c.session c'.session c.reader.count (reading_of c) Asked b refl o)
+  moved : Rattle.ssh_rules.specs.Machine.BeginsExchange c.session.side c.session.config.now (state_at c.session (reading_spot c) c.reader.count) Asked b.item (state_at c'.session (reading_spot c') c'.reader.count)
+  moved = subst (λ (x : Connection). Rattle.ssh_rules.specs.Machine.BeginsExchange c.session.side c.session.config.now (state_at c.session (reading_spot c) c.reader.count) Asked b.item (state_at c'.session (reading_spot x) x.reader.count)) (sym e) (begins_exchange c.session c'.session c.reader.count (reading_spot c) Asked b refl o)
 
   stands_is : stands_of c'.session.finished.items c'.session.kex ≡ Rattle.ssh_rules.specs.Machine.Inside b.machine.stage
   stands_is = ap (λ (x : Session). stands_of x.finished.items x.kex) b.becomes

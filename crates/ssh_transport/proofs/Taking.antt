@@ -20,7 +20,7 @@ use Rattle.ssh_rules.proofs.Lemmas.{asked_more, causes_more, delivered_more, han
 use Rattle.ssh_transport.specs.Handling.{DoesWith, Handles, IsReadAt, delivered_by, read_behind, spot_behind}
 use Rattle.ssh_transport.specs.Kept.{IsLive}
 use Rattle.ssh_transport.specs.Saying.{GoesOn, IsFixed, OnlyWrites, Writes, nothing_said}
-use Rattle.ssh_transport.specs.States.{reading_of, state_at, with_more}
+use Rattle.ssh_transport.specs.States.{reading_spot, state_at, with_more}
 use Rattle.ssh_transport.specs.Taking.{Goes, HandlesOne, IfPacket, Lends, PollsOne, Reads, TakesUp, Took, count_up, kept_by, read_as, spot_up}
 use Rattle.ssh_transport.specs.declared.connection.Connection.{Connection}
 use Rattle.ssh_transport.specs.declared.connection.PacketRead.{PacketRead}
@@ -94,19 +94,19 @@ goes_join says c mid c' a b h k = record {
   side = k.side ∙ h.side;
   config = k.config ∙ h.config;
   line = k.line ∙ h.line;
-  steps = steps_join says c.session.side c.session.config.now (id_text c.session.config.now.id) a b (state_at c.session (reading_of c) c.reader.count) (state_at mid.session (reading_of mid) mid.reader.count) (state_at c'.session (reading_of c') c'.reader.count) h.steps moved;
+  steps = steps_join says c.session.side c.session.config.now (id_text c.session.config.now.id) a b (state_at c.session (reading_spot c) c.reader.count) (state_at mid.session (reading_spot mid) mid.reader.count) (state_at c'.session (reading_spot c') c'.reader.count) h.steps moved;
   output = k.output ∙ ap (λ (t : List ℕ). t ++ sent_bytes mid.session.side (spot_of mid.session.writer) b) h.output ∙ append_assoc c.session.writer.output (sent_bytes c.session.side (spot_of c.session.writer) a) (sent_bytes mid.session.side (spot_of mid.session.writer) b)
       ∙ ap (λ (x : Side). c.session.writer.output ++ (sent_bytes c.session.side (spot_of c.session.writer) a ++ sent_bytes x (spot_of mid.session.writer) b)) h.side
-      ∙ ap (λ (t : List ℕ). c.session.writer.output ++ t) (sym (sent_join says c.session.side c.session.config.now (id_text c.session.config.now.id) a b (state_at c.session (reading_of c) c.reader.count) (state_at mid.session (reading_of mid) mid.reader.count) h.steps));
-  bytes = h.bytes ∙ ap (λ (t : List ℕ). read_bytes c.session.side (reading_of c) a ++ t) (k.bytes ∙ ap (λ (x : Side). read_bytes x (reading_of mid) b ++ c'.reader.waiting) h.side)
-      ∙ sym (append_assoc (read_bytes c.session.side (reading_of c) a) (read_bytes c.session.side (reading_of mid) b) c'.reader.waiting)
-      ∙ ap (λ (t : List ℕ). t ++ c'.reader.waiting) (sym (read_join says c.session.side c.session.config.now (id_text c.session.config.now.id) a b (state_at c.session (reading_of c) c.reader.count) (state_at mid.session (reading_of mid) mid.reader.count) h.steps));
+      ∙ ap (λ (t : List ℕ). c.session.writer.output ++ t) (sym (sent_join says c.session.side c.session.config.now (id_text c.session.config.now.id) a b (state_at c.session (reading_spot c) c.reader.count) (state_at mid.session (reading_spot mid) mid.reader.count) h.steps));
+  bytes = h.bytes ∙ ap (λ (t : List ℕ). read_bytes c.session.side (reading_spot c) a ++ t) (k.bytes ∙ ap (λ (x : Side). read_bytes x (reading_spot mid) b ++ c'.reader.waiting) h.side)
+      ∙ sym (append_assoc (read_bytes c.session.side (reading_spot c) a) (read_bytes c.session.side (reading_spot mid) b) c'.reader.waiting)
+      ∙ ap (λ (t : List ℕ). t ++ c'.reader.waiting) (sym (read_join says c.session.side c.session.config.now (id_text c.session.config.now.id) a b (state_at c.session (reading_spot c) c.reader.count) (state_at mid.session (reading_spot mid) mid.reader.count) h.steps));
   input = input_more a b h.input k.input;
   silent = silent_more a b h.silent k.silent;
 } where
-  moved : Steps says c.session.side c.session.config.now (id_text c.session.config.now.id) (state_at mid.session (reading_of mid) mid.reader.count) b (state_at c'.session (reading_of c') c'.reader.count)
-  moved = subst (λ (x : Side). Steps says x c.session.config.now (id_text c.session.config.now.id) (state_at mid.session (reading_of mid) mid.reader.count) b (state_at c'.session (reading_of c') c'.reader.count)) h.side
-      (subst (λ (x : Bor Config). Steps says mid.session.side x.now (id_text x.now.id) (state_at mid.session (reading_of mid) mid.reader.count) b (state_at c'.session (reading_of c') c'.reader.count)) h.config k.steps)
+  moved : Steps says c.session.side c.session.config.now (id_text c.session.config.now.id) (state_at mid.session (reading_spot mid) mid.reader.count) b (state_at c'.session (reading_spot c') c'.reader.count)
+  moved = subst (λ (x : Side). Steps says x c.session.config.now (id_text c.session.config.now.id) (state_at mid.session (reading_spot mid) mid.reader.count) b (state_at c'.session (reading_spot c') c'.reader.count)) h.side
+      (subst (λ (x : Bor Config). Steps says mid.session.side x.now (id_text x.now.id) (state_at mid.session (reading_spot mid) mid.reader.count) b (state_at c'.session (reading_spot c') c'.reader.count)) h.config k.steps)
 
 pub reads_join : (says : Says) (c mid c' : Connection) → Reads says c mid → Reads says mid c' → Reads says c c'
 reads_join says c mid c' h k = reads_of says c c' (h.events ++ k.events) (goes_join says c mid c' h.events k.events (goes_of says c mid h) (goes_of says mid c' k))
@@ -114,43 +114,43 @@ reads_join says c mid c' h k = reads_of says c c' (h.events ++ k.events) (goes_j
 
 -- with more behind what waits
 pub goes_more : (says : Says) (c c' : Connection) (events : List Event) (more : List ℕ) → Goes says c events c' → Goes says (with_more c more) events (with_more c' more)
-goes_more says c c' events more h = record { side = h.side; config = h.config; line = h.line; steps = h.steps; output = h.output; bytes = ap (λ (t : List ℕ). t ++ more) h.bytes ∙ append_assoc (read_bytes c.session.side (reading_of c) events) c'.reader.waiting more; input = h.input; silent = h.silent }
+goes_more says c c' events more h = record { side = h.side; config = h.config; line = h.line; steps = h.steps; output = h.output; bytes = ap (λ (t : List ℕ). t ++ more) h.bytes ∙ append_assoc (read_bytes c.session.side (reading_spot c) events) c'.reader.waiting more; input = h.input; silent = h.silent }
 
 pub reads_more : (says : Says) (c c' : Connection) (more : List ℕ) → Reads says c c' → Reads says (with_more c more) (with_more c' more)
 reads_more says c c' more h = reads_of says (with_more c more) (with_more c' more) h.events (goes_more says c c' h.events more (goes_of says c c' h)) h.delivered
 
 -- nothing is behind it
 pub reads_plain : (says : Says) (c c' : Connection) (more : List ℕ) → more ≡ [] → Reads says c (with_more c' more) → Reads says c c'
-reads_plain says c c' more e h = record { events = h.events; side = h.side; config = h.config; line = h.line; steps = h.steps; output = h.output; bytes = h.bytes ∙ ap (λ (x : List ℕ). read_bytes c.session.side (reading_of c) h.events ++ (c'.reader.waiting ++ x)) e ∙ ap (λ (x : List ℕ). read_bytes c.session.side (reading_of c) h.events ++ x) (append-nil c'.reader.waiting); delivered = h.delivered; input = h.input; silent = h.silent }
+reads_plain says c c' more e h = record { events = h.events; side = h.side; config = h.config; line = h.line; steps = h.steps; output = h.output; bytes = h.bytes ∙ ap (λ (x : List ℕ). read_bytes c.session.side (reading_spot c) h.events ++ (c'.reader.waiting ++ x)) e ∙ ap (λ (x : List ℕ). read_bytes c.session.side (reading_spot c) h.events ++ x) (append-nil c'.reader.waiting); delivered = h.delivered; input = h.input; silent = h.silent }
 
 pub reads_weaker : (a b : Says) → Weaker a b → (c c' : Connection) → Reads a c c' → Reads b c c'
-reads_weaker a b w c c' h = record { events = h.events; side = h.side; config = h.config; line = h.line; steps = steps_weaker a b w c.session.side c.session.config.now (id_text c.session.config.now.id) h.events (state_at c.session (reading_of c) c.reader.count) (state_at c'.session (reading_of c') c'.reader.count) h.steps; output = h.output; bytes = h.bytes; delivered = h.delivered; input = h.input; silent = h.silent }
+reads_weaker a b w c c' h = record { events = h.events; side = h.side; config = h.config; line = h.line; steps = steps_weaker a b w c.session.side c.session.config.now (id_text c.session.config.now.id) h.events (state_at c.session (reading_spot c) c.reader.count) (state_at c'.session (reading_spot c') c'.reader.count) h.steps; output = h.output; bytes = h.bytes; delivered = h.delivered; input = h.input; silent = h.silent }
 
 -- ---- one packet
 
 -- a packet was read, and what it asks for by itself was done
 pub record Handed (c : Connection) (item : Item) (answer : Handled) (c' : Connection) : Type 0 where
-  pub reading : reading_of c' ≡ spot_behind answer (reading_of c) item
+  pub reading : reading_spot c' ≡ spot_behind answer (reading_spot c) item
   pub count : c'.reader.count ≡ read_behind answer c.reader.count item
   pub bytes : c.reader.waiting ≡ sealed_packet (opening_of c.opening) c.reader.number item ++ c'.reader.waiting
   pub delivered : c'.delivered.items ≡ c.delivered.items ++ delivered_by answer item
 
-pub goes_packet : (says : Says) (c c' : Connection) (seqn : ℕ) (payload : List ℕ) (item : Item) (answer : Handled) → IsFixed c.session c'.session → c'.session.line ≡ c.session.line → reading_of c' ≡ spot_behind answer (reading_of c) item → c'.reader.count ≡ read_behind answer c.reader.count item → c.reader.waiting ≡ sealed_packet (opening_of c.opening) c.reader.number item ++ c'.reader.waiting → (d : DoesWith says c.session (reading_of c) c.reader.count item answer c'.session) → Goes says c d.events c'
+pub goes_packet : (says : Says) (c c' : Connection) (seqn : ℕ) (payload : List ℕ) (item : Item) (answer : Handled) → IsFixed c.session c'.session → c'.session.line ≡ c.session.line → reading_spot c' ≡ spot_behind answer (reading_spot c) item → c'.reader.count ≡ read_behind answer c.reader.count item → c.reader.waiting ≡ sealed_packet (opening_of c.opening) c.reader.number item ++ c'.reader.waiting → (d : DoesWith says c.session (reading_spot c) c.reader.count item answer c'.session) → Goes says c d.events c'
 goes_packet says c c' seqn payload item answer fixed line reading count bytes d = record {
   side = fixed.0;
   config = fixed.1;
   line = line;
-  steps = subst (λ (n : ℕ). Steps says c.session.side c.session.config.now (id_text c.session.config.now.id) (state_at c.session (reading_of c) c.reader.count) d.events (state_at c'.session (reading_of c') n)) (sym count)
-      (subst (λ (x : Spot). Steps says c.session.side c.session.config.now (id_text c.session.config.now.id) (state_at c.session (reading_of c) c.reader.count) d.events (state_at c'.session x (read_behind answer c.reader.count item))) (sym reading) d.steps);
+  steps = subst (λ (n : ℕ). Steps says c.session.side c.session.config.now (id_text c.session.config.now.id) (state_at c.session (reading_spot c) c.reader.count) d.events (state_at c'.session (reading_spot c') n)) (sym count)
+      (subst (λ (x : Spot). Steps says c.session.side c.session.config.now (id_text c.session.config.now.id) (state_at c.session (reading_spot c) c.reader.count) d.events (state_at c'.session x (read_behind answer c.reader.count item))) (sym reading) d.steps);
   output = d.output;
   bytes = bytes ∙ ap (λ (t : List ℕ). t ++ c'.reader.waiting) (sym d.bytes);
   input = d.input;
   silent = d.silent;
 }
 
-pub reads_packet : (says : Says) (c c' : Connection) (seqn : ℕ) (payload : List ℕ) (item : Item) (answer : Handled) → IsLive c → IsReadAt (reading_of c) seqn payload item → Handles says c.session seqn payload answer c'.session → IsFixed c.session c'.session → c'.session.line ≡ c.session.line → Handed c item answer c' → Reads says c c'
+pub reads_packet : (says : Says) (c c' : Connection) (seqn : ℕ) (payload : List ℕ) (item : Item) (answer : Handled) → IsLive c → IsReadAt (reading_spot c) seqn payload item → Handles says c.session seqn payload answer c'.session → IsFixed c.session c'.session → c'.session.line ≡ c.session.line → Handed c item answer c' → Reads says c c'
 reads_packet says c c' seqn payload item answer live at h fixed line g =
-    let d : DoesWith says c.session (reading_of c) c.reader.count item answer c'.session = h (reading_of c) c.reader.count item at live.settled in
+    let d : DoesWith says c.session (reading_spot c) c.reader.count item answer c'.session = h (reading_spot c) c.reader.count item at live.settled in
     reads_of says c c' d.events (goes_packet says c c' seqn payload item answer fixed line g.reading g.count g.bytes d) (g.delivered ∙ ap (λ (t : List (List ℕ)). c.delivered.items ++ t) (sym d.delivered))
 
 -- and what a side writes of itself
@@ -161,10 +161,10 @@ goes_written says c s' read events e h =
       side = h.side;
       config = h.config;
       line = h.line;
-      steps = subst (λ (n : ℕ). Steps says c.session.side c.session.config.now (id_text c.session.config.now.id) (state_at c.session (reading_of c) n) events (state_at s' (reading_of c) n)) e
-          (unread_steps nothing_said says c.session.side c.session.config.now (id_text c.session.config.now.id) events (state_at c.session (reading_of c) read) (state_at s' (reading_of c) read) log.handled_none (h.steps (reading_of c)));
+      steps = subst (λ (n : ℕ). Steps says c.session.side c.session.config.now (id_text c.session.config.now.id) (state_at c.session (reading_spot c) n) events (state_at s' (reading_spot c) n)) e
+          (unread_steps nothing_said says c.session.side c.session.config.now (id_text c.session.config.now.id) events (state_at c.session (reading_spot c) read) (state_at s' (reading_spot c) read) log.handled_none (h.steps (reading_spot c)));
       output = h.output;
-      bytes = ap (λ (t : List ℕ). t ++ c.reader.waiting) (sym (only_unread events c.session.side (reading_of c) h.only));
+      bytes = ap (λ (t : List ℕ). t ++ c.reader.waiting) (sym (only_unread events c.session.side (reading_spot c) h.only));
       input = (log.submitted_none, log.unasked);
       silent = log.hears_none;
     }
@@ -245,14 +245,14 @@ up_read Delivers n n' item e = e
 up_read Done n n' item e = e
 up_read (Rekeys opening again) n n' item e = refl
 
-spot_moved : (c c1 : Connection) (item : Item) → c1.reader.number ≡ next_number c.reader.number → opening_of c1.opening ≡ moved_on (opening_of c.opening) item → reading_of c1 ≡ spot_after (reading_of c) item
+spot_moved : (c c1 : Connection) (item : Item) → c1.reader.number ≡ next_number c.reader.number → opening_of c1.opening ≡ moved_on (opening_of c.opening) item → reading_spot c1 ≡ spot_after (reading_spot c) item
 spot_moved c c1 item n k = ap (λ (x : Sealing). record { sealing = x; number = c1.reader.number }) k ∙ ap (λ (m : ℕ). record { sealing = moved_on (opening_of c.opening) item; number = m }) n
 
-took_spot : (says : Says) (c c1 : Connection) (answer : Handled) (t : Took says c answer c1) → reading_of c1 ≡ spot_after (reading_of c) t.item
+took_spot : (says : Says) (c c1 : Connection) (answer : Handled) (t : Took says c answer c1) → reading_spot c1 ≡ spot_after (reading_spot c) t.item
 took_spot says c c1 answer t = spot_moved c c1 t.item t.number t.sealing
 
 pub numbered_up : (c c1 c2 : Connection) (answer : Handled) → c1.reader.number ≡ next_number c.reader.number → TakesUp answer c1 c2 → c2.reader.number < 2 ^ 32
-numbered_up c c1 c2 answer n u = subst (λ (x : Spot). x.number < 2 ^ 32) (sym u.reading) (up_small answer (reading_of c1) (subst (λ (m : ℕ). m < 2 ^ 32) (sym n) (number_after c.reader.number)))
+numbered_up c c1 c2 answer n u = subst (λ (x : Spot). x.number < 2 ^ 32) (sym u.reading) (up_small answer (reading_spot c1) (subst (λ (m : ℕ). m < 2 ^ 32) (sym n) (number_after c.reader.number)))
 
 pub reads_up : (says : Says) (c c1 c2 : Connection) (answer : Handled) → IsLive c → Took says c answer c1 → IsFixed c.session c1.session → c1.session.line ≡ c.session.line → TakesUp answer c1 c2 → Reads says c c2
 reads_up says c c1 c2 answer live t fixed line u =
@@ -261,7 +261,7 @@ reads_up says c c1 c2 answer live t fixed line u =
     (subst (λ (s : Session). IsFixed c.session s) same fixed)
     (subst (λ (s : Session). s.line ≡ c.session.line) same line)
     (record {
-      reading = u.reading ∙ up_behind answer (reading_of c) (reading_of c1) t.item (took_spot says c c1 answer t);
+      reading = u.reading ∙ up_behind answer (reading_spot c) (reading_spot c1) t.item (took_spot says c c1 answer t);
       count = u.count ∙ up_read answer c.reader.count c1.reader.count t.item t.count;
       bytes = t.bytes ∙ ap (λ (x : List ℕ). sealed_packet (opening_of c.opening) c.reader.number t.item ++ x) (sym u.waiting);
       delivered = ap (λ (x : Connection). x.delivered.items) u.rest ∙ t.delivered;
@@ -293,8 +293,8 @@ lends_packet says c c1 c2 s' read live t fixed line u e g = record {
   last = handled_more d.events g.events ∙ ap (λ (x : List Event). handled x ++ handled g.events) (d.alone refl) ∙ ap (λ (x : List Item). t.item ∷ x) log.handled_none;
   payload_is = lent;
 } where
-  d : DoesWith says c.session (reading_of c) c.reader.count t.item Delivers c1.session
-  d = t.handles (reading_of c) c.reader.count t.item t.at live.settled
+  d : DoesWith says c.session (reading_spot c) c.reader.count t.item Delivers c1.session
+  d = t.handles (reading_spot c) c.reader.count t.item t.at live.settled
 
   same : c2 ≡ c1
   same = u.still refl
@@ -320,12 +320,12 @@ polls_taken says c c1 c2 s' read (Rekeys opening again) live t fixed line u e g 
 pub polls_as : (says : Says) (c c1 c2 : Connection) (s' : Session) (n : ℕ) (answer : Handled) (read : PacketRead) → read ≡ read_as answer → IsLive c → HandlesOne says c answer c1 → IsFixed c.session c1.session → c1.session.line ≡ c.session.line → TakesUp answer c1 c2 → n ≡ c2.reader.count → GoesOn c2.session n s' → PollsOne says c read (record c2 { session = s' })
 polls_as says c c1 c2 s' n answer read r live t fixed line u e g = subst (λ (x : PacketRead). PollsOne says c x (record c2 { session = s' })) (sym r) (polls_taken says c c1 c2 s' n answer live t fixed line u e g)
 
-pub polls_none : (says : Says) (c c' : Connection) → c' ≡ record c { reader = record c.reader { handed = [] } } → c'.delivered ≡ c.delivered → WaitsInPart (reading_of c) c.reader.waiting → PollsOne says c Nothing c'
-polls_none says c c' e d p = (reads_unlent_as says c c' e, d, subst (λ (x : Connection). WaitsInPart (reading_of x) x.reader.waiting) (sym e) p)
+pub polls_none : (says : Says) (c c' : Connection) → c' ≡ record c { reader = record c.reader { handed = [] } } → c'.delivered ≡ c.delivered → WaitsInPart (reading_spot c) c.reader.waiting → PollsOne says c Nothing c'
+polls_none says c c' e d p = (reads_unlent_as says c c' e, d, subst (λ (x : Connection). WaitsInPart (reading_spot x) x.reader.waiting) (sym e) p)
 
 -- behind packets that were read
 goes_weaker : (a b : Says) → Weaker a b → (c c' : Connection) (events : List Event) → Goes a c events c' → Goes b c events c'
-goes_weaker a b w c c' events h = record { side = h.side; config = h.config; line = h.line; steps = steps_weaker a b w c.session.side c.session.config.now (id_text c.session.config.now.id) events (state_at c.session (reading_of c) c.reader.count) (state_at c'.session (reading_of c') c'.reader.count) h.steps; output = h.output; bytes = h.bytes; input = h.input; silent = h.silent }
+goes_weaker a b w c c' events h = record { side = h.side; config = h.config; line = h.line; steps = steps_weaker a b w c.session.side c.session.config.now (id_text c.session.config.now.id) events (state_at c.session (reading_spot c) c.reader.count) (state_at c'.session (reading_spot c') c'.reader.count) h.steps; output = h.output; bytes = h.bytes; input = h.input; silent = h.silent }
 
 lends_behind : (says : Says) (c mid c' : Connection) (payload : List ℕ) → Reads says c mid → mid.delivered ≡ c.delivered → Lends says mid payload c' → Lends says c payload c'
 lends_behind says c mid c' payload h d k = record {

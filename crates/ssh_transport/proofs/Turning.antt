@@ -10,7 +10,7 @@ use Rattle.ssh_kex.specs.declared.config.Config.{Config}
 use Rattle.ssh_kex.specs.declared.exchange.ServerHost.{ServerHost}
 use Rattle.ssh_rules.specs.Machine.{SideState}
 use Rattle.ssh_rules.specs.Standing.{RefusalCause, WaitsInPart}
-use Rattle.ssh_transport.specs.States.{reading_of, with_more}
+use Rattle.ssh_transport.specs.States.{reading_spot, with_more}
 use Rattle.ssh_transport.specs.Stopping.{Stops}
 use Rattle.ssh_transport.specs.Taking.{Reads}
 use Rattle.ssh_transport.specs.declared.connection.Connection.{Connection}
@@ -30,10 +30,10 @@ turn_taken r r' piece slice taken n s e = e ∙ ap (λ (b : List ℕ). record r 
 pub turn_within : (r : Reader) (piece slice : List ℕ) (taken n : ℕ) → slice ≡ drop taken piece → n ≡ room_in r (length slice) → taken ≤ length piece → taken + n ≤ length piece
 turn_within r piece slice taken n s e w = let a : length slice ≡ length piece - taken = ap length s ∙ length-drop taken piece in omega (arith, a, e, w)
 
-pub turn_smaller : (c : Connection) (piece slice : List ℕ) (taken n : ℕ) → slice ≡ drop taken piece → n ≡ room_in c.reader (length slice) → WaitsInPart (reading_of c) c.reader.waiting → c.reader.window ≡ window_length → taken < length piece → length piece - (taken + n) < length piece - taken
+pub turn_smaller : (c : Connection) (piece slice : List ℕ) (taken n : ℕ) → slice ≡ drop taken piece → n ≡ room_in c.reader (length slice) → WaitsInPart (reading_spot c) c.reader.waiting → c.reader.window ≡ window_length → taken < length piece → length piece - (taken + n) < length piece - taken
 turn_smaller c piece slice taken n s e part window more =
     let a : length slice ≡ length piece - taken = ap length s ∙ length-drop taken piece in
-    let b = part_short (reading_of c) c.reader.waiting part in
+    let b = part_short (reading_spot c) c.reader.waiting part in
     omega (arith, a, e, b, window, more)
 
 pub reads_turn : (says later : Config → Says) → ((x : Config) → Weaker (later x) (says x)) → (old self c2 c3 : Connection) (piece : List ℕ) (taken n spent : ℕ) → self.session.config ≡ old.session.config → c2 ≡ record self { reader = c2.reader } → c2.reader ≡ record self.reader { waiting = self.reader.waiting ++ take n (drop taken piece); handed = []; spent = spent } → Reads (says old.session.config.now) (with_more old piece) (with_more self (drop taken piece)) → Reads (later c2.session.config.now) c2 c3 → Reads (says old.session.config.now) (with_more old piece) (with_more c3 (drop (taken + n) piece))

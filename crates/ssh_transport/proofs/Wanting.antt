@@ -32,7 +32,7 @@ use Rattle.ssh_transport.specs.Handling.{IsHeard}
 use Rattle.ssh_transport.specs.Hearing.{EndsBy}
 use Rattle.ssh_transport.specs.Kept.{IsLive}
 use Rattle.ssh_transport.specs.Saying.{GoesPart, IsFixed, nothing_said}
-use Rattle.ssh_transport.specs.States.{emptied, heard_of, reading_of, standing_of, stands_of, state_at}
+use Rattle.ssh_transport.specs.States.{emptied, heard_of, reading_spot, standing_of, stands_of, state_at}
 use Rattle.ssh_transport.specs.Stopping.{Refuses, Stops, Wants, WantsKeys}
 use Rattle.ssh_transport.specs.Taking.{HandlesOne, Hears, Reads, TakesUp, count_up}
 use Rattle.ssh_transport.specs.declared.connection.Connection.{Connection}
@@ -50,9 +50,9 @@ use Rattle.ssh_transport.proofs.Weaker.{Weaker, steps_weaker}
 
 -- nothing that is held is left to be sealed
 none_held : (c : Connection) (s : Session) → IsLive c → s ≡ c.session → stands_of s.finished.items s.kex ≡ Outside → s.held.items ≡ []
-none_held c s live e o = ap (λ (x : Session). x.held.items) e ∙ (live.settled (reading_of c)).sent (sym (ap (λ (x : Session). stands_of x.finished.items x.kex) e) ∙ o)
+none_held c s live e o = ap (λ (x : Session). x.held.items) e ∙ (live.settled (reading_spot c)).sent (sym (ap (λ (x : Session). stands_of x.finished.items x.kex) e) ∙ o)
 
-pub stops_polling : (says : Says) (denies : Denies) (untrusted : ServerHost → Type 0) (asked : RefusalCause → SideState → Type 0) (c c1 c2 : Connection) (s' : Session) (read : ℕ) (answer : Handled) (error : Error) → IsLive c → HandlesOne says c answer c1 → IsFixed c.session c1.session → c1.session.line ≡ c.session.line → TakesUp answer c1 c2 → read ≡ c2.reader.count → (g : GoesPart c2.session read s') → ((stands_of c2.session.finished.items c2.session.kex ≡ Outside → c2.session.held.items ≡ []) → WantsKeys c2.session read s') → error ≡ errors.Memory → asked OfMemory (state_at g.mid (reading_of c2) c2.reader.count) → (c1.session ≡ c.session → asked OfMemory (state_at c.session (reading_of c) c.reader.count)) → Stops says denies untrusted asked c error (record c2 { session = s' })
+pub stops_polling : (says : Says) (denies : Denies) (untrusted : ServerHost → Type 0) (asked : RefusalCause → SideState → Type 0) (c c1 c2 : Connection) (s' : Session) (read : ℕ) (answer : Handled) (error : Error) → IsLive c → HandlesOne says c answer c1 → IsFixed c.session c1.session → c1.session.line ≡ c.session.line → TakesUp answer c1 c2 → read ≡ c2.reader.count → (g : GoesPart c2.session read s') → ((stands_of c2.session.finished.items c2.session.kex ≡ Outside → c2.session.held.items ≡ []) → WantsKeys c2.session read s') → error ≡ errors.Memory → asked OfMemory (state_at g.mid (reading_spot c2) c2.reader.count) → (c1.session ≡ c.session → asked OfMemory (state_at c.session (reading_spot c) c.reader.count)) → Stops says denies untrusted asked c error (record c2 { session = s' })
 stops_polling says denies untrusted asked c c1 c2 s' read Delivers error live t fixed line u e g due m a b =
     let same : c2.session ≡ c.session = ap (λ (x : Connection). x.session) u.rest ∙ t.still refl in
     let w = due (none_held c c2.session live same) in
@@ -60,8 +60,8 @@ stops_polling says denies untrusted asked c c1 c2 s' read Delivers error live t 
 stops_polling says denies untrusted asked c c1 c2 s' read Done error live t fixed line u e g due m a b = stops_wanting says denies untrusted asked c c1 c2 s' read Done error live (took_nothing says c c1 Done t refl) fixed line u e g m a
 stops_polling says denies untrusted asked c c1 c2 s' read (Rekeys opening again) error live t fixed line u e g due m a b = stops_wanting says denies untrusted asked c c1 c2 s' read (Rekeys opening again) error live (took_nothing says c c1 (Rekeys opening again) t refl) fixed line u e g m a
 
-wants_here : (says : Says) (c : Connection) → IsCostly c.session.config.now (state_at c.session (reading_of c) c.reader.count) c.reader.waiting → Wants says c
-wants_here says c h = record { events = []; at = state_at c.session (reading_of c) c.reader.count; steps = refl; silent = tt; unlent = refl; left = c.reader.waiting; bytes = refl; at_cost = inr h }
+wants_here : (says : Says) (c : Connection) → IsCostly c.session.config.now (state_at c.session (reading_spot c) c.reader.count) c.reader.waiting → Wants says c
+wants_here says c h = record { events = []; at = state_at c.session (reading_spot c) c.reader.count; steps = refl; silent = tt; unlent = refl; left = c.reader.waiting; bytes = refl; at_cost = inr h }
 
 -- the count that reaches the limit is that behind the packet
 count_reached : (limit : ℕ) (answer : Handled) (n m k : ℕ) → k ≡ count_up answer m → n < limit → limit ≤ k → limit ≤ m
@@ -72,12 +72,12 @@ count_reached limit (Rekeys opening again) n m k e b r = absurd (omega (arith, e
 pub wants_polling : (says : Says) (c c1 c2 : Connection) (s' : Session) (read : ℕ) (answer : Handled) → IsLive c → HandlesOne says c answer c1 → TakesUp answer c1 c2 → read ≡ c2.reader.count → ((stands_of c2.session.finished.items c2.session.kex ≡ Outside → c2.session.held.items ≡ []) → WantsKeys c2.session read s') → Wants says c
 wants_polling says c c1 c2 s' read answer live t u e due = by (is_kex_type (type_of t.item)) refl
   where
-    at_limit : c1.session ≡ c.session → IsCostly c.session.config.now (state_at c.session (reading_of c) c.reader.count) c.reader.waiting
+    at_limit : c1.session ≡ c.session → IsCostly c.session.config.now (state_at c.session (reading_spot c) c.reader.count) c.reader.waiting
     at_limit f =
         let same : c2.session ≡ c.session = ap (λ (x : Connection). x.session) u.rest ∙ f in
         let w = due (none_held c c2.session live same) in
         let out : stands_of c.session.finished.items c.session.kex ≡ Outside = sym (ap (λ (x : Session). stands_of x.finished.items x.kex) same) ∙ w.outside in
-        let quiet = live.settled (reading_of c) in
+        let quiet = live.settled (reading_spot c) in
         record {
           item = t.item;
           rest = c1.reader.waiting;
@@ -124,7 +124,7 @@ wants_packet says denies untrusted c result o incoming error key' r' live l e f 
   item = k.0;
   rest = r'.waiting;
   next = (k.1).front;
-  costs = inl (costly_refused says denies untrusted c.session.side c.session.config.now (state_at c.session (reading_of c) c.reader.count) k.0 error m (h (reading_of c) c.reader.count k.0 (record { small = live.numbered; seqn_is = (k.1).seqn; payload_is = (k.1).payload; admissible = (k.1).admissible })));
+  costs = inl (costly_refused says denies untrusted c.session.side c.session.config.now (state_at c.session (reading_spot c) c.reader.count) k.0 error m (h (reading_spot c) c.reader.count k.0 (record { small = live.numbered; seqn_is = (k.1).seqn; payload_is = (k.1).payload; admissible = (k.1).admissible })));
 }) where
   k : LeavesNext c.reader (opening_of c.opening) key' (Ok (Some incoming)) r'
   k = subst (λ (x : Option Incoming). LeavesNext c.reader (opening_of c.opening) key' (Ok x) r') f (subst (λ (r : Result (Option Incoming) OpenError). LeavesNext c.reader (opening_of c.opening) key' r r') e l)
@@ -143,20 +143,20 @@ wants_behind : (says : Says) (c mid : Connection) → Reads says c mid → mid.d
 wants_behind says c mid h d k = record {
   events = h.events ++ k.events;
   at = k.at;
-  steps = steps_join says c.session.side c.session.config.now (id_text c.session.config.now.id) h.events k.events (state_at c.session (reading_of c) c.reader.count) (state_at mid.session (reading_of mid) mid.reader.count) k.at h.steps
-      (subst (λ (x : Side). Steps says x c.session.config.now (id_text c.session.config.now.id) (state_at mid.session (reading_of mid) mid.reader.count) k.events k.at) h.side
-      (subst (λ (x : Bor Config). Steps says mid.session.side x.now (id_text x.now.id) (state_at mid.session (reading_of mid) mid.reader.count) k.events k.at) h.config k.steps));
+  steps = steps_join says c.session.side c.session.config.now (id_text c.session.config.now.id) h.events k.events (state_at c.session (reading_spot c) c.reader.count) (state_at mid.session (reading_spot mid) mid.reader.count) k.at h.steps
+      (subst (λ (x : Side). Steps says x c.session.config.now (id_text c.session.config.now.id) (state_at mid.session (reading_spot mid) mid.reader.count) k.events k.at) h.side
+      (subst (λ (x : Bor Config). Steps says mid.session.side x.now (id_text x.now.id) (state_at mid.session (reading_spot mid) mid.reader.count) k.events k.at) h.config k.steps));
   silent = silent_more h.events k.events h.silent k.silent;
   unlent = delivered_more h.events k.events ∙ ap (λ (x : List (List ℕ)). x ++ delivered_in k.events) (nothing_more c.delivered.items (delivered_in h.events) (sym (items_of mid c d) ∙ h.delivered)) ∙ k.unlent;
   left = k.left;
-  bytes = h.bytes ∙ ap (λ (t : List ℕ). read_bytes c.session.side (reading_of c) h.events ++ t) (k.bytes ∙ ap (λ (x : Side). read_bytes x (reading_of mid) k.events ++ k.left) h.side)
-      ∙ sym (append_assoc (read_bytes c.session.side (reading_of c) h.events) (read_bytes c.session.side (reading_of mid) k.events) k.left)
-      ∙ ap (λ (t : List ℕ). t ++ k.left) (sym (read_join says c.session.side c.session.config.now (id_text c.session.config.now.id) h.events k.events (state_at c.session (reading_of c) c.reader.count) (state_at mid.session (reading_of mid) mid.reader.count) h.steps));
+  bytes = h.bytes ∙ ap (λ (t : List ℕ). read_bytes c.session.side (reading_spot c) h.events ++ t) (k.bytes ∙ ap (λ (x : Side). read_bytes x (reading_spot mid) k.events ++ k.left) h.side)
+      ∙ sym (append_assoc (read_bytes c.session.side (reading_spot c) h.events) (read_bytes c.session.side (reading_spot mid) k.events) k.left)
+      ∙ ap (λ (t : List ℕ). t ++ k.left) (sym (read_join says c.session.side c.session.config.now (id_text c.session.config.now.id) h.events k.events (state_at c.session (reading_spot c) c.reader.count) (state_at mid.session (reading_spot mid) mid.reader.count) h.steps));
   at_cost = costs_behind h.events k.events c.session.config.now k.at k.left (subst (λ (x : Bor Config). (1 ≤ kex_count (handled k.events)) ⊎ IsCostly x.now k.at k.left) h.config k.at_cost);
 }
 
 wants_weaker : (a b : Says) → Weaker a b → (c : Connection) → Wants a c → Wants b c
-wants_weaker a b w c h = record { events = h.events; at = h.at; steps = steps_weaker a b w c.session.side c.session.config.now (id_text c.session.config.now.id) h.events (state_at c.session (reading_of c) c.reader.count) h.at h.steps; silent = h.silent; unlent = h.unlent; left = h.left; bytes = h.bytes; at_cost = h.at_cost }
+wants_weaker a b w c h = record { events = h.events; at = h.at; steps = steps_weaker a b w c.session.side c.session.config.now (id_text c.session.config.now.id) h.events (state_at c.session (reading_spot c) c.reader.count) h.at h.steps; silent = h.silent; unlent = h.unlent; left = h.left; bytes = h.bytes; at_cost = h.at_cost }
 
 pub wants_after : (says later : Config → Says) → ((x : Config) → Weaker (later x) (says x)) → (c mid : Connection) → mid.session.config ≡ c.session.config → Reads (says c.session.config.now) c mid → mid.delivered ≡ c.delivered → Wants (later mid.session.config.now) mid → Wants (says c.session.config.now) c
 wants_after says later w c mid e h d k = wants_behind (says c.session.config.now) c mid h d (wants_weaker (later c.session.config.now) (says c.session.config.now) (w c.session.config.now) mid (subst (λ (b : Bor Config). Wants (later b.now) mid) e k))
@@ -187,24 +187,24 @@ wants_heard says c mid h i d k = record {
   at = k.at;
   left = k.left;
   handles = record {
-    steps = steps_join says c.session.side c.session.config.now (id_text c.session.config.now.id) h.events k.events (state_at c.session (reading_of c) c.reader.count) (state_at mid.session (reading_of mid) mid.reader.count) k.at first moved;
+    steps = steps_join says c.session.side c.session.config.now (id_text c.session.config.now.id) h.events k.events (state_at c.session (reading_spot c) c.reader.count) (state_at mid.session (reading_spot mid) mid.reader.count) k.at first moved;
     behind = mid.reader.waiting;
     line = mid.session.line;
     heard = kept_line c.session.side c.session.line [] c.reader.waiting [] (h.events ++ k.events) mid.session.line mid.reader.waiting
         (subst (λ (b : List ℕ). ReadsLineFrom c.session.side c.session.line [] b (h.events ++ k.events) mid.session.line mid.reader.waiting) (sym (append-nil c.reader.waiting)) (line_more c.session.side c.session.line [] c.reader.waiting h.events k.events mid.session.line mid.reader.waiting k.silent (inl i) h.line));
-    read = k.bytes ∙ ap (λ (x : Side). read_bytes x (reading_of mid) k.events ++ k.left) h.side
-        ∙ ap (λ (b : List ℕ). b ++ k.left) (sym (read_join says c.session.side c.session.config.now (id_text c.session.config.now.id) h.events k.events (state_at c.session (reading_of c) c.reader.count) (state_at mid.session (reading_of mid) mid.reader.count) first
-        ∙ ap (λ (b : List ℕ). b ++ read_bytes c.session.side (reading_of mid) k.events) (h.bytes (reading_of c))));
+    read = k.bytes ∙ ap (λ (x : Side). read_bytes x (reading_spot mid) k.events ++ k.left) h.side
+        ∙ ap (λ (b : List ℕ). b ++ k.left) (sym (read_join says c.session.side c.session.config.now (id_text c.session.config.now.id) h.events k.events (state_at c.session (reading_spot c) c.reader.count) (state_at mid.session (reading_spot mid) mid.reader.count) first
+        ∙ ap (λ (b : List ℕ). b ++ read_bytes c.session.side (reading_spot mid) k.events) (h.bytes (reading_spot c))));
   };
   unlent = delivered_more h.events k.events ∙ ap (λ (x : List (List ℕ)). x ++ delivered_in k.events) (nothing_more c.delivered.items (delivered_in h.events) (sym (items_of mid c d) ∙ h.delivered)) ∙ k.unlent;
   at_cost = costs_behind h.events k.events c.session.config.now k.at k.left (subst (λ (x : Bor Config). (1 ≤ kex_count (handled k.events)) ⊎ IsCostly x.now k.at k.left) h.config k.at_cost);
 } where
-  first : Steps says c.session.side c.session.config.now (id_text c.session.config.now.id) (state_at c.session (reading_of c) c.reader.count) h.events (state_at mid.session (reading_of mid) mid.reader.count)
-  first = unread_steps nothing_said says c.session.side c.session.config.now (id_text c.session.config.now.id) h.events (state_at c.session (reading_of c) c.reader.count) (state_at mid.session (reading_of mid) mid.reader.count) h.unread h.steps
+  first : Steps says c.session.side c.session.config.now (id_text c.session.config.now.id) (state_at c.session (reading_spot c) c.reader.count) h.events (state_at mid.session (reading_spot mid) mid.reader.count)
+  first = unread_steps nothing_said says c.session.side c.session.config.now (id_text c.session.config.now.id) h.events (state_at c.session (reading_spot c) c.reader.count) (state_at mid.session (reading_spot mid) mid.reader.count) h.unread h.steps
 
-  moved : Steps says c.session.side c.session.config.now (id_text c.session.config.now.id) (state_at mid.session (reading_of mid) mid.reader.count) k.events k.at
-  moved = subst (λ (x : Side). Steps says x c.session.config.now (id_text c.session.config.now.id) (state_at mid.session (reading_of mid) mid.reader.count) k.events k.at) h.side
-      (subst (λ (b : Bor Config). Steps says mid.session.side b.now (id_text b.now.id) (state_at mid.session (reading_of mid) mid.reader.count) k.events k.at) h.config k.steps)
+  moved : Steps says c.session.side c.session.config.now (id_text c.session.config.now.id) (state_at mid.session (reading_spot mid) mid.reader.count) k.events k.at
+  moved = subst (λ (x : Side). Steps says x c.session.config.now (id_text c.session.config.now.id) (state_at mid.session (reading_spot mid) mid.reader.count) k.events k.at) h.side
+      (subst (λ (b : Bor Config). Steps says mid.session.side b.now (id_text b.now.id) (state_at mid.session (reading_spot mid) mid.reader.count) k.events k.at) h.config k.steps)
 
 pub may_want : (says : Config → Says) (c mid : Connection) → Hears (emptied c) c.reader.waiting mid → IsHeard mid.session.line → mid.delivered ≡ c.delivered → Wants (says mid.session.config.now) mid → MayWant (says c.session.config.now) (standing_of c)
 may_want says c mid h i d k = by (reads_end c.session.side c.session.line c.reader.waiting h.events mid.session.line mid.reader.waiting i h.line)

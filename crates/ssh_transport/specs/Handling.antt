@@ -9,7 +9,7 @@ use Rattle.ssh_packet.specs.Sealing.{Item, IsAdmissible, next_number, sealed_pac
 use Rattle.ssh_packet.specs.Writing.{Writer, count_after}
 use Rattle.ssh_packet.specs.declared.reader.Incoming.{Incoming}
 use Rattle.ssh_kex.specs.Setting.{Says, Setting}
-use Rattle.ssh_kex.specs.Stages.{Machine, Stage, has_ignored, is_strict, names_of}
+use Rattle.ssh_kex.specs.Stages.{Machine, Stage, has_ignored, is_strict, names_in_stage}
 use Rattle.ssh_kex.specs.Stepping.{DropsGuess, IsDone, TakesOne}
 use Rattle.ssh_kex.specs.declared.exchange.FinishedExchange.{FinishedExchange}
 use Rattle.ssh_kex.specs.declared.exchange.NewKeys.{NewKeys}
@@ -40,7 +40,7 @@ IsFlagged s (Some n) = was_strict s.cause ≡ true → n.strict_kex ≡ true
 -- a machine between these
 pub record IsBetween (between : Setting) (m : Machine) : Type 0 where
   pub setting_is : m.setting ≡ between
-  pub flagged : IsFlagged m.setting (names_of m.stage)
+  pub flagged : IsFlagged m.setting (names_in_stage m.stage)
 
 -- a machine of the exchange that this session holds or is to begin
 abbrev pub IsOwn : Session → Machine → Type 0
@@ -82,7 +82,7 @@ counts_guess names = has_ignored names
 -- whether payloads may come there: outside, or in a later exchange before the peer's KEXINIT
 abbrev pub may_deliver_at : List FinishedExchange → Stage → Bool
 may_deliver_at [] stage = false
-may_deliver_at (x ∷ records) stage = not (is_some (names_of stage))
+may_deliver_at (x ∷ records) stage = not (is_some (names_in_stage stage))
 
 abbrev pub may_deliver_by : List FinishedExchange → Where → Bool
 may_deliver_by records Silent = false

@@ -23,13 +23,13 @@ heard_of (Heard text) = Some text
 heard_of Failed = None
 
 -- between exchanges; before the first one the peer's version line is awaited
-abbrev pub between : List FinishedExchange → Where
-between [] = Silent
-between (x ∷ records) = Outside
+abbrev pub after_exchanges : List FinishedExchange → Where
+after_exchanges [] = Silent
+after_exchanges (x ∷ records) = Outside
 
 -- where it stands
 abbrev pub stands_of : List FinishedExchange → SessionKexState Machine → Where
-stands_of records Idle = between records
+stands_of records Idle = after_exchanges records
 stands_of records (InProgress machine) = Inside machine.stage
 stands_of records Taken = Inside (Created [])
 
@@ -55,8 +55,8 @@ state_at s at read = record {
 }
 
 -- where it reads
-abbrev pub reading_of : Connection → Spot
-reading_of c = record { sealing = opening_of c.opening; number = c.reader.number }
+abbrev pub reading_spot : Connection → Spot
+reading_spot c = record { sealing = opening_of c.opening; number = c.reader.number }
 
 -- without what waits and was not handled yet
 abbrev pub emptied : Connection → Connection
@@ -71,7 +71,7 @@ abbrev pub bare_of : Connection → Standing
 bare_of c = record {
   side = c.session.side;
   config = c.session.config.now;
-  state = state_at c.session (reading_of c) c.reader.count;
+  state = state_at c.session (reading_spot c) c.reader.count;
   line = c.session.line;
   output = c.session.writer.output;
   waiting = c.reader.waiting;

@@ -24,7 +24,7 @@ use Rattle.ssh_rules.specs.Polling.{IsCostly}
 use Rattle.ssh_rules.specs.Refusing.{AnswersCause, RefusesPacket}
 use Rattle.ssh_rules.specs.Standing.{HearsBy, HearsNone, IsIdleBefore, IsInput, OfVersion, RefusalCause, StandsNext, is_outside, lets_pass}
 use Rattle.ssh_transport.specs.Handling.{IsReadAt, counts_guess, is_ordered}
-use Rattle.ssh_transport.specs.States.{bare_of, reading_of, stands_of, state_at}
+use Rattle.ssh_transport.specs.States.{bare_of, reading_spot, stands_of, state_at}
 use Rattle.ssh_transport.specs.declared.connection.Connection.{Connection}
 use Rattle.ssh_transport.specs.declared.session.Session.{Session}
 
@@ -62,7 +62,7 @@ pub record Stops (says : Says) (denies : Denies) (untrusted : ServerHost → Typ
   pub state : SideState
   pub events : List Event
   pub steps : Steps says c.session.side c.session.config.now (id_text c.session.config.now.id)
-      (state_at c.session (reading_of c) c.reader.count) events state
+      (state_at c.session (reading_spot c) c.reader.count) events state
   pub output : c'.session.writer.output ≡ c.session.writer.output
       ++ sent_bytes c.session.side (record { sealing = c.session.writer.sealing; number = c.session.writer.number }) events
   pub delivered : c'.delivered.items ≡ c.delivered.items ++ delivered_in events
@@ -70,7 +70,7 @@ pub record Stops (says : Says) (denies : Denies) (untrusted : ServerHost → Typ
   pub input : IsInput events
   pub silent : HearsNone events
   pub left : List ℕ
-  pub bytes : c.reader.waiting ≡ read_bytes c.session.side (reading_of c) events ++ left
+  pub bytes : c.reader.waiting ≡ read_bytes c.session.side (reading_spot c) events ++ left
   pub done : IsIdleBefore cause c.session.config.now state
   pub next : StandsNext cause state left
   pub line : cause ≡ OfVersion → ⊥
@@ -85,7 +85,7 @@ pub record Fails (says : Says) (denies : Denies) (untrusted : ServerHost → Typ
   pub state : SideState
   pub events : List Event
   pub steps : Steps says c.session.side c.session.config.now (id_text c.session.config.now.id)
-      (state_at c.session (reading_of c) c.reader.count) events state
+      (state_at c.session (reading_spot c) c.reader.count) events state
   pub output : c'.session.writer.output ≡ c.session.writer.output
       ++ sent_bytes c.session.side (record { sealing = c.session.writer.sealing; number = c.session.writer.number }) events
   pub delivered : c'.delivered.items ≡ c.delivered.items ++ delivered_in events
@@ -96,7 +96,7 @@ pub record Fails (says : Says) (denies : Denies) (untrusted : ServerHost → Typ
   pub behind : List ℕ
   pub heard : HearsBy cause (bare_of c) piece events line behind
   pub left : List ℕ
-  pub read : behind ≡ read_bytes c.session.side (reading_of c) events ++ left
+  pub read : behind ≡ read_bytes c.session.side (reading_spot c) events ++ left
   pub next : StandsNext cause state left
   pub why : AnswersCause says denies untrusted c.session.side c.session.config.now cause state error
   pub asks : asked cause state
@@ -153,9 +153,9 @@ pub record Wants (says : Says) (c : Connection) : Type 0 where
   pub events : List Event
   pub at : SideState
   pub steps : Steps says c.session.side c.session.config.now (id_text c.session.config.now.id)
-      (state_at c.session (reading_of c) c.reader.count) events at
+      (state_at c.session (reading_spot c) c.reader.count) events at
   pub silent : HearsNone events
   pub unlent : delivered_in events ≡ []
   pub left : List ℕ
-  pub bytes : c.reader.waiting ≡ read_bytes c.session.side (reading_of c) events ++ left
+  pub bytes : c.reader.waiting ≡ read_bytes c.session.side (reading_spot c) events ++ left
   pub at_cost : (1 ≤ kex_count (handled events)) ⊎ IsCostly c.session.config.now at left

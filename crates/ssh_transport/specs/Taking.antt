@@ -12,7 +12,7 @@ use Rattle.ssh_rules.specs.MessageTypes.{is_kex_type, type_of}
 use Rattle.ssh_rules.specs.Standing.{HearsNone, IsInput, ReadsLineFrom, WaitsInPart}
 use Rattle.ssh_transport.specs.Handling.{Handles, IsHeard, IsReadAt, delivered_by}
 use Rattle.ssh_transport.specs.Saying.{nothing_said}
-use Rattle.ssh_transport.specs.States.{emptied, reading_of, state_at}
+use Rattle.ssh_transport.specs.States.{emptied, reading_spot, state_at}
 use Rattle.ssh_transport.specs.declared.connection.Connection.{Connection}
 use Rattle.ssh_transport.specs.declared.connection.PacketRead.{PacketRead}
 use Rattle.ssh_transport.specs.declared.connection.PacketRead.TheVariants.{Nothing, Packet, Payload}
@@ -25,10 +25,10 @@ pub record Goes (says : Says) (c : Connection) (events : List Event) (c' : Conne
   pub config : c'.session.config ≡ c.session.config
   pub line : c'.session.line ≡ c.session.line
   pub steps : Steps says c.session.side c.session.config.now (id_text c.session.config.now.id)
-      (state_at c.session (reading_of c) c.reader.count) events (state_at c'.session (reading_of c') c'.reader.count)
+      (state_at c.session (reading_spot c) c.reader.count) events (state_at c'.session (reading_spot c') c'.reader.count)
   pub output : c'.session.writer.output ≡ c.session.writer.output
       ++ sent_bytes c.session.side (record { sealing = c.session.writer.sealing; number = c.session.writer.number }) events
-  pub bytes : c.reader.waiting ≡ read_bytes c.session.side (reading_of c) events ++ c'.reader.waiting
+  pub bytes : c.reader.waiting ≡ read_bytes c.session.side (reading_spot c) events ++ c'.reader.waiting
   pub input : IsInput events
   pub silent : HearsNone events
 
@@ -39,10 +39,10 @@ pub record Reads (says : Says) (c c' : Connection) : Type 0 where
   pub config : c'.session.config ≡ c.session.config
   pub line : c'.session.line ≡ c.session.line
   pub steps : Steps says c.session.side c.session.config.now (id_text c.session.config.now.id)
-      (state_at c.session (reading_of c) c.reader.count) events (state_at c'.session (reading_of c') c'.reader.count)
+      (state_at c.session (reading_spot c) c.reader.count) events (state_at c'.session (reading_spot c') c'.reader.count)
   pub output : c'.session.writer.output ≡ c.session.writer.output
       ++ sent_bytes c.session.side (record { sealing = c.session.writer.sealing; number = c.session.writer.number }) events
-  pub bytes : c.reader.waiting ≡ read_bytes c.session.side (reading_of c) events ++ c'.reader.waiting
+  pub bytes : c.reader.waiting ≡ read_bytes c.session.side (reading_spot c) events ++ c'.reader.waiting
   pub delivered : c'.delivered.items ≡ c.delivered.items ++ delivered_in events
   pub input : IsInput events
   pub silent : HearsNone events
@@ -52,7 +52,7 @@ pub record Reads (says : Says) (c c' : Connection) : Type 0 where
 pub record HandlesOne (says : Says) (c : Connection) (answer : Handled) (c' : Connection) : Type 0 where
   pub seqn : ℕ
   pub item : Item
-  pub at : IsReadAt (reading_of c) seqn item.payload item
+  pub at : IsReadAt (reading_spot c) seqn item.payload item
   pub handles : Handles says c.session seqn item.payload answer c'.session
   pub number : c'.reader.number ≡ next_number c.reader.number
   pub count : c'.reader.count ≡ count_after c.reader.count (length item.payload)
@@ -71,7 +71,7 @@ pub record HandlesOne (says : Says) (c : Connection) (answer : Handled) (c' : Co
 pub record Took (says : Says) (c : Connection) (answer : Handled) (c' : Connection) : Type 0 where
   pub seqn : ℕ
   pub item : Item
-  pub at : IsReadAt (reading_of c) seqn item.payload item
+  pub at : IsReadAt (reading_spot c) seqn item.payload item
   pub handles : Handles says c.session seqn item.payload answer c'.session
   pub number : c'.reader.number ≡ next_number c.reader.number
   pub count : c'.reader.count ≡ count_after c.reader.count (length item.payload)
@@ -101,7 +101,7 @@ count_up (Rekeys opening again) n = 0
 
 -- the keys of an ended exchange were taken up
 pub record TakesUp (answer : Handled) (c c' : Connection) : Type 0 where
-  pub reading : reading_of c' ≡ spot_up answer (reading_of c)
+  pub reading : reading_spot c' ≡ spot_up answer (reading_spot c)
   pub count : c'.reader.count ≡ count_up answer c.reader.count
   pub waiting : c'.reader.waiting ≡ c.reader.waiting
   pub failed : c'.reader.failed ≡ c.reader.failed
@@ -115,7 +115,7 @@ pub record Hears (c : Connection) (piece : List ℕ) (c' : Connection) : Type 0 
   pub side : c'.session.side ≡ c.session.side
   pub config : c'.session.config ≡ c.session.config
   pub steps : Steps nothing_said c.session.side c.session.config.now (id_text c.session.config.now.id)
-      (state_at c.session (reading_of c) c.reader.count) events (state_at c'.session (reading_of c') c'.reader.count)
+      (state_at c.session (reading_spot c) c.reader.count) events (state_at c'.session (reading_spot c') c'.reader.count)
   pub output : c'.session.writer.output ≡ c.session.writer.output
       ++ sent_bytes c.session.side (record { sealing = c.session.writer.sealing; number = c.session.writer.number }) events
   pub unread : handled events ≡ []
@@ -130,7 +130,7 @@ pub record Takes (says : Says) (c : Connection) (piece : List ℕ) (c' : Connect
   pub heard : Hears c piece mid
   pub reads : Reads says mid c'
   pub line : IsHeard mid.session.line ⊎ (reads.events ≡ [])
-  pub part : WaitsInPart (reading_of c') c'.reader.waiting
+  pub part : WaitsInPart (reading_spot c') c'.reader.waiting
 
 -- What waits was handled up to and with a packet that is delivered, and all that it asks for was done: its payload is
 -- lent, and not queued.
@@ -167,7 +167,7 @@ IfPacket Payload P = P
 
 -- by what one packet was: there was none that is whole, it was handled, or it is delivered
 abbrev pub PollsOne : Says → Connection → PacketRead → Connection → Type 0
-PollsOne says c Nothing c' = Reads says c c' × (c'.delivered ≡ c.delivered) × WaitsInPart (reading_of c') c'.reader.waiting
+PollsOne says c Nothing c' = Reads says c c' × (c'.delivered ≡ c.delivered) × WaitsInPart (reading_spot c') c'.reader.waiting
 PollsOne says c Packet c' = Reads says c c' × (c'.delivered ≡ c.delivered)
 PollsOne says c Payload c' = Lends says c c'.reader.handed c'
 

@@ -49,7 +49,7 @@ impl<'c> Connection<'c> {
     ghost use Rattle.ssh_transport.specs.Hearing.{EndsBy};
     ghost use Rattle.ssh_transport.specs.Kept.{IsKept, IsLive};
     ghost use Rattle.ssh_transport.specs.Saying.{IsFixed, nothing_said};
-    ghost use Rattle.ssh_transport.specs.States.{CanBegin, IsUnheard, WaitsBehind, emptied, reading_of, standing_of, with_more};
+    ghost use Rattle.ssh_transport.specs.States.{CanBegin, IsUnheard, WaitsBehind, emptied, reading_spot, standing_of, with_more};
     ghost use Rattle.ssh_transport.specs.Stopping.{HearsNothing, IsAsBefore};
     ghost use Rattle.ssh_transport.specs.Submitting.{Breaks};
     ghost use Rattle.ssh_transport.specs.Taking.{Hears, IfPacket, Reads, Takes, TakesUp, read_by};
@@ -434,7 +434,7 @@ impl<'c> Connection<'c> {
         ensures live { OnOk result (IsLive self.new) }
         ensures reads { OnOk result (⟦<Parts<A, H, G, R> as Served>⟧.reads (with_more self.old piece.now) parts.old
             self.new) }
-        ensures part { OnOk result (WaitsInPart (reading_of self.new) self.new.reader.waiting) }
+        ensures part { OnOk result (WaitsInPart (reading_spot self.new) self.new.reader.waiting) }
         ensures stops { IfErr result (λ e. ⟦<Parts<A, H, G, R> as Served>⟧.stops (with_more self.old piece.now)
             parts.old parts.new e self.new) }
         ensures fixed { IsFixed self.old.session self.new.session }
@@ -462,7 +462,7 @@ impl<'c> Connection<'c> {
         ensures begins { CanBegin self.new.session }
         ensures live { OnOk result (IsLive self.new) }
         ensures reads { OnOk result (⟦<Parts<A, H, G, R> as Served>⟧.reads self.old parts.old self.new) }
-        ensures part { OnOk result (WaitsInPart (reading_of self.new) self.new.reader.waiting) }
+        ensures part { OnOk result (WaitsInPart (reading_spot self.new) self.new.reader.waiting) }
         ensures stops { IfErr result (λ e. ⟦<Parts<A, H, G, R> as Served>⟧.stops self.old parts.old parts.new e
             self.new) }
         ensures fixed { IsFixed self.old.session self.new.session }
@@ -496,7 +496,7 @@ impl<'c> Connection<'c> {
         ensures took { IfOk result (λ r. IfSome r (λ h. ⟦<Parts<A, H, G, R> as Served>⟧.handles_one self.old parts.old h
             self.new)) }
         ensures none { result ≡ Ok None → (self.new ≡ record self.old
-            { reader = record self.old.reader { handed = [] } }) × WaitsInPart (reading_of self.old)
+            { reader = record self.old.reader { handed = [] } }) × WaitsInPart (reading_spot self.old)
             self.old.reader.waiting }
         ensures unqueued { self.new.delivered ≡ self.old.delivered }
         ensures wants { result ≡ Err Memory → ⟦<Parts<A, H, G, R> as Served>⟧.wants self.old parts.old }
@@ -524,7 +524,7 @@ impl<'c> Connection<'c> {
         ensures shorter { IfOk result (λ read. IsTrue read → length self.new.reader.waiting < length
             self.old.reader.waiting) }
         ensures reads { OnOk result (⟦<Parts<A, H, G, R> as Served>⟧.reads self.old parts.old self.new) }
-        ensures part { result ≡ Ok false → WaitsInPart (reading_of self.new) self.new.reader.waiting }
+        ensures part { result ≡ Ok false → WaitsInPart (reading_spot self.new) self.new.reader.waiting }
         ensures stops { IfErr result (λ e. ⟦<Parts<A, H, G, R> as Served>⟧.stops self.old parts.old parts.new e
             self.new) }
         ensures fixed { IsFixed self.old.session self.new.session }

@@ -2,7 +2,7 @@
 
 ghost use Rattle.std.specs.Prelude.{◌≡◌, ◌++◌, ◌+◌, ◌≤◌, ◌<◌, ◌^◌, [], Some, IfErr, IfOk, OnErr, OnOk, length, is_some};
 ghost use Rattle.ssh_kex.specs.Refusals.{IsCreated};
-ghost use Rattle.ssh_kex.specs.Stages.{Created, is_strict, names_of, has_ignored};
+ghost use Rattle.ssh_kex.specs.Stages.{Created, is_strict, names_in_stage, has_ignored};
 ghost use Rattle.ssh_kex.specs.Stepping.{Progresses, RefusesStep, asks_agreement, asks_groups, asks_hosts, next_of};
 ghost use Rattle.ssh_packet.specs.Sealing.{Item};
 ghost use Rattle.ssh_packet.specs.Writing.{SameButRoom};
@@ -102,7 +102,7 @@ impl<'c> SessionKex<'c> {
 
     /// Whether the peer's KEXINIT was read.
     pub(crate) fn peer_kexinit_received(&self) -> bool
-        ensures { result ≡ is_some (names_of self.now.stage) }
+        ensures { result ≡ is_some (names_in_stage self.now.stage) }
     {
         match &self.side {
             SideKex::Client(kex) => kex.peer_kexinit_received(),
@@ -112,7 +112,7 @@ impl<'c> SessionKex<'c> {
 
     /// Whether the exchange is strict, as far as the peer's KEXINIT was read.
     pub(crate) fn strict_kex(&self) -> bool
-        ensures { result ≡ is_strict (names_of self.now.stage) }
+        ensures { result ≡ is_strict (names_in_stage self.now.stage) }
     {
         match &self.side {
             SideKex::Client(kex) => kex.strict_kex(),
@@ -122,7 +122,7 @@ impl<'c> SessionKex<'c> {
 
     /// Whether a wrong guess of the peer was dropped.
     pub(crate) fn guess_ignored(&self) -> bool
-        ensures { result ≡ has_ignored (names_of self.now.stage) }
+        ensures { result ≡ has_ignored (names_in_stage self.now.stage) }
     {
         match &self.side {
             SideKex::Client(kex) => kex.guess_ignored(),

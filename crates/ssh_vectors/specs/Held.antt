@@ -4,8 +4,8 @@ use Rattle.ssh_vectors.specs.Memory.{MemoryLeft, MemoryHeld}
 use Rattle.ssh_vectors.specs.declared.memory.MemorySource.TheInside as source
 use Rattle.ssh_vectors.specs.declared.memory.MemorySink.TheInside as sink
 
-abbrev pub left_of : source.Inside → MemoryLeft
-left_of s = record { left = drop s.at s.bytes.items; fails = s.fails.items; calls = s.calls; faults = s.faults }
+abbrev pub memory_left_of : source.Inside → MemoryLeft
+memory_left_of s = record { left = drop s.at s.bytes.items; fails = s.fails.items; calls = s.calls; faults = s.faults }
 
 abbrev pub IsSource : source.Inside → Type 0
 IsSource s = s.at ≤ length s.bytes.items

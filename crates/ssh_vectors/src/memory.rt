@@ -23,9 +23,9 @@ impl Model for MemorySource {
 
     ghost Value = { MemoryLeft };
 
-    ghost use Rattle.ssh_vectors.specs.Held.{left_of, IsSource};
+    ghost use Rattle.ssh_vectors.specs.Held.{memory_left_of, IsSource};
 
-    ghost view = { left_of };
+    ghost view = { memory_left_of };
 
     ghost invariant = { IsSource };
 }

@@ -4,7 +4,7 @@ ghost use Rattle.std.specs.Prelude.{◌≡◌, ◌∷◌, [], List, IfErr, IfOk,
 ghost use Rattle.ssh_kex.specs.Parts.{between};
 ghost use Rattle.ssh_rules.specs.Headline.{chosen_by, kind_by};
 ghost use Rattle.ssh_rules.specs.RunLaws.{config_of};
-ghost use Rattle.ssh_run.specs.RunCauses.{IsValidRun, offered_by};
+ghost use Rattle.ssh_run.specs.RunCauses.{IsValidRun, offered_on};
 ghost use Rattle.ssh_service.specs.Answers.{StandsFor};
 ghost use Rattle.ssh_service.specs.Extensions.{AreExtensions};
 ghost use Rattle.ssh_service.specs.Messages.{IsMessage, spelling};
@@ -48,7 +48,7 @@ pub fn ask_for_service<A: Agreement, H: HostKeys, G: GroupLookup, R: Rng>(
         → G.lawful parts.old.1.groups (between client.now server.now)
         → IfOk result (IsGranted name.now extensions) }
     ensures complete { IsValidRun (config_of (between client.now server.now))
-        (offered_by (A.offered parts.old.0.agreement) (A.offered parts.old.1.agreement)) []
+        (offered_on (A.offered parts.old.0.agreement) (A.offered parts.old.1.agreement)) []
         → IsServiceName name.now
         → A.obliging parts.old.0.agreement parts.new.0.agreement (between client.now server.now)
         → A.obliging parts.old.1.agreement parts.new.1.agreement (between client.now server.now)

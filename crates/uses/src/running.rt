@@ -1,7 +1,7 @@
 //! What a caller knows of every cipher and every MAC, by their traits.
 
 ghost use Rattle.std.specs.Prelude.{◌≡◌, IsTrue, length};
-ghost use Rattle.ssh_aes.specs.Laws.{AreBytes};
+ghost use Rattle.ssh_aes.specs.Laws.{AreOctets};
 ghost use Rattle.ssh_mac.specs.Tags.{tag_length};
 
 use ssh_aes::BlockStreamCipher;
@@ -9,7 +9,7 @@ use ssh_mac::mac::Mac;
 
 /// Encrypts a text, and decrypts it by an equal cipher. It is whole again, and both ciphers are equal again.
 pub fn there_and_back<C: BlockStreamCipher>(sealing: &mut C, opening: &mut C, bytes: &mut [u8])
-    requires bytes { AreBytes bytes.old }
+    requires bytes { AreOctets bytes.old }
     requires equal { C.running sealing.old ≡ C.running opening.old }
     ensures same { bytes.new ≡ bytes.old }
     ensures equal { C.running sealing.new ≡ C.running opening.new }

@@ -12,7 +12,7 @@ use Rattle.ssh_rules.specs.LinkCauses.{Rises, rises_of, unobliged_of}
 use Rattle.ssh_rules.proofs.Lemmas.{AreLawful, Tells}
 use Rattle.ssh_run.specs.Reports.{IsWholeReport}
 use Rattle.ssh_run.specs.RefusedCarrying.{Telling, telling_of}
-use Rattle.ssh_run.specs.RunCauses.{offered_by, rises_by}
+use Rattle.ssh_run.specs.RunCauses.{offered_on, rises_by}
 use Rattle.ssh_run.proofs.GoodSubmits.{steps_good}
 use Rattle.ssh_run.proofs.RefusedLinks.{any_run_cause, if_refused, lawful_causes, obliging_complete, ok_good, run_cause, says_in, tells_by}
 use Rattle.ssh_run.proofs.AskedRuns.{all_asked}
@@ -89,7 +89,7 @@ returns-clause-causes g c = λ la lb lh li lg.
       canonical = λ sizes group f. (f t lg).1;
     } in m) in
     if_refused c.carry_steps.result c.carry_steps.ensures.refused
-    (λ e r. run_cause tell (config_of t) rises (offered_by (g.A.Agreement.offered c.args.client_parts.now.agreement) (g.A.Agreement.offered c.args.server_parts.now.agreement)) (g.G.GroupLookup.group c.args.server_parts.now.groups c.args.client.now.gex) c.args.steps.now e lawful
+    (λ e r. run_cause tell (config_of t) rises (offered_on (g.A.Agreement.offered c.args.client_parts.now.agreement) (g.A.Agreement.offered c.args.server_parts.now.agreement)) (g.G.GroupLookup.group c.args.server_parts.now.groups c.args.client.now.gex) c.args.steps.now e lawful
     (λ v. lawful_causes g.A.Agreement.lawful g.A.Agreement.obliging g.A.Agreement.offered g.A.Agreement.client_makes g.A.Agreement.server_makes g.A.Agreement.agrees g.A.Agreement.refusals g.H.HostKeys.lawful g.H.HostKeys.signs g.H.HostKeys.judges g.H.HostKeys.accepts g.H.HostKeys.trusts g.H.HostKeys.makes g.H.HostKeys.refused_sign g.H.HostKeys.refused_verify g.H.HostKeys.refused_check g.G.GroupLookup.lawful g.G.GroupLookup.obliging g.G.GroupLookup.group g.G.GroupLookup.refusals (record { agreement = g.met.A.Agreement.obliging_lawful; lookup = g.met.G.GroupLookup.obliging_lawful; fits = g.met.G.GroupLookup.fitting; accepted = g.met.H.HostKeys.judges_accepts; trusted = g.met.H.HostKeys.judges_trusts }) g.met.G.GroupLookup.small t c.args.client_parts.now.agreement c.carry_steps.new.client_parts.agreement c.args.server_parts.now.agreement c.carry_steps.new.server_parts.agreement c.args.client_parts.now.hosts c.carry_steps.new.client_parts.hosts c.args.server_parts.now.hosts c.carry_steps.new.server_parts.hosts c.args.client_parts.now.groups c.carry_steps.new.client_parts.groups c.args.server_parts.now.groups c.carry_steps.new.server_parts.groups la lb lh li lg (lawful v))
     (λ v. of_sides (λ s. IsWholeId (config_of t s)) (whole_id Client c.args.client.now (v Client) c.see_types.ensures.text) (whole_id Server c.args.server.now (v Server) c.see_types-2.ensures.text)) r)
 

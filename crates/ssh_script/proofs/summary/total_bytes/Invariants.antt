@@ -1,10 +1,10 @@
 use Rattle.std.proofs.Common.{◌≡◌, ◌+◌, ◌≤◌, length, min}
-use Rattle.ssh_script.specs.Summary.{bytes_in, largest}
+use Rattle.ssh_script.specs.Summary.{bytes_together, largest}
 use Rattle.ssh_script.proofs.summary.total_bytes.Given as goal
 
 abbrev pub invariant-loop-rest : goal.invariant-loop-rest
 invariant-loop-rest l = record {
-  total : min (l.sum + bytes_in l.rest) largest ≡ min (bytes_in l.payloads) largest;
+  total : min (l.sum + bytes_together l.rest) largest ≡ min (bytes_together l.payloads) largest;
   small : l.sum ≤ largest;
 }
 

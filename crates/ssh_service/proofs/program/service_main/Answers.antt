@@ -1,6 +1,6 @@
 use Rattle.std.proofs.Common.{◌≡◌, inl, inr, ◌∙◌, sym, subst}
 use Rattle.ssh_program.specs.Statuses.{report_written, script_faulty}
-use Rattle.ssh_service.specs.Program.{Shows}
+use Rattle.ssh_service.specs.Program.{ShowsAnswers}
 use Rattle.ssh_service.proofs.ServiceEnds.{faulty_sure, refused_ample, refused_unfailed, served_sure, shown_whole, written_ample, written_unfailed, written_unrefused, written_whole}
 use Rattle.ssh_service.proofs.program.service_main.Goals as goal
 
@@ -22,7 +22,7 @@ pub returns-clause-silent : goal.returns-clause-silent
 returns-clause-silent g c ended =
     let e : c.with.result.status ≡ c.run_program-ended.result.status = c.with.ensures.status in
     let h = c.run_program-ended.ensures.silent (rw (sym e) ended) in
-    (subst (λ answer. Shows answer c.with.result) h.0 c.with.ensures.shown, h.1)
+    (subst (λ answer. ShowsAnswers answer c.with.result) h.0 c.with.ensures.shown, h.1)
 
 pub returns-clause-served : goal.returns-clause-served
 returns-clause-served g c is read sink =

@@ -1,9 +1,9 @@
-use Rattle.ssh_run.specs.LinkEnds.{end_of}
+use Rattle.ssh_run.specs.LinkEnds.{carried_end}
 use Rattle.ssh_run.proofs.Asking.{always_err, fed_asks, kept_piece}
 use Rattle.ssh_run.proofs.link_end.LinkEnd.deliver.Goals as goal
 
 pub returns-in_err-append-clause-asked : goal.returns-in_err-append-clause-asked
-returns-in_err-append-clause-asked g c = λ l. always_err c.from_residual-in_err-append.result _ (kept_piece _ (end_of c.args.self.now) c.feed.new.self c.args.wire.now c.rest_of-waiting.result.now c.args.count c.min-count.result _ _ c.rest_of-waiting.ensures c.min-count.ensures c.in_ok-feed.ensures.fed c.in_ok-feed.ensures.calls)
+returns-in_err-append-clause-asked g c = λ l. always_err c.from_residual-in_err-append.result _ (kept_piece _ (carried_end c.args.self.now) c.feed.new.self c.args.wire.now c.rest_of-waiting.result.now c.args.count c.min-count.result _ _ c.rest_of-waiting.ensures c.min-count.ensures c.in_ok-feed.ensures.fed c.in_ok-feed.ensures.calls)
 
 pub returns-clause-asks : goal.returns-clause-asks
 returns-clause-asks g c = fed_asks _ c.args.self.now.transport c.feed.new.self c.take_delivered.new.self _ _ _ c.in_ok-feed.ensures.fed c.take_delivered.ensures.left c.in_ok-feed.ensures.calls

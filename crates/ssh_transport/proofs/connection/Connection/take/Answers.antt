@@ -1,7 +1,7 @@
 use Rattle.std.proofs.Common.{Bool, [], Ok, drop, ap, ◌∙◌}
 use Rattle.ssh_kex.specs.Stepping.{says_of}
 use Rattle.ssh_kex.specs.declared.config.Config.{Config}
-use Rattle.ssh_transport.specs.States.{emptied, reading_of, with_more}
+use Rattle.ssh_transport.specs.States.{emptied, reading_spot, with_more}
 use Rattle.std.proofs.lemmas.Result.{err_from_is_err_and}
 use Rattle.ssh_transport.proofs.Asking.{between_heard, between_join, to_later, to_still, where_ok}
 use Rattle.ssh_transport.proofs.Failing.{fails_kept, fails_read}
@@ -23,7 +23,7 @@ returns-then-is_heard-clause-took g c = takes_read (λ (x : Config). says_of g.A
     (c.hear.ensures.whole (c.in_ok-is_heard.was ∙ ap (λ (b : Bool). Ok b) c.if-is_heard.true)) (reads_sliced _ c.hear.new.self c.read_all.new.self c.read_all.result _ (drop c.keep-kept.result c.args.piece.now) (slice_behind c.keep-kept.result c.args.piece.now) c.read_all.ensures.reads) c.read_all.ensures.part
 
 pub returns-clause-took : goal.returns-clause-took
-returns-clause-took g c = takes_none _ (emptied c.args.self.now) c.hear.new.self _ (hears_all c.args.self.now c.keep-kept.new.self c.hear.new.self c.args.piece.now [] c.keep-kept.result _ c.keep-kept.ensures.rest c.keep-kept.ensures.taken (all_kept c.args.self.now c.keep-kept.new.self c.args.piece.now [] c.keep-kept.result _ c.keep-kept.ensures.rest c.keep-kept.ensures.taken c.keep-kept.ensures.within c.keep-kept.ensures.all (c.hear.ensures.part (c.in_ok-is_heard.was ∙ ap (λ (b : Bool). Ok b) c.if-is_heard.false)).1) c.in_ok-is_heard.ensures.heard) (part_nothing (reading_of c.hear.new.self) c.hear.new.self.reader.waiting (c.hear.ensures.part (c.in_ok-is_heard.was ∙ ap (λ (b : Bool). Ok b) c.if-is_heard.false)).0)
+returns-clause-took g c = takes_none _ (emptied c.args.self.now) c.hear.new.self _ (hears_all c.args.self.now c.keep-kept.new.self c.hear.new.self c.args.piece.now [] c.keep-kept.result _ c.keep-kept.ensures.rest c.keep-kept.ensures.taken (all_kept c.args.self.now c.keep-kept.new.self c.args.piece.now [] c.keep-kept.result _ c.keep-kept.ensures.rest c.keep-kept.ensures.taken c.keep-kept.ensures.within c.keep-kept.ensures.all (c.hear.ensures.part (c.in_ok-is_heard.was ∙ ap (λ (b : Bool). Ok b) c.if-is_heard.false)).1) c.in_ok-is_heard.ensures.heard) (part_nothing (reading_spot c.hear.new.self) c.hear.new.self.reader.waiting (c.hear.ensures.part (c.in_ok-is_heard.was ∙ ap (λ (b : Bool). Ok b) c.if-is_heard.false)).0)
 
 pub returns-in_err-is_heard-clause-fails : goal.returns-in_err-is_heard-clause-fails
 returns-in_err-is_heard-clause-fails g c =
