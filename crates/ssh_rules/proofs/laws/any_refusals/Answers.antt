@@ -1,4 +1,4 @@
-use Rattle.ssh_rules.proofs.AnyRefusals.{any_refused}
+use Rattle.ssh_rules.proofs.refusals.AnyRefusals.{any_refused}
 use Rattle.ssh_rules.proofs.laws.any_refusals.Goals as goal
 
 pub returns : goal.returns

@@ -1,4 +1,4 @@
-use Rattle.ssh_rules.proofs.RunSays.{run_says}
+use Rattle.ssh_rules.proofs.side.RunSays.{run_says}
 use Rattle.ssh_rules.proofs.laws.each_run.Goals as goal
 
 pub returns : goal.returns

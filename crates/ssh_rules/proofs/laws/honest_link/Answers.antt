@@ -1,4 +1,4 @@
-use Rattle.ssh_rules.proofs.LinkIs.{link_is}
+use Rattle.ssh_rules.proofs.headline.LinkIs.{link_is}
 use Rattle.ssh_rules.proofs.laws.honest_link.Goals as goal
 
 pub returns : goal.returns

@@ -1,4 +1,4 @@
-use Rattle.ssh_rules.proofs.NoneRefused.{host_presented}
+use Rattle.ssh_rules.proofs.refusals.NoneRefused.{host_presented}
 use Rattle.ssh_rules.proofs.laws.host_trusted.Goals as goal
 
 pub returns : goal.returns

@@ -1,4 +1,4 @@
-use Rattle.ssh_rules.proofs.Attacked.{run_keyed}
+use Rattle.ssh_rules.proofs.any_bytes.Attacked.{run_keyed}
 use Rattle.ssh_rules.proofs.laws.keyed_run.Goals as goal
 
 pub returns : goal.returns

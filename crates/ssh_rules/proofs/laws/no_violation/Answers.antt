@@ -1,4 +1,4 @@
-use Rattle.ssh_rules.proofs.StrictOrder.{no_violation}
+use Rattle.ssh_rules.proofs.pair.StrictOrder.{no_violation}
 use Rattle.ssh_rules.proofs.laws.no_violation.Goals as goal
 
 pub returns : goal.returns

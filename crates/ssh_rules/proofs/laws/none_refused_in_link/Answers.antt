@@ -2,9 +2,9 @@ use Rattle.std.proofs.Common.{subst}
 use Rattle.ssh_kex.specs.Parts.{KeepsHosts}
 use Rattle.ssh_rules.specs.Refused.{one_of}
 use Rattle.ssh_rules.specs.Refusing.{untrusted_of}
-use Rattle.ssh_rules.proofs.LinkCauses.{none_in_link}
-use Rattle.ssh_rules.proofs.Owed.{duties_of, small_of}
-use Rattle.ssh_rules.proofs.RefusedTurns.{refused_turn}
+use Rattle.ssh_rules.proofs.refusals.LinkCauses.{none_in_link}
+use Rattle.ssh_rules.proofs.refusals.Owed.{duties_of, small_of}
+use Rattle.ssh_rules.proofs.refusals.RefusedTurns.{refused_turn}
 use Rattle.ssh_rules.proofs.laws.none_refused_in_link.Goals as goal
 
 pub returns : goal.returns

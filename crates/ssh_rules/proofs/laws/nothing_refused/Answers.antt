@@ -1,5 +1,5 @@
-use Rattle.ssh_rules.proofs.NoneRefused.{nothing_refused}
-use Rattle.ssh_rules.proofs.Owed.{duties_of, small_of}
+use Rattle.ssh_rules.proofs.refusals.NoneRefused.{nothing_refused}
+use Rattle.ssh_rules.proofs.refusals.Owed.{duties_of, small_of}
 use Rattle.ssh_rules.proofs.laws.nothing_refused.Goals as goal
 
 pub returns : goal.returns

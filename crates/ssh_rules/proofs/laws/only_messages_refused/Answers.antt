@@ -1,4 +1,4 @@
-use Rattle.ssh_rules.proofs.RefusedTurns.{refused_turn}
+use Rattle.ssh_rules.proofs.refusals.RefusedTurns.{refused_turn}
 use Rattle.ssh_rules.proofs.laws.only_messages_refused.Goals as goal
 
 pub returns : goal.returns

@@ -1,5 +1,5 @@
-use Rattle.ssh_rules.proofs.NoneRefused.{parts_decide}
-use Rattle.ssh_rules.proofs.Owed.{small_of}
+use Rattle.ssh_rules.proofs.refusals.NoneRefused.{parts_decide}
+use Rattle.ssh_rules.proofs.refusals.Owed.{small_of}
 use Rattle.ssh_rules.proofs.laws.parts_refuse_alone.Goals as goal
 
 pub returns : goal.returns

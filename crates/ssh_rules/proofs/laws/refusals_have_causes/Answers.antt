@@ -1,7 +1,7 @@
 use Rattle.ssh_kex.specs.Stepping.{says_of}
-use Rattle.ssh_rules.proofs.LinkCauses.{link_cause, offers_by}
-use Rattle.ssh_rules.proofs.Owed.{owes_of, small_of}
-use Rattle.ssh_rules.proofs.RefusedTurns.{AreLawful, refused_turn}
+use Rattle.ssh_rules.proofs.refusals.LinkCauses.{link_cause, offers_by}
+use Rattle.ssh_rules.proofs.refusals.Owed.{owes_of, small_of}
+use Rattle.ssh_rules.proofs.refusals.RefusedTurns.{AreLawful, refused_turn}
 use Rattle.ssh_rules.proofs.laws.refusals_have_causes.Goals as goal
 
 pub returns : goal.returns

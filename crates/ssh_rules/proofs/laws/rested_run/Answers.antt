@@ -1,4 +1,4 @@
-use Rattle.ssh_rules.proofs.RunSays.{rest_says}
+use Rattle.ssh_rules.proofs.side.RunSays.{rest_says}
 use Rattle.ssh_rules.proofs.laws.rested_run.Goals as goal
 
 pub returns : goal.returns

@@ -1,4 +1,4 @@
-use Rattle.ssh_rules.proofs.AttackedLinks.{same_delivered}
+use Rattle.ssh_rules.proofs.any_bytes.AttackedLinks.{same_delivered}
 use Rattle.ssh_rules.proofs.laws.same_delivered.Goals as goal
 
 pub returns : goal.returns

@@ -1,0 +1,15 @@
+pub mod AcceptedNow
+pub mod AllOpened
+pub mod AttackAnswers
+pub mod AttackParts
+pub mod AttackTrace
+pub mod Attacked
+pub mod AttackedLinks
+pub mod AttackedRuns
+pub mod FedLines
+pub mod FedReports
+pub mod FedSides
+pub mod Guessing
+pub mod RefusedNow
+pub mod RunHandled
+pub mod SeenSides

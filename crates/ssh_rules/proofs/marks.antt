@@ -1,0 +1,9 @@
+pub mod Because
+pub mod Caused
+pub mod Effects
+pub mod Marked
+pub mod Moments
+pub mod Moved
+pub mod OneRun
+pub mod StepEffects
+pub mod Trail

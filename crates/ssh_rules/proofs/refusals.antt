@@ -1,0 +1,9 @@
+pub mod AnyRefusals
+pub mod AskedLinks
+pub mod Came
+pub mod LinkCauses
+pub mod NoneRefused
+pub mod Obliged
+pub mod OnlyParts
+pub mod Owed
+pub mod RefusedTurns

@@ -1,0 +1,10 @@
+pub mod Answered
+pub mod Bounded
+pub mod CallTurns
+pub mod LinkBounded
+pub mod LinkFew
+pub mod SettleEnds
+pub mod SettleRoom
+pub mod SnapshotTurns
+pub mod Starts
+pub mod Turns
