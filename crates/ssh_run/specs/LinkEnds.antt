@@ -3,7 +3,7 @@ use Rattle.std.specs.Prelude.{◌≡◌, false}
 use Rattle.ssh_rules.specs.declared.link.Mark.{Mark}
 use Rattle.ssh_rules.specs.declared.link.SideMark.{SideMark}
 use Rattle.ssh_run.specs.Carrying.{CarriedEnd, CarriedLink, both_marks, side_mark}
-use Rattle.ssh_run.specs.declared.link.Link.{Link}
+use Rattle.ssh_run.specs.declared.link.Carrier.{Carrier}
 use Rattle.ssh_run.specs.declared.link_end.LinkEnd.{LinkEnd}
 
 -- one side
@@ -16,11 +16,11 @@ carried_end end = record {
 }
 
 -- both sides
-abbrev pub link_of : Link → CarriedLink
+abbrev pub link_of : Carrier → CarriedLink
 link_of link = record { client = carried_end link.client; server = carried_end link.server }
 
 -- something holds where neither side has failed
-abbrev pub WhereUnfailed : Link → Type 0 → Type 0
+abbrev pub WhereUnfailed : Carrier → Type 0 → Type 0
 WhereUnfailed link holds = link.client.transport.failed ≡ false → link.server.transport.failed ≡ false → holds
 
 -- where a side stands
@@ -28,5 +28,5 @@ abbrev pub end_mark : LinkEnd → SideMark
 end_mark end = side_mark (carried_end end)
 
 -- where both sides stand
-abbrev pub link_mark : Link → Mark
+abbrev pub link_mark : Carrier → Mark
 link_mark link = both_marks (link_of link)

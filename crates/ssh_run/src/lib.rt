@@ -5,10 +5,12 @@
 mod clear_link;
 mod link;
 mod link_end;
+mod link_steps;
 mod receiver;
 mod run;
 mod told;
 
 pub use crate::link::run_link;
+pub use crate::link_steps::Link;
 pub use crate::run::run_clear;
 pub use crate::told::Told;

@@ -28,7 +28,7 @@ use std::alloc::{AllocError, Global};
 
 /// Both sides, and how many exchanges may be begun.
 #[derive(Drop)]
-pub(crate) struct Link<'c> {
+pub(crate) struct Carrier<'c> {
     pub(crate) client: LinkEnd<'c>,
     pub(crate) server: LinkEnd<'c>,
     /// 1, and for each rekey that was asked for 1, and for each payload that was submitted 2.
@@ -159,12 +159,12 @@ fn carry_steps<A: Agreement, H: HostKeys, G: GroupLookup, R: Rng>(
     if let Some(fault) = first_config_fault(client, server) {
         return Err(Error::InvalidConfig(fault));
     }
-    let mut link = Link::new(alloc, client, server)?;
+    let mut link = Carrier::new(alloc, client, server)?;
     let marks = link.run(alloc, client_parts, server_parts, steps)?;
     Ok(link.report(marks)?)
 }
 
-impl<'c> Link<'c> {
+impl<'c> Carrier<'c> {
     ghost use Rattle.ssh_run.specs.Carrying.{FewBehind, HasWaiting, IsNewLink, begun_by, bound_behind, reported_link};
     ghost use Rattle.ssh_run.specs.LinkEnds.{WhereUnfailed, link_mark, link_of};
     ghost use Rattle.ssh_run.specs.RefusedCarrying.{BeginTooMany, IsConfigFault, RefusesSubmit};
@@ -172,21 +172,21 @@ impl<'c> Link<'c> {
     ghost use Rattle.ssh_rules.specs.declared.link.Step.TheVariants.{Deliver, Rekey, Submit};
 
     /// Both sides, each of which has sent its id line.
-    fn new(alloc: Global, client: &'c Config, server: &'c Config) -> Result<Link<'c>, Error>
+    pub(crate) fn new(alloc: Global, client: &'c Config, server: &'c Config) -> Result<Carrier<'c>, Error>
         ensures client { OnOk result (valid.config_fault client_side client.now ≡ None) }
         ensures server { OnOk result (valid.config_fault server_side server.now ≡ None) }
         ensures new { IfOk result (λ link. IsNewLink client.now server.now (link_of link)) }
         ensures bound { IfOk result (λ link. link.bound ≡ 1) }
         ensures refused { IfErr result (λ e. (e ≡ Memory) ⊎ IsConfigFault client.now server.now e) }
     {
-        Ok(Link {
+        Ok(Carrier {
             client: LinkEnd::new(alloc, Transport::client(alloc, client)?),
             server: LinkEnd::new(alloc, Transport::server(alloc, server)?),
             bound: 1,
         })
     }
 
-    fn mark(&self) -> Mark
+    pub(crate) fn mark(&self) -> Mark
         ensures { result ≡ link_mark self.now }
     {
         Mark {
@@ -226,7 +226,7 @@ impl<'c> Link<'c> {
 
     /// Carries out one step.
     #[tactic(auto, using(crate::proofs::Asking::turns_part, crate::proofs::Asking::turns_still))]
-    fn step<A: Agreement, H: HostKeys, G: GroupLookup, R: Rng>(
+    pub(crate) fn step<A: Agreement, H: HostKeys, G: GroupLookup, R: Rng>(
         &mut self,
         client_parts: &mut Parts<A, H, G, R>,
         server_parts: &mut Parts<A, H, G, R>,
@@ -412,7 +412,7 @@ impl<'c> Link<'c> {
     }
 
     /// What both sides did, with these marks. Memory.
-    fn report(self, marks: Vec<Mark>) -> Result<LinkReport, AllocError>
+    pub(crate) fn report(self, marks: Vec<Mark>) -> Result<LinkReport, AllocError>
         ensures { IfOk result (λ report. report ≡ record (reported_link (link_of self.entry) [])
             { marks = marks.items }) }
     {

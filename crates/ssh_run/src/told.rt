@@ -9,7 +9,7 @@ ghost use Rattle.ssh_run.specs.Asking.{LinkAsks, PartAsks, PieceAsks, SideAsks, 
 ghost use Rattle.ssh_run.specs.Carrying.{AsksKeys, CarriesTo, RunsOn, SettlesAll, StepsLink, SubmitsOne, TakesTurns};
 ghost use Rattle.ssh_run.specs.LinkEnds.{carried_end, link_of};
 ghost use Rattle.ssh_run.specs.RefusedCarrying.{RefusesCarrying, RefusesRun, RefusesSettle, RefusesLinkStep, RefusesTurn, Telling, telling_of};
-ghost use Rattle.ssh_run.specs.declared.link.Link.{Link};
+ghost use Rattle.ssh_run.specs.declared.link.Carrier.{Carrier};
 ghost use Rattle.ssh_run.specs.declared.link_end.LinkEnd.{LinkEnd};
 ghost use Rattle.ssh_wire.specs.declared.error.Error.{Error};
 
@@ -70,29 +70,29 @@ impl<A: Agreement, H: HostKeys, G: GroupLookup, R> Told for Parts<A, H, G, R> {
 /// What calls on a link do by what the parts of both sides say, the client's before the server's.
 pub trait LinkTold {
     // A step, a settle, turns of both, and a run with its marks, from one link to the next.
-    ghost steps: { Link → Self → Self → Step → Link → Type 0 };
+    ghost steps: { Carrier → Self → Self → Step → Carrier → Type 0 };
 
-    ghost settles: { Link → Self → Self → Link → Type 0 };
+    ghost settles: { Carrier → Self → Self → Carrier → Type 0 };
 
-    ghost takes_turns: { Link → Self → Self → Link → Type 0 };
+    ghost takes_turns: { Carrier → Self → Self → Carrier → Type 0 };
 
-    ghost runs: { Link → Self → Self → List Step → Link → List Mark → Type 0 };
+    ghost runs: { Carrier → Self → Self → List Step → Carrier → List Mark → Type 0 };
 
     // The same that are refused.
-    ghost refuses_step: { Link → Self → Self → Self → Self → Step → Error → Type 0 };
+    ghost refuses_step: { Carrier → Self → Self → Self → Self → Step → Error → Type 0 };
 
-    ghost refuses_settle: { Link → Self → Self → Self → Self → Error → Type 0 };
+    ghost refuses_settle: { Carrier → Self → Self → Self → Self → Error → Type 0 };
 
-    ghost refuses_turn: { Link → Self → Self → Self → Self → Error → Type 0 };
+    ghost refuses_turn: { Carrier → Self → Self → Self → Self → Error → Type 0 };
 
-    ghost refuses_run: { Link → Self → Self → Self → Self → List Step → Error → Type 0 };
+    ghost refuses_run: { Carrier → Self → Self → Self → Self → List Step → Error → Type 0 };
 
     // How often the parts were asked: of a turn in part, of turns and one in part, of steps and one in part.
-    ghost part_asks: { Link → Self → Self → Self → Self → Type 0 };
+    ghost part_asks: { Carrier → Self → Self → Self → Self → Type 0 };
 
-    ghost turns_ask: { Link → Self → Self → Self → Self → Type 0 };
+    ghost turns_ask: { Carrier → Self → Self → Self → Self → Type 0 };
 
-    ghost steps_ask: { Link → Self → Self → Self → Self → List Step → Type 0 };
+    ghost steps_ask: { Carrier → Self → Self → Self → Self → List Step → Type 0 };
 }
 
 impl<A: Agreement, H: HostKeys, G: GroupLookup, R> LinkTold for Parts<A, H, G, R> {

@@ -21,6 +21,7 @@ pub use crate::generated::generated_script;
 pub use crate::link_report::{print_attack, print_report};
 pub use crate::link_script::{AttackForms, RunForms, parse_script};
 pub use crate::report::{ClearReport, ClearSide};
+pub use crate::report_line::push_delivered;
 pub use crate::setup::{Script, SideSetup};
 pub use crate::step::ClearStep;
 pub use crate::summary::print_summary;

@@ -5,7 +5,7 @@ ghost use Rattle.ssh_lines.specs.LineFaults.{AreWrong, IsLineFault, IsRefusal};
 ghost use Rattle.ssh_lines.specs.Lines.{said_by};
 ghost use Rattle.ssh_lines.specs.declared.script.ScriptError.TheVariants.{Memory};
 ghost use Rattle.ssh_script.specs.Plans.{HasSmallGroups};
-ghost use Rattle.ssh_script.specs.RunScript.{attack_step, first_plan, link_form, link_script, run_step, settle_of};
+ghost use Rattle.ssh_script.specs.RunScript.{attack_step, first_plan, link_form, link_script, run_step, settle_of, with_default_key};
 
 use crate::given_blobs::GivenBlobs;
 use crate::setting::set;
@@ -56,16 +56,12 @@ pub fn parse_script(alloc: Global, attacked: bool, text: &[u8]) -> Result<Script
 }
 
 /// What all lines of a script of `run` say.
-#[tactic(auto, using(crate::proofs::SmallGroups::first_is_small))]
 fn run_lines(alloc: Global, text: &[u8]) -> Result<Script, ScriptError>
     ensures read { IfOk result (λ script. said_by (link_form false) first_plan text.now ≡ Ok script) }
     ensures small { IfOk result HasSmallGroups }
     ensures fault { IfErr result (λ error. IsRefusal (said_by (link_form false) first_plan text.now) error) }
 {
-    let mut forms = RunForms {
-        script: first_script(alloc)?,
-        given: GivenBlobs::new(alloc),
-    };
+    let mut forms = RunForms::new(alloc)?;
     take_script(alloc, &mut forms, text)?;
     Ok(forms.script)
 }
@@ -101,6 +97,34 @@ fn first_script(alloc: Global) -> Result<Script, ScriptError>
 pub struct RunForms {
     script: Script,
     given: GivenBlobs,
+}
+
+impl RunForms {
+    /// The forms before the first line. Memory.
+    #[tactic(auto, using(crate::proofs::SmallGroups::first_is_small))]
+    pub fn new(alloc: Global) -> Result<RunForms, ScriptError>
+        ensures first { IfOk result (λ forms. ⟦<RunForms as LineForms>⟧.said forms ≡ first_plan) }
+        ensures holds { IfOk result (λ forms. ⟦<RunForms as LineForms>⟧.holds forms) }
+        ensures err { IfErr result (λ e. e ≡ Memory) }
+    {
+        Ok(RunForms {
+            script: first_script(alloc)?,
+            given: GivenBlobs::new(alloc),
+        })
+    }
+
+    /// What all lines said. The server has its one host key where no line gave it another. Memory.
+    #[tactic(auto, using(crate::proofs::SmallGroups::completed_small))]
+    pub fn finish(self, alloc: Global) -> Result<Script, ScriptError>
+        requires { ⟦<RunForms as LineForms>⟧.holds self }
+        ensures said { IfOk result (λ script. script ≡ with_default_key (⟦<RunForms as LineForms>⟧.said self)) }
+        ensures small { IfOk result HasSmallGroups }
+        ensures err { IfErr result (λ e. e ≡ Memory) }
+    {
+        let mut script = self.script;
+        script.complete(alloc)?;
+        Ok(script)
+    }
 }
 
 impl LineForms for RunForms {

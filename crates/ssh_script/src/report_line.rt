@@ -25,7 +25,8 @@ pub(crate) fn room_of(wire: &[u8], delivered: &[Payload]) -> usize
     room
 }
 
-pub(crate) fn push_delivered(
+/// A line for each payload that was delivered to the side, in hex digits. Memory.
+pub fn push_delivered(
     out: &mut Vec<u8>,
     side: Side,
     payloads: &[Payload],

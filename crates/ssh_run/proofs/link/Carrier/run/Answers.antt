@@ -6,7 +6,7 @@ use Rattle.ssh_run.specs.Carrying.{both_marks}
 use Rattle.ssh_run.specs.LinkEnds.{link_of}
 use Rattle.ssh_run.proofs.Asking.{link_behind, link_end, link_none, side_join}
 use Rattle.ssh_run.proofs.LinkSoFar.{bound_next, bound_on, later_tells, later_weaker, run_refused, runs_more, steps_split}
-use Rattle.ssh_run.proofs.link.Link.run.Goals as goal
+use Rattle.ssh_run.proofs.link.Carrier.run.Goals as goal
 
 pub loop-step-preserved : goal.loop-step-preserved
 loop-step-preserved g c = record {

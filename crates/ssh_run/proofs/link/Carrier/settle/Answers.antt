@@ -3,7 +3,7 @@ use Rattle.std.proofs.lemmas.Result.{err_from_is_err_and}
 use Rattle.ssh_transport.proofs.Lemmas.{agreement_after, hosts_after, groups_after}
 use Rattle.ssh_run.proofs.Asking.{always_err, side_join, turns_behind, turns_end}
 use Rattle.ssh_run.proofs.LinkSoFar.{later_tells, later_weaker, settle_refused, turned_more}
-use Rattle.ssh_run.proofs.link.Link.settle.Goals as goal
+use Rattle.ssh_run.proofs.link.Carrier.settle.Goals as goal
 
 pub loop-self-preserved : goal.loop-self-preserved
 loop-self-preserved g c = record {

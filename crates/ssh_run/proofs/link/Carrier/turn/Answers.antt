@@ -1,7 +1,7 @@
 use Rattle.ssh_run.specs.Carrying.{all_bytes}
 use Rattle.ssh_run.specs.LinkEnds.{carried_end, link_of}
 use Rattle.ssh_run.proofs.Asking.{always_err, half_part_of, server_part_of, where_err}
-use Rattle.ssh_run.proofs.link.Link.turn.Goals as goal
+use Rattle.ssh_run.proofs.link.Carrier.turn.Goals as goal
 
 pub returns-in_err-deliver-clause-asked : goal.returns-in_err-deliver-clause-asked
 returns-in_err-deliver-clause-asked g c = λ lc ls. always_err c.from_residual.result _ (server_part_of _ _ (link_of c.args.self.now) c.output.result.now all_bytes _ _ _ c.output.ensures (c.in_err-deliver.ensures.asked ls))

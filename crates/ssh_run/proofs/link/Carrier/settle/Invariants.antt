@@ -6,7 +6,7 @@ use Rattle.ssh_run.specs.Asking.{SideAsks}
 use Rattle.ssh_run.specs.LinkEnds.{link_of}
 use Rattle.ssh_run.specs.RefusedCarrying.{settle_turns}
 use Rattle.ssh_run.proofs.LinkSoFar.{TurnsSoFar}
-use Rattle.ssh_run.proofs.link.Link.settle.Given as goal
+use Rattle.ssh_run.proofs.link.Carrier.settle.Given as goal
 
 abbrev pub invariant-loop-self : goal.invariant-loop-self
 invariant-loop-self g l = record {

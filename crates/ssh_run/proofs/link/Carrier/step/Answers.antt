@@ -1,7 +1,7 @@
 use Rattle.ssh_run.specs.LinkEnds.{link_of}
 use Rattle.ssh_run.proofs.Asking.{always_err, turns_still}
 use Rattle.ssh_run.proofs.LinkSoFar.{few_delivered, few_rekeyed, few_settled, few_submitted}
-use Rattle.ssh_run.proofs.link.Link.step.Goals as goal
+use Rattle.ssh_run.proofs.link.Carrier.step.Goals as goal
 
 pub returns-in-Submit-clause-asked : goal.returns-in-Submit-clause-asked
 returns-in-Submit-clause-asked g c = λ lc ls. always_err c.submit.result _ (turns_still _ _ (link_of c.args.self.now) _ _ _ _ c.submit.ensures.calls_client c.submit.ensures.calls_server)

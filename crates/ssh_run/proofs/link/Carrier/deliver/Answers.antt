@@ -1,6 +1,6 @@
 use Rattle.ssh_run.specs.LinkEnds.{link_of}
 use Rattle.ssh_run.proofs.Asking.{client_part_of, server_part_of, where_err}
-use Rattle.ssh_run.proofs.link.Link.deliver.Goals as goal
+use Rattle.ssh_run.proofs.link.Carrier.deliver.Goals as goal
 
 pub returns-in-Client-clause-asked : goal.returns-in-Client-clause-asked
 returns-in-Client-clause-asked g c = λ lc ls. where_err c.deliver.result _ _ (client_part_of _ _ (link_of c.args.self.now) c.output.result.now c.args.count _ _ _ c.output.ensures) (c.deliver.ensures.asked lc)

@@ -7,7 +7,7 @@ use Rattle.ssh_run.specs.Asking.{SideAsks}
 use Rattle.ssh_run.specs.Carrying.{bound_after}
 use Rattle.ssh_run.specs.LinkEnds.{link_of}
 use Rattle.ssh_run.proofs.LinkSoFar.{RunsSoFar}
-use Rattle.ssh_run.proofs.link.Link.run.Given as goal
+use Rattle.ssh_run.proofs.link.Carrier.run.Given as goal
 
 abbrev pub invariant-loop-step : goal.invariant-loop-step
 invariant-loop-step g l = record {
