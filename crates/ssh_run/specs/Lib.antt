@@ -3,6 +3,7 @@ pub mod ClearRun
 pub mod Delivering
 pub mod Receiving
 pub mod Carrying
+pub mod Stepping
 pub mod Asking
 pub mod RefusedCarrying
 pub mod RunCauses

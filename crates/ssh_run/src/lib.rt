@@ -13,4 +13,4 @@ mod told;
 pub use crate::link::run_link;
 pub use crate::link_steps::Link;
 pub use crate::run::run_clear;
-pub use crate::told::Told;
+pub use crate::told::{Stepped, Told};

@@ -172,7 +172,11 @@ impl<'c> Carrier<'c> {
     ghost use Rattle.ssh_rules.specs.declared.link.Step.TheVariants.{Deliver, Rekey, Submit};
 
     /// Both sides, each of which has sent its id line.
-    pub(crate) fn new(alloc: Global, client: &'c Config, server: &'c Config) -> Result<Carrier<'c>, Error>
+    pub(crate) fn new(
+        alloc: Global,
+        client: &'c Config,
+        server: &'c Config,
+    ) -> Result<Carrier<'c>, Error>
         ensures client { OnOk result (valid.config_fault client_side client.now ≡ None) }
         ensures server { OnOk result (valid.config_fault server_side server.now ≡ None) }
         ensures new { IfOk result (λ link. IsNewLink client.now server.now (link_of link)) }

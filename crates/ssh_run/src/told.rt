@@ -9,6 +9,7 @@ ghost use Rattle.ssh_run.specs.Asking.{LinkAsks, PartAsks, PieceAsks, SideAsks, 
 ghost use Rattle.ssh_run.specs.Carrying.{AsksKeys, CarriesTo, RunsOn, SettlesAll, StepsLink, SubmitsOne, TakesTurns};
 ghost use Rattle.ssh_run.specs.LinkEnds.{carried_end, link_of};
 ghost use Rattle.ssh_run.specs.RefusedCarrying.{RefusesCarrying, RefusesRun, RefusesSettle, RefusesLinkStep, RefusesTurn, Telling, telling_of};
+ghost use Rattle.ssh_run.specs.Stepping.{LinkState, TakesStep};
 ghost use Rattle.ssh_run.specs.declared.link.Carrier.{Carrier};
 ghost use Rattle.ssh_run.specs.declared.link_end.LinkEnd.{LinkEnd};
 ghost use Rattle.ssh_wire.specs.declared.error.Error.{Error};
@@ -139,4 +140,22 @@ impl<A: Agreement, H: HostKeys, G: GroupLookup, R> LinkTold for Parts<A, H, G, R
         (⟦<Parts<A, H, G, R> as Handed>⟧.says l.server.transport.config q) steps (link_of l)
         (⟦<Parts<A, H, G, R> as Asked>⟧.calls p) (⟦<Parts<A, H, G, R> as Asked>⟧.calls p')
         (⟦<Parts<A, H, G, R> as Asked>⟧.calls q) (⟦<Parts<A, H, G, R> as Asked>⟧.calls q') };
+}
+
+/// What a step of a link does, and why it is refused, by what the parts of both sides say, the client's before the
+/// server's.
+pub trait Stepped {
+    ghost takes_step: { LinkState → Self → Self → Step → LinkState → Type 0 };
+
+    ghost refuses_it: { LinkState → Self → Self → Self → Self → Step → Error → Type 0 };
+}
+
+impl<A: Agreement, H: HostKeys, G: GroupLookup, R> Stepped for Parts<A, H, G, R> {
+    ghost takes_step = { λ l p q step l'. TakesStep
+        (⟦<Parts<A, H, G, R> as Handed>⟧.says l.carried.client.transport.config p)
+        (⟦<Parts<A, H, G, R> as Handed>⟧.says l.carried.server.transport.config q) step l l' };
+
+    ghost refuses_it = { λ l p p' q q' step e. RefusesLinkStep
+        (⟦<Parts<A, H, G, R> as Told>⟧.telling l.carried.client.transport.config p p')
+        (⟦<Parts<A, H, G, R> as Told>⟧.telling l.carried.server.transport.config q q') l.bound step l.carried e };
 }

@@ -26,11 +26,7 @@ pub(crate) fn room_of(wire: &[u8], delivered: &[Payload]) -> usize
 }
 
 /// A line for each payload that was delivered to the side, in hex digits. Memory.
-pub fn push_delivered(
-    out: &mut Vec<u8>,
-    side: Side,
-    payloads: &[Payload],
-) -> Result<(), Error>
+pub fn push_delivered(out: &mut Vec<u8>, side: Side, payloads: &[Payload]) -> Result<(), Error>
     ensures ok { OnOk result (out.new.items ≡ out.old.items ++ delivered_lines side payloads.now) }
     ensures err { IfErr result (λ e. e ≡ Memory) }
 {

@@ -49,7 +49,7 @@ pub fn ask_for_service<A: Agreement, H: HostKeys, G: GroupLookup, R: Rng>(
         → A.lawful parts.old.1.agreement (between client.now server.now)
         → G.lawful parts.old.1.groups (between client.now server.now)
         → IfOk result (λ granted. IsLink A.client_makes A.server_makes A.agrees client.now server.now
-            (granting_steps name.now extensions) granted.report) }
+        (granting_steps name.now extensions) granted.report) }
     ensures answered { IfOk result (λ granted. granted.answers.items
         ≡ answers_from (name.now ∷ []) [] granted.report.server.delivered) }
     ensures granted { A.lawful parts.old.0.agreement (between client.now server.now)
