@@ -22,6 +22,7 @@ LAYERS = [
     ("One side of a connection", ["ssh_transport"]),
     ("One exchange of keys", ["ssh_client_kex", "ssh_server_kex"]),
     ("The rules without code, and parts for tests", ["ssh_rules", "ssh_vectors"]),
+    ("Real parts: finite fields and RSA", ["ssh_modp"]),
     ("The exchange hash, keys, and what is handed in", ["ssh_kex"]),
     ("KEXINIT, and the choice of names", ["ssh_negotiate"]),
     ("Packets", ["ssh_packet"]),
@@ -31,7 +32,7 @@ LAYERS = [
     ("Proved callers", ["uses"]),
     ("Rows of values, and the programs that compare them",
      ["vector_rows", "machine_rows", "check_vectors", "check_exchange", "check_machines", "check_transport",
-      "check_replay", "check_services", "check_powers"]),
+      "check_replay", "check_services", "check_powers", "check_parts"]),
     ("Programs that are measured", ["speed_aes", "speed_power", "speed_packets", "speed_link"]),
 ]
 

@@ -5,8 +5,8 @@
 # answers spoiled, of which none may pass: no contract says what these programs answer, so this shows that they compare.
 # Files of vectors/exchange/ are read by the program crates/check_exchange, vectors/machines/steps.txt by
 # crates/check_machines, vectors/machines/transport.txt by crates/check_transport, vectors/services.txt by
-# crates/check_services, vectors/powers.txt by crates/check_powers, those of vectors/peers/ by crates/check_replay and by
-# crates/check_vectors, all others by the latter.
+# crates/check_services, vectors/powers.txt by crates/check_powers, vectors/parts.txt by crates/check_parts, those of
+# vectors/peers/ by crates/check_replay and by crates/check_vectors, all others by the latter.
 # Where a program is missing, or older than its sources, it is proved and built first.
 set -u
 case ${1:-} in
@@ -54,7 +54,7 @@ read_by() {
   fi
 }
 
-for program in check_vectors check_exchange check_machines check_transport check_replay check_services check_powers; do
+for program in check_vectors check_exchange check_machines check_transport check_replay check_services check_powers check_parts; do
   build "$program"
 done
 if [ $# = 0 ]; then
@@ -69,6 +69,7 @@ for file in "${files[@]}"; do
     */machines/*) read_by check_machines "$file" ;;
     */services.txt) read_by check_services "$file" ;;
     */powers.txt) read_by check_powers "$file" ;;
+    */parts.txt) read_by check_parts "$file" ;;
     */peers/*) read_by check_vectors "$file"; read_by check_replay "$file" ;;
     *) read_by check_vectors "$file" ;;
   esac

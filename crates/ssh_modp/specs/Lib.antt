@@ -1,0 +1,9 @@
+pub mod Primes
+pub mod Fields
+pub mod OneSecret
+pub mod Counts
+pub mod Groups
+pub mod PrimeSizes
+pub mod Rsa
+pub mod Keys
+pub mod Hosts
