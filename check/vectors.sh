@@ -5,7 +5,7 @@
 # answers spoiled, of which none may pass: no contract says what these programs answer, so this shows that they compare.
 # Files of vectors/exchange/ are read by the program crates/check_exchange, vectors/machines/steps.txt by
 # crates/check_machines, vectors/machines/transport.txt by crates/check_transport, vectors/services.txt by
-# crates/check_services, vectors/powers.txt by crates/check_powers, vectors/parts.txt by crates/check_parts, those of
+# crates/check_services, vectors/powers.txt by crates/check_powers, vectors/real_parts.txt by crates/check_parts, those of
 # vectors/peers/ by crates/check_replay and by crates/check_vectors, all others by the latter.
 # Where a program is missing, or older than its sources, it is proved and built first.
 set -u
@@ -69,7 +69,7 @@ for file in "${files[@]}"; do
     */machines/*) read_by check_machines "$file" ;;
     */services.txt) read_by check_services "$file" ;;
     */powers.txt) read_by check_powers "$file" ;;
-    */parts.txt) read_by check_parts "$file" ;;
+    */real_parts.txt) read_by check_parts "$file" ;;
     */peers/*) read_by check_vectors "$file"; read_by check_replay "$file" ;;
     *) read_by check_vectors "$file" ;;
   esac
