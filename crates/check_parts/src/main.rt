@@ -176,12 +176,21 @@ fn signed(row: &mut Row<'_>, found: &mut String) -> Result<(), Fault> {
         blob: Blob::new(blob),
         private: Blob::new(row.bytes()?),
     };
-    let hash = HashValue::of(row.bytes()?.as_slice());
+    let hash = hash_in(row)?;
     let mut hosts = RsaHosts::new(Some(private), Vec::new(row.alloc()));
     match hosts.sign(row.alloc(), &key, algorithm, &hash) {
         Ok(signature) => say_bytes(found, signature.as_slice()),
         Err(refusal) => say_refusal(refusal, found),
     }
+}
+
+/// A hash, of at most 64 bytes.
+fn hash_in(row: &mut Row<'_>) -> Result<HashValue, Fault> {
+    let bytes = row.bytes()?;
+    if bytes.as_slice().len() > 64 {
+        return Err(Fault::Malformed);
+    }
+    Ok(HashValue::of(bytes.as_slice()))
 }
 
 fn host_in(row: &mut Row<'_>) -> Result<ServerHost, Fault> {
@@ -195,7 +204,7 @@ fn host_in(row: &mut Row<'_>) -> Result<ServerHost, Fault> {
 /// `verify ALGORITHM BLOB HASH SIGNATURE`
 fn verified(row: &mut Row<'_>, found: &mut String) -> Result<(), Fault> {
     let host = host_in(row)?;
-    let hash = HashValue::of(row.bytes()?.as_slice());
+    let hash = hash_in(row)?;
     let signature = row.bytes()?;
     let mut hosts = RsaHosts::new(None, Vec::new(row.alloc()));
     match hosts.verify(row.alloc(), &host, &hash, signature.as_slice()) {
@@ -212,7 +221,7 @@ fn trusted(row: &mut Row<'_>, found: &mut String) -> Result<(), Fault> {
         blob: Blob::new(row.bytes()?),
     };
     let mut known = Vec::new(row.alloc());
-    while row.left() > 0 {
+    for _ in 0..row.left() {
         known.push(Blob::new(row.bytes()?))?;
     }
     match RsaHosts::new(None, known).check(row.alloc(), &host) {
