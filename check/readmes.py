@@ -18,6 +18,7 @@ LAYERS = [
     ("The programs", ["sshlink", "sshservice"]),
     ("From a script's text to a report's text", ["ssh_link"]),
     ("Two sides joined, two sides fed any bytes, scripts and reports", ["ssh_run", "ssh_attack", "ssh_script"]),
+    ("Records of links, without code", ["ssh_record"]),
     ("Services and extension info: over a transport, and of a script", ["ssh_service"]),
     ("One side of a connection", ["ssh_transport"]),
     ("One exchange of keys", ["ssh_client_kex", "ssh_server_kex"]),
