@@ -9,6 +9,7 @@ use Rattle.ssh_wire.specs.declared.side.Side.TheVariants.{Client, Server}
 use Rattle.ssh_wire.specs.declared.ssh_id.SshId.{SshId}
 use Rattle.ssh_packet.specs.Sealing.{Item, Clear, padding_length, longest_payload}
 use Rattle.ssh_packet.specs.Stream.{packets}
+use Rattle.ssh_rules.specs.Valid.{is_bad_size}
 use Rattle.ssh_script.specs.declared.report.ClearReport.{ClearReport}
 use Rattle.ssh_script.specs.declared.report.ClearSide.{ClearSide}
 use Rattle.ssh_script.specs.declared.step.ClearStep.{ClearStep}
