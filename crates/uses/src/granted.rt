@@ -2,10 +2,10 @@
 
 ghost use Rattle.std.specs.Prelude.{◌≡◌, ◌∷◌, [], List, IfErr, IfOk, OnOk, map, true};
 ghost use Rattle.ssh_kex.specs.Parts.{between};
-ghost use Rattle.ssh_rules.specs.Headline.{IsLink, chosen_by, kind_by};
+ghost use Rattle.ssh_rules.specs.Headline.{chosen_by, kind_by};
 ghost use Rattle.ssh_rules.specs.RunLaws.{config_of};
 ghost use Rattle.ssh_run.specs.RunCauses.{IsValidRun, offered_on};
-ghost use Rattle.ssh_service.specs.Answers.{StandsFor, answers_from};
+ghost use Rattle.ssh_service.specs.Answers.{StandsFor};
 ghost use Rattle.ssh_service.specs.Extensions.{AreExtensions};
 ghost use Rattle.ssh_service.specs.Messages.{IsMessage, spelling};
 ghost use Rattle.ssh_service.specs.ServiceNames.{IsServiceName};
@@ -15,7 +15,7 @@ ghost use Rattle.uses.specs.Granted.{AreMessages, IsGranted, granting_steps};
 
 use rand_core::Rng;
 use ssh_kex::{Agreement, Config, GroupLookup, HostKeys, Parts};
-use ssh_rules::link::{LinkReport, Step};
+use ssh_rules::link::Step;
 use ssh_run::run_link;
 use ssh_service::{ExtInfo, ServiceAnswer, ServiceMessage, ServiceName, Services};
 use ssh_wire::{Blob, Error, Payload, Side};
@@ -24,8 +24,6 @@ use std::alloc::Global;
 /// What came of asking for a service.
 #[derive(Debug, Drop)]
 pub struct Granted {
-    /// What the link did.
-    pub report: LinkReport,
     /// The server's answers to what was delivered to it, in order.
     pub answers: Vec<ServiceAnswer>,
     /// The messages that were delivered to the client, in order.
@@ -45,13 +43,6 @@ pub fn ask_for_service<A: Agreement, H: HostKeys, G: GroupLookup, R: Rng>(
     name: &str,
     extensions: ExtInfo,
 ) -> Result<Granted, Error>
-    ensures link { A.lawful parts.old.0.agreement (between client.now server.now)
-        → A.lawful parts.old.1.agreement (between client.now server.now)
-        → G.lawful parts.old.1.groups (between client.now server.now)
-        → IfOk result (λ granted. IsLink A.client_makes A.server_makes A.agrees client.now server.now
-        (granting_steps name.now extensions) granted.report) }
-    ensures answered { IfOk result (λ granted. granted.answers.items
-        ≡ answers_from (name.now ∷ []) [] granted.report.server.delivered) }
     ensures granted { A.lawful parts.old.0.agreement (between client.now server.now)
         → A.lawful parts.old.1.agreement (between client.now server.now)
         → G.lawful parts.old.1.groups (between client.now server.now)
@@ -80,11 +71,7 @@ pub fn ask_for_service<A: Agreement, H: HostKeys, G: GroupLookup, R: Rng>(
     let mut services = offering(alloc, name)?;
     let answers = services.receive_all(report.server.delivered.as_slice())?;
     let told = read_messages(alloc, report.client.delivered.as_slice())?;
-    Ok(Granted {
-        report,
-        answers,
-        told,
-    })
+    Ok(Granted { answers, told })
 }
 
 /// A machine that offers the service of this name alone. SshEncoding where the text isn't the name of a service; Memory.

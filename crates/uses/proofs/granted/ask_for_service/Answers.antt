@@ -1,6 +1,5 @@
 use Rattle.std.proofs.Common.{◌≡◌, ◌∙◌, [], ◌∷◌, ap, sym, subst, true}
 use Rattle.std.proofs.lemmas.Result.{err_from_is_err_and}
-use Rattle.ssh_rules.specs.Headline.{IsLink}
 use Rattle.ssh_run.specs.RunCauses.{all_submits_good}
 use Rattle.ssh_service.specs.Answers.{answers_from}
 use Rattle.ssh_service.specs.declared.message.ServiceMessage.TheVariants.{Accept, Info}
@@ -20,17 +19,6 @@ returns-in_err-told-clause-complete g c valid is oa ob jh sh lg og =
     let p = err_from_is_err_and c.from_residual-in_err-told.result c.from_residual-in_err-told.ensures.1 in
     rw (p.1, p.2)
     ((c.in_err-told.ensures.again (Info c.args.extensions ∷ Accept c.args.name.now ∷ []) (c.in_ok-steps.ensures.told, (c.in_ok-steps.ensures.name, tt)) (c.as_slice-3.ensures ∙ told_both c.args.name.now c.args.extensions _ all)).1)
-
-pub returns-clause-link : goal.returns-clause-link
-returns-clause-link g c la lb lg =
-    subst (λ s. IsLink g.A.Agreement.client_makes g.A.Agreement.server_makes g.A.Agreement.agrees c.args.client.now c.args.server.now s c.in_ok-report.report)
-    (c.as_slice.ensures.value ∙ c.in_ok-steps.ensures.ok) (c.in_ok-report.ensures.link la lb lg)
-
-pub returns-clause-answered : goal.returns-clause-answered
-returns-clause-answered g c =
-    c.in_ok-answers.ensures.answers [] c.in_ok-services.ensures.stands
-    ∙ (ap (answers_from c.in_ok-services.services.offered []) c.as_slice-2.ensures
-    ∙ ap (λ o. answers_from o [] c.in_ok-report.report.server.delivered) c.in_ok-services.ensures.offered)
 
 pub returns-clause-granted : goal.returns-clause-granted
 returns-clause-granted g c la lb lg =
