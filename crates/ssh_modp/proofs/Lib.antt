@@ -1,2 +1,4 @@
 pub mod Values
 pub mod Messages
+pub mod Encoded
+pub mod Blobs

@@ -1,5 +1,5 @@
 -- What is counted of parts.
-use Rattle.std.specs.Prelude.{◌≡◌, ℕ, ◌≤◌, Result}
+use Rattle.std.specs.Prelude.{◌≡◌, ℕ, Result}
 use Rattle.ssh_wire.specs.Outside.{next_count}
 use Rattle.ssh_kex.specs.Parts.{IsRefused}
 use Rattle.ssh_kex.specs.declared.parts.Refusal.{Refusal}

@@ -48,6 +48,25 @@ pub record HasPublicValue (group : DhGroup) (exponent public : List ℕ) : Type 
   pub power : number public ≡ field_power group group.generator exponent
   pub good : is_public_value (number group.prime) public ≡ true
 
+-- what one side reckons of the next 64 drawn bytes is 0, which is no public value
+abbrev pub DrawsZero : DhGroup → Stream → Type 0
+DrawsZero group before = field_power group group.generator (fill_bytes 64 before).0 ≡ 0
+
+-- why no value is made: the name has no group, its prime is no modulus, or the power is 0
+abbrev pub LacksPublic : Name → Option DhGroup → Stream → Type 0
+LacksPublic name group before = (at : DhGroup) → field_group name group ≡ Some at
+    → modulus_fault (number at.prime) ≡ None → DrawsZero at before
+
+-- why no secret is made: the name has no group, its prime is no modulus, or the other side's value is no public value
+abbrev pub LacksSecretOf : Name → Option DhGroup → List ℕ → Type 0
+LacksSecretOf name group public = (at : DhGroup) → field_group name group ≡ Some at
+    → modulus_fault (number at.prime) ≡ None → is_public_value (number at.prime) public ≡ false
+
+-- why a server doesn't agree: it has no secret to make, or no value
+abbrev pub LacksAgreed : Name → Option DhGroup → List ℕ → Stream → Type 0
+LacksAgreed name group public before = (at : DhGroup) → field_group name group ≡ Some at
+    → modulus_fault (number at.prime) ≡ None → is_public_value (number at.prime) public ≡ true → DrawsZero at before
+
 -- Bytes that spell a number, as many as the prime has.
 pub record SpellsSecret (group : DhGroup) (secret : List ℕ) (n : ℕ) : Type 0 where
   pub digits : AreBytes secret

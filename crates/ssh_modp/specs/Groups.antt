@@ -1,5 +1,5 @@
 -- Which group of RFC 3526 a lookup answers (RFC 4419 section 3).
-use Rattle.std.specs.Prelude.{◌≡◌, ℕ, ◌≤◌, nat_le, nat_lt, ◌||◌, if◌then◌else◌, List, [], ◌∷◌}
+use Rattle.std.specs.Prelude.{ℕ, ◌≤◌, nat_le, nat_lt, ◌||◌, if◌then◌else◌, List, [], ◌∷◌}
 use Rattle.ssh_kex.specs.declared.group.DhGroup.{DhGroup}
 use Rattle.ssh_kex.specs.declared.group.GexParams.{GexParams}
 use Rattle.ssh_modp.specs.Primes.{prime_14, prime_15, prime_16}

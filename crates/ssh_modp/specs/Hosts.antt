@@ -1,14 +1,18 @@
 -- RSA host keys: what is signed with one key, and which hosts are known.
-use Rattle.std.specs.Prelude.{◌≡◌, ℕ, Bool, true, List, Option, Result}
+use Rattle.std.specs.Prelude.{◌≡◌, ℕ, ◌+◌, ◌≤◌, Bool, true, List, length, Option, Some, Result}
 use Rattle.std.specs.List.{list_any}
 use Rattle.std.specs.Str.{bytes_eq}
+use Rattle.ssh_mac.specs.Digests.{digest_length}
 use Rattle.ssh_negotiate.specs.declared.preferred.HostKey.{HostKey}
+use Rattle.ssh_wire.specs.Algorithms.{hash_of}
 use Rattle.ssh_wire.specs.Outside.{next_count}
+use Rattle.ssh_wire.specs.declared.algorithm.Algorithm.{Algorithm}
+use Rattle.ssh_wire.specs.declared.algorithm.HashAlg.{HashAlg}
 use Rattle.ssh_kex.specs.Parts.{IsRefused, Presents}
 use Rattle.ssh_kex.specs.declared.config.Config.{Config}
 use Rattle.ssh_kex.specs.declared.exchange.ServerHost.{ServerHost}
 use Rattle.ssh_kex.specs.declared.parts.Refusal.{Refusal}
-use Rattle.ssh_modp.specs.Rsa.{rsa_accepts}
+use Rattle.ssh_modp.specs.Rsa.{IsKeyPair, RsaPublic, digest_info, digest_kind, rsa_accepts, rsa_key}
 
 -- a private key: the blob of its public key, and the private exponent
 pub record RsaSecret : Type 0 where
@@ -31,6 +35,23 @@ is_known known host = list_any (λ (blob : List ℕ). bytes_eq blob host.blob) k
 -- a signature of a host that a server presents: one that its blob accepts
 abbrev pub RsaMakes : Config → ServerHost → List ℕ → List ℕ → Type 0
 RsaMakes server host text signature = rsa_accepts host text signature ≡ true
+
+-- the key signs for a host: its blob is the host's, both exponents undo each other, and each message has room
+pub record SignsAs (key : RsaSecret) (host : ServerHost) : Type 0 where
+  pub blob : key.blob ≡ host.blob
+  pub hash : HashAlg
+  pub hashed : hash_of host.algorithm ≡ Some hash
+  pub public : RsaPublic
+  pub read : rsa_key key.blob ≡ Some public
+  pub pair : IsKeyPair public key.private
+  pub room : length (digest_info hash) + digest_length (digest_kind hash) + 11 ≤ length public.modulus
+
+-- there is a key, and it signs for each host that the server presents
+pub record SignsAll (key : Option RsaSecret) (server : Config) : Type 0 where
+  pub secret : RsaSecret
+  pub held : key ≡ Some secret
+  pub each : (host : ServerHost) (signer : HostKey) (algorithm : Algorithm) → Presents server host signer algorithm
+      → SignsAs secret host
 
 -- each host that the server presents is known
 abbrev pub KnowsAll : List (List ℕ) → Config → Type 0

@@ -1,11 +1,11 @@
 -- What both sides reckon in a field is one secret.
-use Rattle.std.proofs.Common.{◌≡◌, ◌⊎◌, inl, inr, ℕ, List, length, Option, Some, refl, sym, ap, ◌∙◌, subst}
+use Rattle.std.proofs.Common.{◌≡◌, ◌⊎◌, inl, inr, ℕ, List, Option, Some, sym, ap, ◌∙◌, subst}
 use Rattle.ssh_negotiate.specs.declared.kex.Name.{Name}
-use Rattle.ssh_wire.specs.Forms.{number, magnitude}
+use Rattle.ssh_wire.specs.Forms.{number}
 use Rattle.ssh_kex.specs.declared.group.DhGroup.{DhGroup}
 use Rattle.ssh_power.specs.Numbers.{power_modulo}
 use Rattle.ssh_power.proofs.Lemmas.{powers_commute, same_digits}
-use Rattle.ssh_modp.specs.Fields.{AgreesInField, HasPublicValue, MakesPublic, ServerPublic, SpellsSecret, field_group, field_power}
+use Rattle.ssh_modp.specs.Fields.{AgreesInField, HasPublicValue, MakesPublic, ServerPublic, SpellsSecret, field_power}
 
 -- what the client reckons of a server's value, and what the server reckons of the client's
 crossed : (g : DhGroup) (x y client server : List ℕ) → HasPublicValue g x client → HasPublicValue g y server

@@ -1,5 +1,5 @@
 -- The primes of RFC 3526 have no zeros at their front, and so many bits.
-use Rattle.std.proofs.Common.{◌≡◌, ℕ, ◌≤◌, Bool, true, false, nat_le, nat_lt, ◌||◌, if◌then◌else◌, List, length, refl, sym, ap, ◌∙◌, subst, arith}
+use Rattle.std.proofs.Common.{◌≡◌, ℕ, ◌≤◌, Bool, true, false, nat_le, nat_lt, ◌||◌, if◌then◌else◌, List, refl, sym, subst, arith}
 use Rattle.ssh_wire.specs.Forms.{magnitude}
 use Rattle.ssh_kex.specs.Messages.{IsCanonical, bit_size}
 use Rattle.ssh_kex.specs.Parts.{IsSmall}

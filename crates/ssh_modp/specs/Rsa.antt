@@ -1,12 +1,12 @@
 -- RSA signatures of host keys (RFC 8017 sections 8.2.2 and 9.2, RFC 8332).
-use Rattle.std.specs.Prelude.{◌≡◌, ℕ, ◌+◌, ◌-◌, ◌==◌, nat_lt, nat_le, Bool, true, false, not, is_some, ◌&&◌, ◌||◌, if◌then◌else◌, List, [], ◌∷◌, ◌++◌, length, replicate, codes, Option, Some, None, Result, Ok, Err}
+use Rattle.std.specs.Prelude.{◌≡◌, ℕ, ◌+◌, ◌-◌, ◌<◌, ◌≤◌, ◌==◌, nat_lt, nat_le, Bool, true, false, not, is_some, ◌&&◌, if◌then◌else◌, List, [], ◌∷◌, ◌++◌, length, replicate, codes, Option, Some, None, Result, Ok, Err}
 use Rattle.std.specs.Str.{bytes_eq}
 use Rattle.ssh_mac.specs.Digests.{digest_of}
 use Rattle.ssh_mac.specs.declared.digest.DigestKind.{DigestKind}
 use Rattle.ssh_mac.specs.declared.digest.DigestKind.TheVariants as digests
 use Rattle.ssh_wire.specs.Algorithms.{algorithm_name, hash_of}
 use Rattle.ssh_wire.specs.Fields.{◌>>=◌, mpint_at, string_at}
-use Rattle.ssh_wire.specs.Forms.{number}
+use Rattle.ssh_wire.specs.Forms.{AreBytes, number, string}
 use Rattle.ssh_wire.specs.declared.algorithm.Algorithm.{Algorithm}
 use Rattle.ssh_wire.specs.declared.algorithm.HashAlg.{HashAlg}
 use Rattle.ssh_wire.specs.declared.algorithm.HashAlg.TheVariants.{Sha256, Sha512}
@@ -63,6 +63,25 @@ verifies hash text key signature =
     && (length signature == length key.modulus) && nat_lt (number signature) (number key.modulus)
     && is_power_of_message hash text key signature
 
+-- what a private exponent makes of a text: as many bytes as the modulus has
+pub record IsOwnSignature (hash : HashAlg) (text modulus private signature : List ℕ) : Type 0 where
+  pub digits : AreBytes signature
+  pub long : length signature ≡ length modulus
+  pub spelled : number signature
+      ≡ power_modulo (number (encoded_message hash text (length modulus))) (number private) (number modulus)
+
+-- what the private exponent makes of a text is no signature under the public key
+pub record FailsItsTest (hash : HashAlg) (text : List ℕ) (key : RsaPublic) (private : List ℕ) : Type 0 where
+  pub made : List ℕ
+  pub own : IsOwnSignature hash text key.modulus private made
+  pub wrong : verifies hash text key made ≡ false
+
+-- numbers below the modulus come back after both exponents
+pub record IsKeyPair (key : RsaPublic) (private : List ℕ) : Type 0 where
+  pub modulus : modulus_fault (number key.modulus) ≡ None
+  pub undone : (n : ℕ) → n < number key.modulus
+      → power_modulo (power_modulo n (number private) (number key.modulus)) (number key.exponent) (number key.modulus) ≡ n
+
 -- ---- blobs (RFC 4253 section 6.6, RFC 8332 section 3)
 
 -- a value under a name, with nothing behind it
@@ -86,6 +105,19 @@ signature_fields blob = string_at blob >>= λ name. string_at name.1 >>= λ s. O
 
 abbrev pub rsa_signature : Algorithm → List ℕ → Option (List ℕ)
 rsa_signature algorithm blob = under_name (algorithm_name algorithm) (signature_fields blob)
+
+-- a signature's blob of an algorithm
+pub record IsRsaBlob (algorithm : Algorithm) (blob : List ℕ) : Type 0 where
+  pub made : List ℕ
+  pub short : length made ≤ 1024
+  pub spelled : blob ≡ string (algorithm_name algorithm) ++ string made
+
+-- why the key of a blob doesn't sign: no hash, no key of RSA, no modulus, no room for the message, or its signature
+-- isn't one under the public key
+abbrev pub LacksSignature : List ℕ → List ℕ → Algorithm → List ℕ → Type 0
+LacksSignature blob private algorithm text = (hash : HashAlg) (key : RsaPublic) → hash_of algorithm ≡ Some hash
+    → rsa_key blob ≡ Some key → modulus_fault (number key.modulus) ≡ None
+    → has_message hash text (length key.modulus) ≡ true → FailsItsTest hash text key private
 
 -- ---- hosts
 

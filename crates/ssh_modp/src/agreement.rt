@@ -2,10 +2,10 @@
 
 ghost use Rattle.std.specs.Prelude.{◌≡◌, ℕ, List, IfOk};
 ghost use Rattle.std.specs.Option.{option_copied};
-ghost use Rattle.ssh_kex.specs.Parts.{IsSmall, IsValue};
+ghost use Rattle.ssh_kex.specs.Parts.{IsRefused, IsSmall, IsValue};
 ghost use Rattle.ssh_modp.specs.Counts.{CountsAnswer};
-ghost use Rattle.ssh_modp.specs.Fields.{AgreesInField, FieldClientDraws, FieldServerDraws, MakesPublic, ServerPublic};
-ghost use Rattle.ssh_modp.specs.Fields.{SpellsIn, field_group, group_seen};
+ghost use Rattle.ssh_modp.specs.Fields.{AgreesInField, FieldClientDraws, FieldServerDraws, LacksAgreed, LacksPublic};
+ghost use Rattle.ssh_modp.specs.Fields.{LacksSecretOf, MakesPublic, ServerPublic, SpellsIn, field_group, group_seen};
 
 use crate::counts::one_more;
 use crate::field::{agreed_in, own_value, secret_of};
@@ -97,6 +97,7 @@ fn secret_in(
     public: &[u8],
 ) -> Result<Blob, Refusal>
     ensures secret { IfOk result (SpellsIn name (option_copied group.entry) exponent.now public.now) }
+    ensures refused { IsRefused result → LacksSecretOf name (option_copied group.entry) public.now }
     ensures small { IfOk result (λ b. IsSmall b) }
 {
     match group_for(name, group) {
@@ -149,6 +150,7 @@ impl Agreement for FieldAgreement {
             v.public (R.stream rng.new)) }
         ensures made { IfOk result (λ v. MakesPublic name (option_copied group.entry) v.local v.public
             × IsSmall v.public × IsSmall v.local) }
+        ensures refused { IsRefused result → LacksPublic name (option_copied group.entry) (R.stream rng.old) }
         ensures values { IfOk result (λ v. IsValue v.public × IsValue v.local) }
         ensures after { CountsAnswer self.old self.new result }
     {
@@ -172,6 +174,8 @@ impl Agreement for FieldAgreement {
         ensures made { IfOk result (λ v. ServerPublic name (option_copied group.entry) v.public
             × AgreesInField name (option_copied group.entry) client_public.now v.public v.secret × IsSmall v.public
             × IsSmall v.secret) }
+        ensures refused { IsRefused result → LacksAgreed name (option_copied group.entry) client_public.now
+            (R.stream rng.old) }
         ensures values { IfOk result (λ v. IsValue v.public × IsValue v.secret) }
         ensures after { CountsAnswer self.old self.new result }
     {
@@ -193,6 +197,7 @@ impl Agreement for FieldAgreement {
         ensures made { (public : List ℕ) → MakesPublic name (option_copied group.entry) local.now public
             → IfOk result (λ v. AgreesInField name (option_copied group.entry) public server_public.now v
             × IsSmall v) }
+        ensures refused { IsRefused result → LacksSecretOf name (option_copied group.entry) server_public.now }
         ensures values { IfOk result (λ v. IsValue v) }
         ensures after { CountsAnswer self.old self.new result }
     {

@@ -7,7 +7,7 @@ ghost use Rattle.ssh_wire.specs.Forms.{AreBytes, magnitude, number, unsigned};
 ghost use Rattle.ssh_kex.specs.Parts.{IsRefused, IsSmall};
 ghost use Rattle.ssh_power.specs.Moduli.{modulus_fault};
 ghost use Rattle.ssh_power.specs.Numbers.{power_modulo};
-ghost use Rattle.ssh_modp.specs.Fields.{AgreedBy, HasPublicValue, SpellsSecret, field_power, is_public_value};
+ghost use Rattle.ssh_modp.specs.Fields.{AgreedBy, DrawsZero, HasPublicValue, SpellsSecret, field_power, is_public_value};
 
 use rand_core::Rng;
 use ssh_kex::{Agreed, Refusal, Started};
@@ -74,6 +74,8 @@ pub(crate) fn own_value<R: Rng>(
     ensures drawn { IfOk result (λ v. (v.local, R.stream rng.new) ≡ fill_bytes 64 (R.stream rng.old)) }
     ensures value { IfOk result (λ v. HasPublicValue (record { prime = prime.now; generator = generator.now })
         v.local v.public) }
+    ensures refused { IsRefused result → modulus_fault (number prime.now) ≡ None
+        → DrawsZero (record { prime = prime.now; generator = generator.now }) (R.stream rng.old) }
     ensures small { IfOk result (λ v. IsSmall v.local × IsSmall v.public) }
 {
     let modulus = modulus_of(alloc, prime)?;
@@ -95,7 +97,7 @@ pub(crate) fn own_value<R: Rng>(
 }
 
 /// These bytes.
-fn blob_of(bytes: Vec<u8>) -> Blob
+pub(crate) fn blob_of(bytes: Vec<u8>) -> Blob
     ensures value { result ≡ bytes.items }
     ensures digits { AreBytes result }
 {
@@ -138,6 +140,9 @@ pub(crate) fn agreed_in<R: Rng>(
 ) -> Result<Agreed, Refusal>
     ensures agreed { IfOk result (λ v. AgreedBy (record { prime = prime.now; generator = generator.now })
         client_public.now (R.stream rng.old) v.public v.secret (R.stream rng.new)) }
+    ensures refused { IsRefused result → modulus_fault (number prime.now) ≡ None
+        → is_public_value (number prime.now) client_public.now ≡ true
+        → DrawsZero (record { prime = prime.now; generator = generator.now }) (R.stream rng.old) }
     ensures small { IfOk result (λ v. IsSmall v.public × IsSmall v.secret) }
 {
     let Started { public, local } = own_value(alloc, prime, generator, rng)?;

@@ -1,10 +1,12 @@
 //! RSA host keys, and hosts that are known by their blobs (RFC 4253 section 6.6, RFC 8332).
 
 ghost use Rattle.std.specs.Prelude.{◌≡◌, true, false, IfOk, OnOk, IfErr, IfSome, Ok};
-ghost use Rattle.ssh_kex.specs.Parts.{IsRefused, IsSmall, IsValue};
+ghost use Rattle.ssh_kex.specs.Parts.{IsRefused, IsSmall, IsValue, Presents, Setup};
+ghost use Rattle.ssh_kex.specs.Signature.{judged};
+ghost use Rattle.ssh_kex.specs.declared.exchange.ServerHost.{ServerHost};
 ghost use Rattle.ssh_kex.specs.declared.parts.Refusal.TheVariants.{Refused};
-ghost use Rattle.ssh_modp.specs.Hosts.{AskedToCheck, AskedToSign, AskedToVerify, is_known};
-ghost use Rattle.ssh_modp.specs.Rsa.{accepts_blobs, rsa_accepts};
+ghost use Rattle.ssh_modp.specs.Hosts.{AskedToCheck, AskedToSign, AskedToVerify, RsaMakes, SignsAll, is_known};
+ghost use Rattle.ssh_modp.specs.Rsa.{IsRsaBlob, LacksSignature, accepts_blobs, rsa_accepts};
 
 use crate::counts::one_more;
 use crate::rsa::{accepts, signature_blob};
@@ -79,45 +81,11 @@ impl RsaHosts {
             refused_check: 0,
         }
     }
-}
 
-impl HostKeys for RsaHosts {
-    ghost use Rattle.std.specs.Prelude.{◌≡◌};
-    ghost use Rattle.ssh_modp.specs.Hosts.{KnowsAll, RsaMakes, is_known};
-    ghost use Rattle.ssh_modp.specs.Rsa.{rsa_accepts};
-
-    ghost accepts = { λ v. rsa_accepts };
-
-    ghost trusts = { λ v. is_known v.known };
-
-    ghost makes = { RsaMakes };
-
-    ghost lawful = { λ v s. Unit {0} };
-
-    ghost signs = { λ v later s. ⊥ };
-
-    ghost judges = { λ v later s. KnowsAll v.known s.server };
-
-    ghost refused_sign = { λ v. v.refused_sign };
-
-    ghost refused_verify = { λ v. v.refused_verify };
-
-    ghost refused_check = { λ v. v.refused_check };
-
-    ghost calls = { λ v. v.calls };
-
-    ghost signs_lawful = { λ v later s o. tt };
-
-    ghost judges_lawful = { λ v later s o. tt };
-
-    ghost judges_trusts = { λ v later s host key o p. o host key p };
-
-    ghost judges_accepts = { λ v later s host hash signature o m. m };
-
-    fn sign(
+    /// A signature of the hash under the one key. Refused where there is none, and where it doesn't sign so. Memory.
+    fn sign_hash(
         &mut self,
         alloc: Global,
-        _key: &HostKey,
         algorithm: Algorithm,
         hash: &HashValue,
     ) -> Result<Blob, Refusal>
@@ -125,6 +93,9 @@ impl HostKeys for RsaHosts {
         ensures values { IfOk result (λ v. IsValue v) }
         ensures small { IfOk result (λ v. IsSmall v) }
         ensures right { IfOk result (λ b. IfSome self.old.key (λ k. accepts_blobs k.blob algorithm hash.now b ≡ true)) }
+        ensures form { IfOk result (λ b. IsRsaBlob algorithm b) }
+        ensures refused { IsRefused result
+            → IfSome self.old.key (λ k. LacksSignature k.blob k.private algorithm hash.now) }
     {
         self.calls = one_more(self.calls);
         let signed = match &self.key {
@@ -148,6 +119,62 @@ impl HostKeys for RsaHosts {
             }
             Err(_) => Err(Refusal::Memory),
         }
+    }
+}
+
+impl HostKeys for RsaHosts {
+    ghost use Rattle.std.specs.Prelude.{◌≡◌};
+    ghost use Rattle.ssh_modp.specs.Hosts.{KnowsAll, RsaMakes, SignsAll, is_known};
+    ghost use Rattle.ssh_modp.specs.Rsa.{rsa_accepts};
+
+    ghost accepts = { λ v. rsa_accepts };
+
+    ghost trusts = { λ v. is_known v.known };
+
+    ghost makes = { RsaMakes };
+
+    ghost lawful = { λ v s. Unit {0} };
+
+    ghost signs = { λ v later s. SignsAll v.key s.server };
+
+    ghost judges = { λ v later s. KnowsAll v.known s.server };
+
+    ghost refused_sign = { λ v. v.refused_sign };
+
+    ghost refused_verify = { λ v. v.refused_verify };
+
+    ghost refused_check = { λ v. v.refused_check };
+
+    ghost calls = { λ v. v.calls };
+
+    ghost signs_lawful = { λ v later s o. tt };
+
+    ghost judges_lawful = { λ v later s o. tt };
+
+    ghost judges_trusts = { λ v later s host key o p. o host key p };
+
+    ghost judges_accepts = { λ v later s host hash signature o m. m };
+
+    fn sign(
+        &mut self,
+        alloc: Global,
+        key: &HostKey,
+        algorithm: Algorithm,
+        hash: &HashValue,
+    ) -> Result<Blob, Refusal>
+        ensures after { AskedToSign self.old self.new result }
+        ensures values { IfOk result (λ v. IsValue v) }
+        ensures small { IfOk result (λ v. IsSmall v) }
+        ensures right { IfOk result (λ b. IfSome self.old.key (λ k. accepts_blobs k.blob algorithm hash.now b ≡ true)) }
+        ensures refused { IsRefused result
+            → IfSome self.old.key (λ k. LacksSignature k.blob k.private algorithm hash.now) }
+        ensures made { (s : Setup) (host : ServerHost) → SignsAll self.old.key s.server
+            → Presents s.server host key.now algorithm
+            → IfOk result (λ v. RsaMakes s.server host hash.now (judged v)) }
+        ensures never { (s : Setup) (host : ServerHost) → SignsAll self.old.key s.server
+            → Presents s.server host key.now algorithm → IsRefused result → ⊥ }
+    {
+        self.sign_hash(alloc, algorithm, hash)
     }
 
     fn verify(

@@ -1,15 +1,17 @@
 //! RSA signatures (RFC 8017 sections 8.2 and 9.2, RFC 8332).
 
-ghost use Rattle.std.specs.Prelude.{◌≡◌, ◌≤◌, ◌++◌, ◌==◌, replicate, OnOk, true, false, vec_len, IfOk, IfErr, IfSome, Some, None, Ok};
+ghost use Rattle.std.specs.Prelude.{◌≡◌, ◌≤◌, ◌++◌, ◌==◌, length, replicate, OnOk, true, false, IfOk, IfErr, IfSome, Some, None, Ok};
 ghost use Rattle.ssh_mac.specs.Digests.{digest_of};
 ghost use Rattle.ssh_wire.specs.Algorithms.{hash_of};
 ghost use Rattle.ssh_wire.specs.Forms.{magnitude, number};
 ghost use Rattle.ssh_kex.specs.Agreeing.{lent_bytes};
 ghost use Rattle.ssh_kex.specs.Parts.{IsSmall, IsValue};
+ghost use Rattle.ssh_power.specs.Moduli.{modulus_fault};
 ghost use Rattle.ssh_modp.specs.Keys.{key_seen};
-ghost use Rattle.ssh_modp.specs.Rsa.{accepts_blobs, digest_info, digest_kind, encoded_message, has_message, rsa_key};
-ghost use Rattle.ssh_modp.specs.Rsa.{rsa_signature, verifies};
+ghost use Rattle.ssh_modp.specs.Rsa.{IsOwnSignature, IsRsaBlob, LacksSignature, accepts_blobs, digest_info, digest_kind};
+ghost use Rattle.ssh_modp.specs.Rsa.{encoded_message, has_message, rsa_key, rsa_signature, verifies};
 
+use crate::field::blob_of;
 use ssh_mac::{DigestKind, HashValue, Hasher};
 use ssh_power::{Modulus, ModulusError, is_less};
 use ssh_wire::{Algorithm, Blob, Error, HashAlg, Reader, put_string};
@@ -224,6 +226,8 @@ pub(crate) fn signature_blob(
     ensures right { IfOk result (λ s. IfSome s (λ b. accepts_blobs blob.now algorithm text.now b ≡ true)) }
     ensures small { IfOk result (λ s. IfSome s (λ b. IsSmall b)) }
     ensures value { IfOk result (λ s. IfSome s (λ b. IsValue b)) }
+    ensures form { IfOk result (λ s. IfSome s (λ b. IsRsaBlob algorithm b)) }
+    ensures none { result ≡ Ok None → LacksSignature blob.now private.now algorithm text.now }
 {
     let Some(hash) = hash_of(algorithm) else {
         return Ok(None);
@@ -245,15 +249,19 @@ pub(crate) fn signature_blob(
 }
 
 /// The power of the encoded message, as many bytes as the modulus has: at most 1024. None where the modulus is none, or
-/// where it is too short for the message. Memory.
+/// where it is too short for the message. The modulus has no zeros at its front. Memory.
 fn private_power(
     alloc: Global,
     hash: HashAlg,
     modulus: &[u8],
     private: &[u8],
     text: &[u8],
-) -> Result<Option<Vec<u8>>, AllocError>
-    ensures { IfOk result (λ p. IfSome p (λ v. vec_len v ≤ 1024)) }
+) -> Result<Option<Blob>, AllocError>
+    requires { magnitude modulus.now ≡ modulus.now }
+    ensures short { IfOk result (λ p. IfSome p (λ b. length b ≤ 1024)) }
+    ensures own { IfOk result (λ p. IfSome p (λ b. IsOwnSignature hash text.now modulus.now private.now b)) }
+    ensures none { result ≡ Ok None → modulus_fault (number modulus.now) ≡ None
+        → has_message hash text.now (length modulus.now) ≡ false }
 {
     let field = match Modulus::new(alloc, modulus) {
         Ok(field) => field,
@@ -263,5 +271,6 @@ fn private_power(
     let Some(message) = encoded(alloc, hash, text, modulus.len())? else {
         return Ok(None);
     };
-    Ok(Some(field.power(alloc, message.as_slice(), private)?))
+    let power = field.power(alloc, message.as_slice(), private)?;
+    Ok(Some(blob_of(power)))
 }

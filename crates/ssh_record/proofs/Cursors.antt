@@ -1,11 +1,10 @@
 -- How many packets of a good wire lie whole in its first bytes: what a cursor counts.
-use Rattle.std.proofs.Common.{◌≡◌, ◌⊎◌, inl, inr, ℕ, zero, suc, ◌+◌, ◌-◌, ◌<◌, ◌≤◌, List, [], ◌∷◌, ◌++◌, length, take, drop, map, refl, sym, ◌∙◌, ap, subst, arith, append_assoc, append-nil, length-append, Option, Some, None, Bool, true, false, if◌then◌else◌, nat_lt}
+use Rattle.std.proofs.Common.{◌≡◌, ℕ, zero, suc, ◌-◌, ◌<◌, ◌≤◌, List, [], ◌∷◌, ◌++◌, length, take, drop, map, refl, sym, ◌∙◌, ap, subst, arith, append_assoc, length-append, Option, Some, None}
 use Rattle.std.proofs.Math.Seq.{drop-append_seam}
-use Rattle.std.proofs.lemmas.Bool.{cases_lt}
 use Rattle.std.proofs.lemmas.List.{take-append-drop}
 use Rattle.ssh_packet.proofs.Lemmas.{one_packet, length_sealed}
 use Rattle.ssh_packet.specs.Sealing.{Item, IsAdmissible}
-use Rattle.ssh_packet.specs.Stream.{Place, first_place, Reads, Entries, IsEnd, place_after, place_behind, packet_at}
+use Rattle.ssh_packet.specs.Stream.{Place, first_place, Reads, IsEnd, place_after, place_behind, packet_at}
 use Rattle.ssh_wire.specs.Lines.{id_line}
 use Rattle.ssh_wire.specs.declared.side.Side.{Side}
 use Rattle.ssh_kex.specs.Exchange.{outgoing}

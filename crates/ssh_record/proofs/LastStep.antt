@@ -1,15 +1,12 @@
 -- The last step of a run goes on from the run before it.
-use Rattle.std.proofs.Common.{◌≡◌, ◌⊎◌, inl, inr, ℕ, zero, suc, ◌+◌, ◌<◌, ◌≤◌, List, [], ◌∷◌, ◌++◌, length, take, map, slice_get, refl, sym, ◌∙◌, ap, subst, arith, Option, Some, None, Bool, true, false, length-append}
-use Rattle.std.proofs.lemmas.List.{append_cancel_left, take-append-le}
-use Rattle.std.proofs.Math.Seq.{take-append_seam, take-length}
+use Rattle.std.proofs.Common.{◌≡◌, ℕ, zero, suc, ◌+◌, List, [], ◌∷◌, ◌++◌, length, take, map, slice_get, refl, sym, ◌∙◌, ap, subst, arith, Option, Some, None, Bool, length-append}
+use Rattle.std.proofs.Math.Seq.{take-append_seam}
 use Rattle.ssh_packet.specs.Sealing.{Item}
-use Rattle.ssh_wire.specs.declared.side.Side.{Side}
 use Rattle.ssh_wire.specs.declared.side.Side.TheVariants.{Client, Server}
-use Rattle.ssh_rules.specs.Marks.{Half, kexinits}
-use Rattle.ssh_rules.specs.Run.{AllMoments, Effect, Effects, HaveCauses, IsFirstMark, IsMoment, IsRun, Moment, finished_at_rekey, mark_of, own_of, theirs_of}
+use Rattle.ssh_rules.specs.Marks.{Half}
+use Rattle.ssh_rules.specs.Run.{AllMoments, Effect, Effects, HaveCauses, IsFirstMark, IsMoment, IsRun, Moment, finished_at_rekey}
 use Rattle.ssh_rules.specs.declared.link.Mark.{Mark}
 use Rattle.ssh_rules.specs.declared.link.Step.{Step}
-use Rattle.ssh_rules.specs.declared.link.Step.TheVariants.{Rekey}
 use Rattle.ssh_record.specs.Growing.{RunGoesOn, rekeyed}
 use Rattle.ssh_record.specs.Runs.{sent_at}
 use Rattle.ssh_record.proofs.Growing.{get_last}

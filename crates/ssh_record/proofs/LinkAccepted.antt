@@ -1,12 +1,11 @@
 -- A record that is taken of a link has no fault.
-use Rattle.std.proofs.Common.{◌≡◌, inl, inr, ℕ, zero, suc, ◌+◌, ◌<◌, ◌≤◌, List, [], ◌∷◌, ◌++◌, length, take, map, slice_get, refl, sym, ◌∙◌, ap, subst, arith, append_assoc, Option, Some, None, Ok, Err, Bool}
+use Rattle.std.proofs.Common.{◌≡◌, inl, inr, ℕ, zero, suc, ◌<◌, ◌≤◌, List, [], ◌∷◌, ◌++◌, length, take, map, slice_get, refl, sym, ◌∙◌, ap, subst, arith, append_assoc, Option, Some, None}
 use Rattle.std.proofs.Math.Seq.{take-length}
 use Rattle.std.proofs.lemmas.List.{length-take-le, take-map}
 use Rattle.std.proofs.lemmas.Bool.{cases_lt}
 use Rattle.std.proofs.lemmas.Option.{slice_get_within}
 use Rattle.ssh_packet.specs.Sealing.{Item}
-use Rattle.ssh_packet.specs.Stream.{first_place, Reads, Entries}
-use Rattle.ssh_wire.specs.Lines.{id_line}
+use Rattle.ssh_packet.specs.Stream.{Entries}
 use Rattle.ssh_wire.specs.declared.side.Side.{Side}
 use Rattle.ssh_wire.specs.declared.side.Side.TheVariants.{Client, Server}
 use Rattle.ssh_negotiate.specs.declared.negotiation.Names.{Names}
@@ -14,8 +13,7 @@ use Rattle.ssh_kex.specs.Exchange.{outgoing}
 use Rattle.ssh_kex.specs.Messages.{is_gex}
 use Rattle.ssh_kex.specs.declared.config.Config.{Config}
 use Rattle.ssh_kex.specs.declared.exchange.FinishedExchange.{FinishedExchange}
-use Rattle.ssh_rules.specs.Headline.{IsLastMark, IsLink, IsMadeOf, blob_shown, chosen_by, half_of, host_by, kind_by, submitted_by}
-use Rattle.ssh_rules.specs.MessageTypes.{order}
+use Rattle.ssh_rules.specs.Headline.{IsLink, IsMadeOf, half_of, host_by, kind_by, submitted_by}
 use Rattle.ssh_rules.specs.Parts.{ClientPairs, Secrets, ServerValues}
 use Rattle.ssh_rules.specs.Run.{Effects, IsRun}
 use Rattle.ssh_rules.specs.Valid.{HasSizes}
@@ -23,7 +21,6 @@ use Rattle.ssh_rules.specs.Wire.{HasFront, IsWire, LiesWhole, carried_payloads, 
 use Rattle.ssh_rules.specs.declared.link.LinkReport.{LinkReport}
 use Rattle.ssh_rules.specs.declared.link.Mark.{Mark}
 use Rattle.ssh_rules.specs.declared.link.Step.{Step}
-use Rattle.ssh_rules.specs.declared.link.Step.TheVariants.{Submit, Deliver, Rekey, Settle}
 use Rattle.ssh_record.specs.Answers.{AreDelivered, FitsSent, HasBadMark, HasBadPacket, HaveNames, HaveSecrets, IsAcceptedRecord, IsAuditFault, LacksSecret, judged_record}
 use Rattle.ssh_record.specs.Exchanges.{AreExchanges, AreNext, IsNext, ReadsWire}
 use Rattle.ssh_record.specs.Links.{HasSecretsOf, LinkHasNoFault, LinkIsShown, ShowsLink, recording_of}
@@ -42,7 +39,7 @@ use Rattle.ssh_record.proofs.OneMarks.{lies_one, runs_one}
 use Rattle.ssh_record.proofs.Readings.{front_none, front_cons}
 use Rattle.ssh_record.proofs.RunFronts.{get_below, get_in_take, get_map, get_of_take, take_less}
 use Rattle.ssh_record.proofs.WholeBlocks.{cut_entries, openings_enough, until}
-use Rattle.ssh_record.proofs.Widening.{IsReadHalf, lies_wider, run_wider, wire_wider}
+use Rattle.ssh_record.proofs.Widening.{lies_wider, run_wider, wire_wider}
 
 -- ---- lists
 

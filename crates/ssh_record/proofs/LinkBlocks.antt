@@ -1,10 +1,9 @@
 -- What a link says of an exchange that it recorded is what its record says.
-use Rattle.std.proofs.Common.{◌≡◌, ◌⊎◌, inl, inr, ℕ, zero, suc, ◌+◌, ◌<◌, ◌≤◌, ◌^◌, List, [], ◌∷◌, ◌++◌, length, take, map, refl, sym, ◌∙◌, ap, subst, arith, length-append, Option, Some, None, Bool, true, false, if◌then◌else◌, ◌==◌, Ok, Err, Result, slice_get}
+use Rattle.std.proofs.Common.{◌≡◌, ◌⊎◌, inl, inr, ℕ, zero, suc, ◌+◌, ◌<◌, ◌≤◌, ◌^◌, List, [], ◌∷◌, ◌++◌, length, map, refl, sym, ◌∙◌, ap, subst, arith, length-append, Option, Some, None, Bool, true, false, if◌then◌else◌, ◌==◌, Ok}
 use Rattle.std.specs.Prelude.{IfSome, is_some}
 use Rattle.ssh_packet.specs.Sealing.{Item}
 use Rattle.ssh_packet.specs.Stream.{Place, Reads, place_after, is_newkeys}
 use Rattle.ssh_wire.specs.Forms.{string, magnitude, unsigned, mpint, u32be}
-use Rattle.ssh_wire.specs.declared.error.AlgorithmKind.{AlgorithmKind}
 use Rattle.ssh_wire.specs.declared.side.Side.{Side}
 use Rattle.ssh_wire.specs.declared.side.Side.TheVariants.{Client, Server}
 use Rattle.ssh_negotiate.specs.declared.negotiation.Names.{Names}
@@ -14,22 +13,19 @@ use Rattle.ssh_kex.specs.Setting.{IsShortGroup}
 use Rattle.ssh_kex.specs.declared.config.Config.{Config}
 use Rattle.ssh_kex.specs.declared.exchange.Exchange.{Exchange}
 use Rattle.ssh_kex.specs.declared.exchange.FinishedExchange.{FinishedExchange}
-use Rattle.ssh_kex.specs.declared.exchange.GexChosen.{GexChosen}
 use Rattle.ssh_kex.specs.declared.exchange.Keys.{Keys}
 use Rattle.ssh_kex.specs.declared.group.DhGroup.{DhGroup}
 use Rattle.ssh_rules.specs.Fills.{Fills, messages}
-use Rattle.ssh_rules.specs.Headline.{IsMadeOf, StandsIn, chosen_by, first_hash, keys_for, gex_by}
-use Rattle.ssh_rules.specs.Made.{HasShortStrings}
+use Rattle.ssh_rules.specs.Headline.{IsMadeOf, StandsIn, chosen_by, first_hash, keys_for}
 use Rattle.ssh_rules.specs.MessageTypes.{type_of, is_kex_type, order}
 use Rattle.ssh_rules.specs.Parts.{ClientPairs, Secrets, ServerValues}
 use Rattle.ssh_rules.specs.Valid.{HasSizes}
 use Rattle.ssh_rules.specs.Wire.{InBlocks, exchange_block, epochs_ended}
-use Rattle.ssh_record.specs.Answers.{HaveNames, judged_record}
-use Rattle.ssh_record.specs.Exchanges.{AreNext, BlocksHold, HasBlocks, IsNext, IsReadGroup, IsWholeBlock, ReadsWire, block_items, block_messages, kept_of_values}
+use Rattle.ssh_record.specs.Exchanges.{AreNext, BlocksHold, HasBlocks, IsNext, ReadsWire, block_messages}
 use Rattle.ssh_record.specs.Links.{HasSecretsOf}
-use Rattle.ssh_record.specs.Recordings.{JudgedRecord, Recording}
+use Rattle.ssh_record.specs.Recordings.{JudgedRecord}
 use Rattle.ssh_record.proofs.OneAnswer.{one_ok}
-use Rattle.ssh_record.proofs.WholeBlocks.{IsBlock, block_until, until, whole_block}
+use Rattle.ssh_record.proofs.WholeBlocks.{block_until, until, whole_block}
 
 -- ---- a block with its NEWKEYS has ended
 

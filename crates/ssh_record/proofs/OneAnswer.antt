@@ -1,5 +1,5 @@
 -- A record has one answer.
-use Rattle.std.proofs.Common.{◌≡◌, ◌⊎◌, inl, inr, ℕ, zero, suc, ◌+◌, ◌<◌, ◌≤◌, List, [], ◌∷◌, length, take, map, slice_get, refl, sym, ◌∙◌, ap, subst, arith, Option, Some, None, Ok, Err, Result}
+use Rattle.std.proofs.Common.{◌≡◌, inl, inr, ℕ, suc, ◌≤◌, List, length, take, slice_get, refl, sym, ◌∙◌, ap, subst, arith, Some, Ok, Result}
 use Rattle.std.proofs.lemmas.Bool.{cases_lt}
 use Rattle.ssh_wire.specs.declared.error.AlgorithmKind.{AlgorithmKind}
 use Rattle.ssh_wire.specs.declared.side.Side.{Side}
@@ -9,10 +9,10 @@ use Rattle.ssh_kex.specs.Messages.{is_gex}
 use Rattle.ssh_kex.specs.declared.config.Config.{Config}
 use Rattle.ssh_kex.specs.declared.exchange.FinishedExchange.{FinishedExchange}
 use Rattle.ssh_rules.specs.Run.{IsRun}
-use Rattle.ssh_rules.specs.Wire.{LiesWhole, carried_payloads}
+use Rattle.ssh_rules.specs.Wire.{carried_payloads}
 use Rattle.ssh_rules.specs.declared.link.Mark.{Mark}
-use Rattle.ssh_record.specs.Answers.{AreDelivered, FitsSent, HasBadMark, HasBadPacket, HaveNames, HaveSecrets, IsAcceptedRecord, IsAuditFault, LacksSecret, judged_record}
-use Rattle.ssh_record.specs.Exchanges.{AreExchanges, HasBlocks}
+use Rattle.ssh_record.specs.Answers.{AreDelivered, HasBadMark, HasBadPacket, HaveNames, HaveSecrets, IsAcceptedRecord, IsAuditFault, LacksSecret, judged_record}
+use Rattle.ssh_record.specs.Exchanges.{HasBlocks}
 use Rattle.ssh_record.specs.Packets.{IsBadBehind, IsGoodWire}
 use Rattle.ssh_record.specs.Laws.{EachHasOneAnswer}
 use Rattle.ssh_record.specs.Recordings.{JudgedRecord, Recording, config_in, wire_in}

@@ -1,22 +1,21 @@
 -- The exchanges of a record are one list.
-use Rattle.std.proofs.Common.{◌≡◌, ℕ, zero, suc, ◌+◌, ◌<◌, ◌≤◌, ◌^◌, List, [], ◌∷◌, ◌++◌, length, take, map, slice_get, refl, sym, ◌∙◌, ap, subst, arith, append_assoc, append-nil, Option, Some, None, Bool, true, false}
-use Rattle.std.specs.Prelude.{IfSome, is_some}
+use Rattle.std.proofs.Common.{◌≡◌, ℕ, suc, ◌≤◌, List, [], ◌∷◌, ◌++◌, length, take, map, slice_get, refl, sym, ◌∙◌, ap, subst, arith, append_assoc, Option, Some, None, Bool}
+use Rattle.std.specs.Prelude.{is_some}
 use Rattle.std.proofs.lemmas.List.{append_cancel_left}
 use Rattle.std.proofs.lemmas.Option.{slice_get_within}
 use Rattle.ssh_packet.specs.Sealing.{Item}
-use Rattle.ssh_wire.specs.Lines.{id_line, id_text}
+use Rattle.ssh_wire.specs.Lines.{id_line}
 use Rattle.ssh_wire.specs.declared.side.Side.{Side}
 use Rattle.ssh_wire.specs.declared.side.Side.TheVariants.{Client, Server}
 use Rattle.ssh_negotiate.specs.declared.negotiation.Names.{Names}
 use Rattle.ssh_kex.specs.Exchange.{outgoing}
 use Rattle.ssh_kex.specs.Messages.{IsCanonical, newkeys}
-use Rattle.ssh_kex.specs.Setting.{IsShortGroup}
 use Rattle.ssh_kex.specs.declared.config.Config.{Config}
 use Rattle.ssh_kex.specs.declared.exchange.Exchange.{Exchange}
 use Rattle.ssh_kex.specs.declared.exchange.FinishedExchange.{FinishedExchange}
 use Rattle.ssh_kex.specs.declared.exchange.GexChosen.{GexChosen}
 use Rattle.ssh_rules.proofs.side.OneMessage.{client_by, server_by, SameTalk, talk_one}
-use Rattle.ssh_record.specs.Exchanges.{AreExchanges, BlocksHold, HasBlocks, IsNext, IsReadGroup, ReadsWire, block_messages, client_front, kept_of_values, server_front}
+use Rattle.ssh_record.specs.Exchanges.{AreExchanges, BlocksHold, HasBlocks, IsNext, ReadsWire, block_messages, client_front, kept_of_values, server_front}
 use Rattle.ssh_record.specs.Recordings.{JudgedRecord}
 use Rattle.ssh_record.proofs.Readings.{entries_one}
 

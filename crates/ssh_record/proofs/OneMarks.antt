@@ -3,15 +3,14 @@ use Rattle.std.proofs.Common.{◌≡◌, ◌⊎◌, inl, inr, ℕ, zero, suc, �
 use Rattle.ssh_packet.specs.Sealing.{Item}
 use Rattle.ssh_packet.specs.Stream.{Place, first_place, Reads}
 use Rattle.ssh_wire.specs.Lines.{id_line}
-use Rattle.ssh_wire.specs.Sides.{other_side}
 use Rattle.ssh_wire.specs.declared.side.Side.{Side}
 use Rattle.ssh_wire.specs.declared.side.Side.TheVariants.{Client, Server}
 use Rattle.ssh_kex.specs.Exchange.{outgoing}
 use Rattle.ssh_kex.specs.Messages.{is_gex}
 use Rattle.ssh_kex.specs.declared.exchange.FinishedExchange.{FinishedExchange}
 use Rattle.ssh_rules.specs.Marks.{Half, IsMarked, SentBy, kexinits}
-use Rattle.ssh_rules.specs.Run.{AllMoments, Effect, Effects, IsFirstMark, IsMoment, IsRun, Moment, finished_at_rekey, mark_of, own_of, theirs_of}
-use Rattle.ssh_rules.specs.Wire.{HasFront, LiesWhole, carried_payloads, epochs_ended}
+use Rattle.ssh_rules.specs.Run.{AllMoments, Effect, Effects, IsFirstMark, IsMoment, Moment, finished_at_rekey, mark_of}
+use Rattle.ssh_rules.specs.Wire.{LiesWhole, carried_payloads, epochs_ended}
 use Rattle.ssh_rules.specs.declared.link.Mark.{Mark}
 use Rattle.ssh_rules.specs.declared.link.SideMark.{SideMark}
 use Rattle.ssh_rules.specs.declared.link.Step.{Step}
@@ -19,8 +18,7 @@ use Rattle.ssh_rules.specs.declared.link.Step.TheVariants.{Submit, Deliver, Reke
 use Rattle.ssh_record.specs.Recordings.{JudgedRecord}
 use Rattle.ssh_record.specs.Runs.{RunsBy, half_recorded, sent_at}
 use Rattle.ssh_record.specs.declared.recording.SentPair.{SentPair}
-use Rattle.ssh_record.proofs.Readings.{entries_one, front_same, reads_fronts}
-use Rattle.ssh_record.proofs.RunFronts.{half_by, marked_at}
+use Rattle.ssh_record.proofs.Readings.{entries_one}
 
 -- ---- packets
 

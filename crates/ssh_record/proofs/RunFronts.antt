@@ -1,11 +1,10 @@
 -- The first steps of a run, with its first marks, are a run.
 use Rattle.std.proofs.Common.{◌≡◌, ◌⊎◌, inl, inr, ℕ, zero, suc, ◌+◌, ◌<◌, ◌≤◌, List, [], ◌∷◌, ◌++◌, length, take, drop, map, slice_get, refl, sym, ◌∙◌, ap, subst, arith, append_assoc, append-nil, Option, Some, None, Bool, true, false, if◌then◌else◌, ◌==◌}
 use Rattle.std.proofs.lemmas.Bool.{cases_lt}
-use Rattle.std.proofs.lemmas.Option.{slice_get_within}
 use Rattle.std.proofs.lemmas.List.Sums.{fold_push}
 use Rattle.ssh_packet.proofs.Lemmas.{one_packet, length_sealed}
 use Rattle.ssh_packet.specs.Sealing.{Item}
-use Rattle.ssh_packet.specs.Stream.{Place, first_place, Reads, IsEnd, place_after, packet_at, is_newkeys}
+use Rattle.ssh_packet.specs.Stream.{Place, first_place, Reads, place_after, packet_at}
 use Rattle.ssh_wire.specs.Lines.{id_line}
 use Rattle.ssh_wire.specs.Sides.{other_side}
 use Rattle.ssh_wire.specs.declared.side.Side.{Side}
@@ -13,7 +12,7 @@ use Rattle.ssh_wire.specs.declared.side.Side.TheVariants.{Client, Server}
 use Rattle.ssh_kex.specs.Exchange.{outgoing}
 use Rattle.ssh_rules.specs.Marks.{Half, IsMarked, kexinits}
 use Rattle.ssh_rules.specs.MessageTypes.{type_of}
-use Rattle.ssh_rules.specs.Run.{AllMoments, BeginsOne, Effect, Effects, HaveCauses, IsFirstMark, IsMoment, IsRun, Moment, OwnCause, WrittenAt, finished_at_rekey, mark_of, own_of, theirs_of}
+use Rattle.ssh_rules.specs.Run.{AllMoments, Effect, Effects, HaveCauses, IsMoment, IsRun, Moment, OwnCause, WrittenAt, mark_of, own_of, theirs_of}
 use Rattle.ssh_rules.specs.Wire.{HasFront, LiesWhole}
 use Rattle.ssh_rules.specs.declared.link.Mark.{Mark}
 use Rattle.ssh_rules.specs.declared.link.SideMark.{SideMark}

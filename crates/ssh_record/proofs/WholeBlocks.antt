@@ -1,5 +1,5 @@
 -- A block that a wire in blocks holds to its end stands whole, and is read under the exchanges before it.
-use Rattle.std.proofs.Common.{◌≡◌, ◌⊎◌, inl, inr, ℕ, zero, suc, ◌+◌, ◌<◌, ◌≤◌, List, [], ◌∷◌, ◌++◌, length, take, map, refl, sym, ◌∙◌, ap, subst, arith, Option, Some, None, Bool, true, false, if◌then◌else◌, ◌==◌}
+use Rattle.std.proofs.Common.{◌≡◌, ◌⊎◌, inl, inr, ℕ, zero, suc, ◌+◌, ◌<◌, ◌≤◌, List, [], ◌∷◌, ◌++◌, length, take, map, refl, sym, ◌∙◌, ap, subst, arith, Some, None, Bool, true, false, if◌then◌else◌, ◌==◌}
 use Rattle.std.proofs.lemmas.Bool.Decides.{nat_tests}
 use Rattle.ssh_packet.specs.Sealing.{Item, Sealing, next_number, moved_on}
 use Rattle.ssh_packet.specs.Stream.{Opening, Place, first_place, Reads, Entries, IsEnd, place_after, place_behind, is_newkeys, next_place, kept_number}
@@ -7,7 +7,7 @@ use Rattle.ssh_wire.specs.declared.side.Side.{Side}
 use Rattle.ssh_wire.specs.declared.side.Side.TheVariants.{Client, Server}
 use Rattle.ssh_rules.specs.MessageTypes.{type_of, is_kex_type, is_payload_type, order}
 use Rattle.ssh_rules.specs.Wire.{InBlocks, exchange_block, epochs_ended}
-use Rattle.ssh_record.specs.Exchanges.{block_items, block_messages, epoch_items, from_exchange, IsWholeBlock}
+use Rattle.ssh_record.specs.Exchanges.{block_items, epoch_items, from_exchange}
 
 -- ---- up to the end of epoch k
 

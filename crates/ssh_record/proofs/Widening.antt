@@ -1,21 +1,21 @@
 -- A wire and a run under the exchanges that one side recorded are such under all exchanges of the record.
-use Rattle.std.proofs.Common.{◌≡◌, ℕ, zero, suc, ◌+◌, ◌<◌, ◌≤◌, List, [], ◌∷◌, ◌++◌, length, take, drop, map, slice_get, refl, sym, ◌∙◌, ap, subst, arith, Option, Some, None, Bool}
+use Rattle.std.proofs.Common.{◌≡◌, ℕ, List, [], ◌∷◌, ◌++◌, length, take, drop, map, refl, ◌∙◌, ap, Option, Some, Bool}
 use Rattle.std.proofs.Math.Seq.{drop-append_seam}
 use Rattle.std.proofs.lemmas.List.{take-append-drop}
 use Rattle.ssh_packet.specs.Sealing.{Item}
-use Rattle.ssh_packet.specs.Stream.{Place, first_place, Reads, Entries}
+use Rattle.ssh_packet.specs.Stream.{first_place, Reads}
 use Rattle.ssh_wire.specs.Lines.{id_line}
 use Rattle.ssh_wire.specs.declared.side.Side.{Side}
 use Rattle.ssh_kex.specs.Exchange.{outgoing}
 use Rattle.ssh_kex.specs.declared.config.Config.{Config}
 use Rattle.ssh_kex.specs.declared.exchange.FinishedExchange.{FinishedExchange}
 use Rattle.ssh_rules.specs.Marks.{Half, IsMarked}
-use Rattle.ssh_rules.specs.Run.{AllMoments, IsMoment, IsRun, Moment}
+use Rattle.ssh_rules.specs.Run.{AllMoments, IsRun, Moment}
 use Rattle.ssh_rules.specs.Wire.{HasFront, IsWire, LiesWhole}
 use Rattle.ssh_rules.specs.declared.link.Mark.{Mark}
 use Rattle.ssh_rules.specs.declared.link.SideMark.{SideMark}
 use Rattle.ssh_rules.specs.declared.link.Step.{Step}
-use Rattle.ssh_record.proofs.Readings.{AreWider, Wider, begins_outgoing, entries_wider, padded_wider, reads_wider}
+use Rattle.ssh_record.proofs.Readings.{Wider, begins_outgoing, entries_wider, padded_wider, reads_wider}
 use Rattle.ssh_record.proofs.RunFronts.{front_drop}
 
 wide : (side : Side) (xs ys : List FinishedExchange) → HasFront xs ys → Wider (first_place (map (outgoing side) ys)) (first_place (map (outgoing side) xs))

@@ -1,5 +1,5 @@
 -- What an audit answers: the first thing that is wrong with a record, or what the record shows.
-use Rattle.std.specs.Prelude.{◌≡◌, ℕ, suc, ◌+◌, List, length, slice_get, Ok, Some, None}
+use Rattle.std.specs.Prelude.{◌≡◌, ℕ, suc, List, length, slice_get, Ok, Some, None}
 use Rattle.ssh_wire.specs.declared.side.Side.{Side}
 use Rattle.ssh_wire.specs.declared.side.Side.TheVariants.{Client, Server}
 use Rattle.ssh_packet.specs.Sealing.{Item}
@@ -15,7 +15,6 @@ use Rattle.ssh_record.specs.Recordings.{JudgedRecord, Recording, config_in, wire
 use Rattle.ssh_record.specs.Exchanges.{AreExchanges, HasBlocks}
 use Rattle.ssh_record.specs.Packets.{IsBadBehind, IsGoodWire}
 use Rattle.ssh_record.specs.Runs.{BreaksRunAt, RunsBy}
-use Rattle.ssh_record.specs.declared.recording.SentPair.{SentPair}
 use Rattle.ssh_record.specs.declared.report.AuditFault.{AuditFault}
 use Rattle.ssh_record.specs.declared.report.AuditFault.TheVariants as fault
 use Rattle.ssh_record.specs.declared.report.AuditEnd.{AuditEnd}

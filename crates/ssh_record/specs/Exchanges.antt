@@ -1,5 +1,5 @@
 -- The exchanges of a record: those whose blocks of messages stand whole on both wires.
-use Rattle.std.specs.Prelude.{◌≡◌, ℕ, zero, suc, ◌<◌, ◌≤◌, ◌^◌, List, [], ◌∷◌, ◌++◌, length, take, map, slice_get, Bool, Option, Some, IfSome, is_some, if◌then◌else◌}
+use Rattle.std.specs.Prelude.{◌≡◌, ℕ, zero, suc, ◌≤◌, List, [], ◌∷◌, ◌++◌, length, take, map, slice_get, Bool, Some, IfSome, is_some, if◌then◌else◌}
 use Rattle.ssh_wire.specs.Lines.{id_line, id_text}
 use Rattle.ssh_wire.specs.declared.side.Side.{Side}
 use Rattle.ssh_wire.specs.declared.side.Side.TheVariants.{Client, Server}
@@ -16,7 +16,7 @@ use Rattle.ssh_rules.specs.ExchangeMessages.{requests, groups}
 use Rattle.ssh_rules.specs.Headline.{first_hash, keys_for}
 use Rattle.ssh_rules.specs.Made.{HasShortStrings}
 use Rattle.ssh_rules.specs.MessageTypes.{type_of, is_kex_type, order}
-use Rattle.ssh_record.specs.Recordings.{JudgedRecord, config_in, wire_in}
+use Rattle.ssh_record.specs.Recordings.{JudgedRecord}
 
 -- All packets that are whole, from the front of a side's wire, behind its id line, under these exchanges.
 pub record ReadsWire (side : Side) (config : Config) (exchanges : List FinishedExchange) (wire : List ℕ) (items : List Item) : Type 0 where

@@ -1,4 +1,4 @@
-use Rattle.std.proofs.Common.{◌≡◌, ap, sym, ◌∙◌, subst, List, ℕ}
+use Rattle.std.proofs.Common.{subst}
 use Rattle.ssh_modp.specs.Fields.{SpellsSecret, field_power}
 use Rattle.ssh_modp.proofs.field.agreed_in.Goals as goal
 

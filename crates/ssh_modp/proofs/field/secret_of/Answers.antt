@@ -1,5 +1,5 @@
-use Rattle.std.proofs.Common.{◌≡◌, length, ap, sym, ◌∙◌, subst}
-use Rattle.ssh_wire.specs.Forms.{AreBytes, number, magnitude}
+use Rattle.std.proofs.Common.{length, ap, sym, ◌∙◌}
+use Rattle.ssh_wire.specs.Forms.{number}
 use Rattle.ssh_power.specs.Numbers.{power_modulo}
 use Rattle.ssh_power.proofs.Lemmas.{number_magnitude}
 use Rattle.ssh_modp.specs.Fields.{is_public_value}

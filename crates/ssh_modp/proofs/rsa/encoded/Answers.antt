@@ -1,4 +1,4 @@
-use Rattle.std.proofs.Common.{◌≡◌, List, ℕ, [], ◌∷◌, ◌++◌, ap, sym, ◌∙◌, refl, arith, replicate, length, ◌+◌, ◌-◌}
+use Rattle.std.proofs.Common.{ℕ, [], ◌∷◌, ◌++◌, ap, ◌∙◌, refl, arith, replicate, length, ◌+◌, ◌-◌}
 use Rattle.std.proofs.lemmas.Bool.Decides.{nat_tests}
 use Rattle.ssh_modp.proofs.Messages.{has_room, is_message}
 use Rattle.ssh_modp.proofs.rsa.encoded.Goals as goal

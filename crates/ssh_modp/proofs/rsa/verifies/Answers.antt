@@ -1,4 +1,4 @@
-use Rattle.std.proofs.Common.{◌≡◌, ◌==◌, length, ap, sym, ◌∙◌, arith}
+use Rattle.std.proofs.Common.{◌==◌, ap, sym, ◌∙◌, arith}
 use Rattle.std.proofs.lemmas.Bool.Decides.{nat_tests}
 use Rattle.ssh_wire.specs.Forms.{number}
 use Rattle.ssh_power.specs.Numbers.{power_modulo}

@@ -1,4 +1,4 @@
-use Rattle.std.proofs.Common.{◌≡◌, arith, ◌∙◌, ap}
+use Rattle.std.proofs.Common.{arith}
 use Rattle.ssh_modp.specs.PrimeSizes.{modp_small}
 use Rattle.ssh_modp.proofs.groups.ModpGroupsGroupLookup.lookup_dh_gex_group.Goals as goal
 
