@@ -1,0 +1,4 @@
+pub mod AuditScript
+pub mod AuditText
+pub mod AuditProgram
+pub mod Alike
