@@ -1,0 +1,13 @@
+pub mod Sending
+pub mod Ways
+pub mod Hearing
+pub mod Joint
+pub mod Settled
+pub mod Lowering
+pub mod Ending
+pub mod FormatLaws
+pub mod Sound
+pub mod Asking
+pub mod Pumping
+pub mod Example
+pub mod Muxing

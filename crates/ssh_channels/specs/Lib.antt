@@ -1,0 +1,10 @@
+pub mod Phases
+pub mod Ends
+pub mod Conversation
+pub mod Laws
+pub mod Muxes
+pub mod Formats
+pub mod Texts
+pub mod Pumping
+pub mod Reading
+pub mod Asking

@@ -1,0 +1,4 @@
+mod MuxEnds
+pub mod Carrying
+pub mod Refusing
+pub mod Mild

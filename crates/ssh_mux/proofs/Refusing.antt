@@ -1,0 +1,53 @@
+-- How a run ends.
+use Rattle.std.proofs.Common.{◌≡◌, ◌⊎◌, inl, inr, Bool, true, false, List, Option, Some, None, Result, Ok, Err, refl, sym, ap, ◌∙◌, subst}
+use Rattle.ssh_mux.specs.Pairs.{are_within, new_pair}
+use Rattle.ssh_mux.specs.Program.{HasBefore, IsRefusedRun, IsWholeRun}
+use Rattle.ssh_mux.specs.Running.{Both, IsBrokenOff, IsEndBehind, IsLinkFault, IsRunBefore, RunsSteps, TellsChannels, Told, Untold, both_of, is_call_refused}
+use Rattle.ssh_mux.specs.declared.fault.RunFault.{RunFault}
+use Rattle.ssh_mux.specs.declared.fault.RunFault.TheVariants.{Config, Link, Mux}
+use Rattle.ssh_mux.specs.declared.pair.PairConfig.{PairConfig}
+use Rattle.ssh_mux.specs.declared.report.MuxEnd.{MuxEnd}
+use Rattle.ssh_mux.specs.declared.report.MuxReport.{MuxReport}
+use Rattle.ssh_mux.specs.declared.step.ChannelStep.{ChannelStep}
+
+pub refused_config : (config : PairConfig) (steps : List ChannelStep) (end : MuxEnd) → are_within config ≡ false → end ≡ record { fault = Config; before = None } → IsRefusedRun config steps end
+refused_config config steps end out e = subst (IsRefusedRun config steps) (sym e) (record { out = λ o. refl; config_is = λ c. out; before = tt })
+
+within_not : (config : PairConfig) → are_within config ≡ true → are_within config ≡ false → ⊥
+within_not config t f = let n : true ≡ false = sym t ∙ f in cc
+
+unreported : (b : Bool) (Tells : MuxReport → Type 0) (before : Option MuxReport) → b ≡ false → before ≡ None → HasBefore b Tells before
+unreported b Tells before e n = subst (λ x. HasBefore x Tells before) (sym e) (subst (HasBefore false Tells) (sym n) tt)
+
+reported : (b : Bool) (Tells : MuxReport → Type 0) (before : Option MuxReport) (report : MuxReport) → b ≡ true → before ≡ Some report → Tells report → HasBefore b Tells before
+reported b Tells before report e n h = subst (λ x. HasBefore x Tells before) (sym e) (subst (HasBefore true Tells) (sym n) h)
+
+pub refused_link : (config : PairConfig) (steps : List ChannelStep) (end : MuxEnd) → are_within config ≡ true → IsLinkFault end.fault → end.before ≡ None → IsRefusedRun config steps end
+refused_link config steps end within link none = record {
+  out = λ o. absurd (within_not config within o);
+  config_is = λ c. absurd (link.1 c);
+  before = unreported (is_call_refused end.fault) _ end.before link.0 none;
+}
+
+pub refused_behind : (config : PairConfig) (steps : List ChannelStep) (fault : RunFault) (b : Both) (end : MuxEnd) → are_within config ≡ true
+    → IsBrokenOff steps fault (both_of (new_pair config)) b ⊎ IsLinkFault fault → IsEndBehind fault b end → IsRefusedRun config steps end
+refused_behind config steps fault b end within how (Untold link none) = refused_link config steps end within link none
+refused_behind config steps fault b end within (inr link) (Told report refused same before tells) = let n : true ≡ false = sym refused ∙ link.0 in cc
+refused_behind config steps fault b end within (inl broken) (Told report refused same before tells) = record {
+  out = λ o. absurd (within_not config within o);
+  config_is = λ c. let n : is_call_refused fault ≡ false = ap is_call_refused (sym same ∙ c) in let m : true ≡ false = sym refused ∙ n in cc;
+  before = reported (is_call_refused end.fault) _ end.before report (ap is_call_refused same ∙ refused) before
+      (record { both = b; broken = subst (λ f. IsBrokenOff steps f (both_of (new_pair config)) b) (sym same) broken; channels = tells });
+}
+
+pub whole : (config : PairConfig) (steps : List ChannelStep) (b : Both) (report : MuxReport) → are_within config ≡ true → RunsSteps steps (both_of (new_pair config)) b → TellsChannels b report → IsWholeRun config steps report
+whole config steps b report within run tells = record { within = within; run = record { both = b; run = run; channels = tells } }
+
+pub ended_untold : (fault : RunFault) (b : Both) (end : MuxEnd) → end ≡ record { fault = fault; before = None } → is_call_refused fault ≡ false → (fault ≡ Config → ⊥) → IsEndBehind fault b end
+ended_untold fault b end e uncalled config = subst (IsEndBehind fault b) (sym e) (Untold (uncalled, config) refl)
+
+pub ended_wanting : (fault other : RunFault) (b : Both) (end : MuxEnd) → end ≡ record { fault = other; before = None } → IsLinkFault other → IsEndBehind fault b end
+ended_wanting fault other b end e link = subst (IsEndBehind fault b) (sym e) (Untold link refl)
+
+pub ended_told : (fault : RunFault) (b : Both) (end : MuxEnd) (report : MuxReport) → is_call_refused fault ≡ true → end ≡ record { fault = fault; before = Some report } → TellsChannels b report → IsEndBehind fault b end
+ended_told fault b end report call e tells = subst (IsEndBehind fault b) (sym e) (Told report call refl refl tells)

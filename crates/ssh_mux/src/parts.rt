@@ -1,0 +1,46 @@
+//! The parts of a side of a run: test parts.
+
+use rand_chacha::ChaCha20Rng;
+use rand_core::SeedableRng;
+use ssh_kex::Parts;
+use ssh_negotiate::{HostKey, ServerKeys};
+use ssh_vectors::{TestAgreement, TestGroups, TestHosts, TrustedHost};
+use ssh_wire::Blob;
+use std::alloc::{AllocError, Global};
+
+/// The parts of one side of a run.
+pub(crate) type MuxParts = Parts<TestAgreement, TestHosts, TestGroups, ChaCha20Rng>;
+
+/// The parts of a side that trusts this server's keys, with a generator of this seed. Memory.
+pub(crate) fn mux_parts(
+    alloc: Global,
+    seed: u64,
+    server: &ServerKeys,
+) -> Result<MuxParts, AllocError> {
+    let trusted = trusted_keys(alloc, server.keys.as_slice())?;
+    Ok(Parts {
+        agreement: TestAgreement::new(),
+        hosts: TestHosts::new(trusted),
+        groups: TestGroups { bits: 0 },
+        rng: ChaCha20Rng::from_seed(seed_of(seed)),
+    })
+}
+
+/// The seed as 8 bytes, the least significant first, and 24 zero bytes.
+fn seed_of(seed: u64) -> [u8; 32] {
+    let mut bytes = [0; 32];
+    bytes[..8].copy_from_slice(&seed.to_le_bytes());
+    bytes
+}
+
+/// Trusts each key as its own. Memory.
+fn trusted_keys(alloc: Global, keys: &[HostKey]) -> Result<Vec<TrustedHost>, AllocError> {
+    let mut trusted = Vec::new(alloc);
+    for key in keys {
+        trusted.push(TrustedHost {
+            blob: Blob::copy_of(alloc, key.blob.as_slice())?,
+            key_blob: Blob::copy_of(alloc, key.blob.as_slice())?,
+        })?;
+    }
+    Ok(trusted)
+}

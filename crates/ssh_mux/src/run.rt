@@ -1,0 +1,248 @@
+//! The run of channels over a link.
+
+ghost use Rattle.std.specs.Prelude.{◌≡◌, ◌⊎◌, None, Some, IfErr, IfOk, OnOk, Ok, ◌∷◌, [], true, false};
+ghost use Rattle.ssh_channels.specs.Asking.{IsRefused};
+ghost use Rattle.ssh_mux.specs.Pairs.{are_within, new_pair};
+ghost use Rattle.ssh_mux.specs.Program.{HasBefore, IsRefusedRun, IsWholeRun};
+ghost use Rattle.ssh_mux.specs.Running.{Called, Carries, IsBrokenOff, IsLinkFault, IsRunBefore, RefusesStep, RunsSteps, IsEndBehind, TellsChannels, both_of, is_call_refused, step_fault};
+ghost use Rattle.ssh_mux.specs.declared.fault.RunFault.TheVariants.{Config as config_fault};
+
+use crate::carried::{carry_all, receive_delivered, submit_made};
+use crate::fault::RunFault;
+use crate::pair::{Pair, PairConfig};
+use crate::report::{MuxEnd, MuxReport};
+use crate::step::ChannelStep;
+use crate::summing::report_of;
+use rand_core::Rng;
+use ssh_channels::MuxFault;
+use ssh_kex::{Agreement, Config, GroupLookup, HostKeys, Parts};
+use ssh_rules::link::Step;
+use ssh_run::Link;
+use ssh_wire::{Error, Side};
+use std::alloc::Global;
+
+/// How both sides are set up.
+#[derive(Clone, Copy)]
+pub struct Setup<'c> {
+    pub client: &'c Config,
+    pub server: &'c Config,
+    pub channels: PairConfig,
+}
+
+/// Runs calls on the channels of a client and a server over an honest carrier. Each message that a side makes is
+/// submitted when it is made, and a side receives what was delivered behind each `Deliver`. `Settle` settles the link and
+/// lets both sides receive, until no message is made.
+///
+/// Config where a window or a largest packet is out of its bounds, before any step. Unknown, Ended or Full by the first
+/// call that a side refuses, with the report of the steps before. Link where the link refuses a step. Memory.
+#[tactic(auto, using(crate::proofs::Refusing::refused_config, crate::proofs::Refusing::refused_link, crate::proofs::Refusing::refused_behind, crate::proofs::Refusing::whole))]
+pub fn run_channels<'c, A: Agreement, H: HostKeys, G: GroupLookup, R: Rng>(
+    alloc: Global,
+    setup: &Setup<'c>,
+    client_parts: &mut Parts<A, H, G, R>,
+    server_parts: &mut Parts<A, H, G, R>,
+    steps: &[ChannelStep],
+) -> Result<MuxReport, MuxEnd>
+    ensures run { IfOk result (IsWholeRun setup.now.channels steps.now) }
+    ensures refused { IfErr result (IsRefusedRun setup.now.channels steps.now) }
+{
+    if !setup.channels.is_within() {
+        return Err(refused(RunFault::Config));
+    }
+    let mut link = match Link::new(alloc, setup.client, setup.server) {
+        Ok(link) => link,
+        Err(error) => return Err(refused(RunFault::Link(error))),
+    };
+    let mut pair = Pair::new(alloc, &setup.channels);
+    match run_steps(&mut link, client_parts, server_parts, &mut pair, steps) {
+        Ok(()) => ended(report_of(alloc, link, &pair)),
+        Err(fault) => Err(broken_off(alloc, link, &pair, fault)),
+    }
+}
+
+/// An end without a report.
+fn refused(fault: RunFault) -> MuxEnd
+    ensures { result ≡ record { fault = fault; before = None } }
+{
+    MuxEnd {
+        fault,
+        before: None,
+    }
+}
+
+/// The report, if there was memory for it.
+fn ended(report: Result<MuxReport, RunFault>) -> Result<MuxReport, MuxEnd>
+    requires { IfErr report IsLinkFault }
+    ensures ran { IfOk result (λ r. report ≡ Ok r) }
+    ensures refused { IfErr result (λ end. IsLinkFault end.fault × (end.before ≡ None)) }
+{
+    match report {
+        Ok(report) => Ok(report),
+        Err(fault) => Err(refused(fault)),
+    }
+}
+
+/// The end of a run that is refused: with the report of the steps before where a side refused a call.
+#[tactic(auto, using(crate::proofs::Refusing::ended_untold))]
+fn broken_off(alloc: Global, link: Link<'_>, pair: &Pair, fault: RunFault) -> MuxEnd
+    requires { fault ≡ config_fault → ⊥ }
+    ensures { IsEndBehind fault (both_of pair.now) result }
+{
+    if is_call_refused(&fault) {
+        return end_before(alloc, link, pair, fault);
+    }
+    refused(fault)
+}
+
+/// The end of a run in which a side refused a call.
+#[tactic(auto, using(crate::proofs::Refusing::ended_told, crate::proofs::Refusing::ended_wanting))]
+fn end_before(alloc: Global, link: Link<'_>, pair: &Pair, fault: RunFault) -> MuxEnd
+    requires { is_call_refused fault ≡ true }
+    ensures { IsEndBehind fault (both_of pair.now) result }
+{
+    match report_of(alloc, link, pair) {
+        Ok(report) => MuxEnd {
+            fault,
+            before: Some(report),
+        },
+        Err(fault) => refused(fault),
+    }
+}
+
+/// Whether a side refused a call.
+fn is_call_refused(fault: &RunFault) -> bool
+    ensures { result ≡ is_call_refused fault.now }
+{
+    match fault {
+        RunFault::Mux(MuxFault::Unknown(_) | MuxFault::Ended(_) | MuxFault::Full) => true,
+        _ => false,
+    }
+}
+
+/// Carries out the steps, until one is refused.
+fn run_steps<'c, A: Agreement, H: HostKeys, G: GroupLookup, R: Rng>(
+    link: &mut Link<'c>,
+    client_parts: &mut Parts<A, H, G, R>,
+    server_parts: &mut Parts<A, H, G, R>,
+    pair: &mut Pair,
+    steps: &[ChannelStep],
+) -> Result<(), RunFault>
+    ensures run { OnOk result (RunsSteps steps.now (both_of pair.old) (both_of pair.new)) }
+    ensures refused { IfErr result (λ fault. IsBrokenOff steps.now fault (both_of pair.old) (both_of pair.new)
+        ⊎ IsLinkFault fault) }
+{
+    for step in steps {
+        match run_step(link, client_parts, server_parts, pair, step) {
+            Ok(()) => {}
+            Err(fault) => return Err(fault),
+        }
+    }
+    Ok(())
+}
+
+/// Carries out a step.
+#[tactic(auto, using(crate::proofs::Carrying::one_step, crate::proofs::Carrying::refuses))]
+fn run_step<'c, A: Agreement, H: HostKeys, G: GroupLookup, R: Rng>(
+    link: &mut Link<'c>,
+    client_parts: &mut Parts<A, H, G, R>,
+    server_parts: &mut Parts<A, H, G, R>,
+    pair: &mut Pair,
+    step: &ChannelStep,
+) -> Result<(), RunFault>
+    ensures run { OnOk result (RunsSteps (step.now ∷ []) (both_of pair.old) (both_of pair.new)) }
+    ensures refused { IfErr result (λ fault. RefusesStep step.now fault (both_of pair.old) (both_of pair.new)) }
+{
+    let behind = call(pair, step)?;
+    carry(link, client_parts, server_parts, pair, behind)
+}
+
+/// Does what the link has to do behind a call.
+fn carry<'c, A: Agreement, H: HostKeys, G: GroupLookup, R: Rng>(
+    link: &mut Link<'c>,
+    client_parts: &mut Parts<A, H, G, R>,
+    server_parts: &mut Parts<A, H, G, R>,
+    pair: &mut Pair,
+    behind: LinkCall,
+) -> Result<(), RunFault>
+    ensures carries { OnOk result (Carries (both_of pair.old) (both_of pair.new)) }
+    ensures fault { IfErr result IsLinkFault }
+{
+    match behind {
+        LinkCall::Submit(side) => {
+            submit_made(link, client_parts, server_parts, pair, side)?;
+            Ok(())
+        }
+        LinkCall::Deliver(side, count) => {
+            link.step(client_parts, server_parts, Step::Deliver(side, count))?;
+            receive_delivered(link, client_parts, server_parts, pair, side)?;
+            Ok(())
+        }
+        LinkCall::Rekey(side) => {
+            link.step(client_parts, server_parts, Step::Rekey(side))?;
+            Ok(())
+        }
+        LinkCall::Settle => settle(link, client_parts, server_parts, pair),
+    }
+}
+
+/// Carries all until no message is made.
+#[tactic(auto, using(crate::proofs::Carrying::carries_then))]
+fn settle<'c, A: Agreement, H: HostKeys, G: GroupLookup, R: Rng>(
+    link: &mut Link<'c>,
+    client_parts: &mut Parts<A, H, G, R>,
+    server_parts: &mut Parts<A, H, G, R>,
+    pair: &mut Pair,
+) -> Result<(), RunFault>
+    ensures carries { OnOk result (Carries (both_of pair.old) (both_of pair.new)) }
+    ensures fault { IfErr result IsLinkFault }
+{
+    for _turn in 0..pair.turns {
+        if !carry_all(link, client_parts, server_parts, pair)? {
+            return Ok(());
+        }
+    }
+    Err(RunFault::Link(Error::Disconnect))
+}
+
+/// What the link has to do behind a call.
+#[derive(Clone, Copy, Debug)]
+enum LinkCall {
+    /// To carry what the side made.
+    Submit(Side),
+    Deliver(Side, u64),
+    Rekey(Side),
+    Settle,
+}
+
+/// Makes the call that a step asks for, and says what the link has to do then.
+fn call(pair: &mut Pair, step: &ChannelStep) -> Result<LinkCall, MuxFault>
+    ensures ok { OnOk result (Called step.now (both_of pair.old) (both_of pair.new)) }
+    ensures refused { IfErr result (λ f. IsRefused (step_fault step.now (both_of pair.old)) f
+        (both_of pair.new ≡ both_of pair.old)) }
+{
+    match step {
+        ChannelStep::Start(side) => {
+            let _number = pair.start(*side)?;
+            Ok(LinkCall::Submit(*side))
+        }
+        ChannelStep::Write(side, channel, bytes) => {
+            pair.write(*side, *channel, bytes.as_slice())?;
+            Ok(LinkCall::Submit(*side))
+        }
+        ChannelStep::Read(side, channel, n) => {
+            let _bytes = pair.read(*side, *channel, *n)?;
+            Ok(LinkCall::Submit(*side))
+        }
+        ChannelStep::Eof(side, channel) => {
+            pair.eof(*side, *channel)?;
+            Ok(LinkCall::Submit(*side))
+        }
+        ChannelStep::Close(side, channel) => {
+            pair.close(*side, *channel)?;
+            Ok(LinkCall::Submit(*side))
+        }
+        ChannelStep::Deliver(side, count) => Ok(LinkCall::Deliver(*side, *count)),
+        ChannelStep::Rekey(side) => Ok(LinkCall::Rekey(*side)),
+        ChannelStep::Settle => Ok(LinkCall::Settle),
+    }
+}
