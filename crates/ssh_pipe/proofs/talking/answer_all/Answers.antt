@@ -1,0 +1,16 @@
+use Rattle.std.proofs.Common.{◌∙◌}
+use Rattle.ssh_kex.specs.Stepping.{says_of}
+use Rattle.ssh_pipe.proofs.Ways.{sends_more}
+use Rattle.ssh_pipe.proofs.talking.answer_all.Goals as goal
+
+pub loop-payload-preserved : goal.loop-payload-preserved
+loop-payload-preserved g c =
+    let inv = c.loop-payload.invariant in
+    record {
+      sent = sends_more (says_of g.A.Agreement.lawful g.A.Agreement.offered g.A.Agreement.client_makes g.A.Agreement.server_makes g.A.Agreement.agrees g.H.HostKeys.lawful g.H.HostKeys.signs g.H.HostKeys.judges g.H.HostKeys.accepts g.H.HostKeys.trusts g.H.HostKeys.makes g.G.GroupLookup.lawful g.G.GroupLookup.group) _ _ _ _ _ _ _ _ _ _ _ inv.config inv.agreement inv.hosts inv.groups inv.sent (c.answer_one.ensures.sent c.in-None.is);
+      live = c.answer_one.ensures.live c.in-None.is;
+      config = c.answer_one.ensures.config c.in-None.is ∙ inv.config;
+      agreement = c.answer_one.ensures.parts.0 ∙ inv.agreement;
+      hosts = c.answer_one.ensures.parts.1 ∙ inv.hosts;
+      groups = c.answer_one.ensures.parts.2 ∙ inv.groups;
+    }

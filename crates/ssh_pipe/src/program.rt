@@ -1,0 +1,207 @@
+//! The top call of the program.
+
+ghost use Rattle.std.specs.Prelude.{◌≡◌, ◌≤◌, ◌^◌, List, ℕ, IfOk, false};
+ghost use Rattle.std.specs.Process.{exit_status};
+ghost use Rattle.ssh_wire.specs.Outside.{ReachesEnd, TakesFront};
+ghost use Rattle.ssh_program.specs.Statuses.{want_of_memory};
+ghost use Rattle.ssh_rules.specs.Standing.{IsNew, Standing};
+ghost use Rattle.ssh_pipe.specs.Talks.{Ends};
+ghost use Rattle.ssh_pipe.specs.declared.end.TalkEnd.TheVariants.{InputEnded};
+
+use crate::command::{PipeCommand, command_of};
+use crate::desk::Desk;
+use crate::end::{TalkEnd, status_of};
+use crate::keys::{known_blob, private_key};
+use crate::notes::{tell, tell_end};
+use crate::setup::{PipeParts, config_of, parts_of};
+use crate::talking::talk;
+use rand_chacha::ChaCha20Rng;
+use ssh_kex::{Config, Handed, Parts};
+use ssh_modp::{FieldAgreement, ModpGroups, RsaHosts};
+use ssh_program::{NO_COMMAND, SCRIPT_FAULTY, StdSource, WANT_OF_MEMORY, Word};
+use ssh_transport::Transport;
+use ssh_wire::{Blob, Error, Side, Sink, Source};
+use std::alloc::{AllocError, Global};
+use std::env::Args;
+use std::fs::File;
+use std::io;
+use std::process::ExitCode;
+use std::random::RandomSource;
+use std::rt::Files;
+
+/// The longest file of a key, in bytes.
+const LONGEST_FILE: usize = 65536;
+
+const USAGE: &[u8] =
+    b"usage: sshpipe server KEYFILE [LIMIT]\n       sshpipe client HOSTKEY.pub [LIMIT]\n";
+
+/// Runs the command that the arguments name, and gives the exit status: 0 the talk came to its end, 1 what the other
+/// side sent was refused, 2 the words are no command, 3 the key's file can't be read or isn't a key, 4 the source
+/// failed, 5 the sink failed, 6 want of memory.
+pub fn exit_code<R: Files + RandomSource, S: Source, K: Sink, N: Sink>(
+    rt: &R,
+    alloc: Global,
+    arguments: io::Result<Args<Global>>,
+    source: &mut S,
+    sink: &mut K,
+    notes: &mut N,
+) -> ExitCode
+    ensures { exit_status result ≤ want_of_memory }
+{
+    match words_of(alloc, arguments) {
+        Ok(words) => ExitCode::from(run(rt, alloc, words.as_slice(), source, sink, notes)),
+        Err(_) => ExitCode::from(WANT_OF_MEMORY),
+    }
+}
+
+/// The words behind the program's name; none where an argument isn't UTF-8.
+fn words_of(alloc: Global, arguments: io::Result<Args<Global>>) -> Result<Vec<Word>, AllocError> {
+    match arguments {
+        Ok(mut arguments) => {
+            arguments.next();
+            words_in(alloc, arguments)
+        }
+        Err(error) if error.kind() == io::ErrorKind::OutOfMemory => Err(AllocError),
+        Err(_) => Ok(Vec::new(alloc)),
+    }
+}
+
+/// Each argument as a word.
+fn words_in(alloc: Global, arguments: Args<Global>) -> Result<Vec<Word>, AllocError> {
+    let mut words = Vec::new(alloc);
+    for argument in arguments {
+        words.push(Word::new(argument))?;
+    }
+    Ok(words)
+}
+
+/// Runs the command that has these words, and gives the exit status.
+fn run<R: Files + RandomSource, S: Source, K: Sink, N: Sink>(
+    rt: &R,
+    alloc: Global,
+    words: &[Word],
+    source: &mut S,
+    sink: &mut K,
+    notes: &mut N,
+) -> u8
+    ensures { result ≤ want_of_memory }
+{
+    let Some(command) = command_of(words) else {
+        tell(USAGE, notes);
+        return NO_COMMAND;
+    };
+    let Some(text) = key_file(rt, alloc, command.file) else {
+        tell(b"sshpipe: the key's file can't be read\n", notes);
+        return SCRIPT_FAULTY;
+    };
+    let mut seed = [0; 32];
+    if rt.fill_bytes(&mut seed).is_err() {
+        tell(b"sshpipe: there are no random bytes\n", notes);
+        return SCRIPT_FAULTY;
+    }
+    match set_up(alloc, &command, text.as_slice(), seed) {
+        Ok((config, mut parts)) => {
+            let end = talk_as(
+                alloc,
+                command.side,
+                &config,
+                &mut parts,
+                source,
+                sink,
+                notes,
+            );
+            tell_end(alloc, &end, notes);
+            status_of(&end)
+        }
+        Err(Error::Memory) => WANT_OF_MEMORY,
+        Err(_) => {
+            tell(
+                b"sshpipe: the key's file isn't an RSA key that can be used\n",
+                notes,
+            );
+            SCRIPT_FAULTY
+        }
+    }
+}
+
+/// The bytes of a file; none where it can't be read, or has over 65536 bytes.
+fn key_file<R: Files>(rt: &R, alloc: Global, name: &str) -> Option<Vec<u8>> {
+    let file = File::open(rt, name).ok()?;
+    let mut source = StdSource::new(file);
+    let mut text = Vec::new(alloc);
+    let mut buffer = [0; 4096];
+    for _ in 0..LONGEST_FILE {
+        let n = source.read(&mut buffer).ok()?;
+        if n == 0 {
+            return Some(text);
+        }
+        text.extend_from_slice(&buffer[..n]).ok()?;
+        if text.len() > LONGEST_FILE {
+            return None;
+        }
+    }
+    None
+}
+
+/// The configuration and the parts of a side, by the text of its key's file.
+fn set_up(
+    alloc: Global,
+    command: &PipeCommand<'_>,
+    text: &[u8],
+    seed: [u8; 32],
+) -> Result<(Config, PipeParts), Error>
+    requires some { 1 ≤ command.now.limit }
+    requires most { command.now.limit ≤ 2 ^ 30 }
+{
+    match command.side {
+        Side::Server => {
+            let key = private_key(alloc, text)?;
+            let config = config_of(alloc, Some(key.blob.as_slice()), command.limit)?;
+            Ok((config, parts_of(Some(key), Vec::new(alloc), seed)))
+        }
+        Side::Client => {
+            let blob = known_blob(alloc, text)?;
+            let mut known: Vec<Blob> = Vec::new(alloc);
+            known.push(blob)?;
+            let config = config_of(alloc, None, command.limit)?;
+            Ok((config, parts_of(None, known, seed)))
+        }
+    }
+}
+
+/// Talks as this side: a new one of this configuration is fed what is taken of the source, and what it writes goes into
+/// the sink.
+pub fn talk_as<S: Source, K: Sink, N: Sink>(
+    alloc: Global,
+    side: Side,
+    config: &Config,
+    parts: &mut PipeParts,
+    source: &mut S,
+    sink: &mut K,
+    notes: &mut N,
+) -> TalkEnd
+    ensures talked { (bytes : List ℕ) × TakesFront bytes (S.left source.old) (S.left source.new)
+        × ((start : Standing) × IsNew side config.now start
+        × Ends (⟦<Parts<FieldAgreement, RsaHosts, ModpGroups, ChaCha20Rng> as Handed>⟧.says config.now parts.old) start
+        (K.held sink.old) bytes (K.held sink.new) result) }
+    ensures whole { result ≡ InputEnded → ReachesEnd (S.left source.old) (S.left source.new) }
+{
+    match opened(alloc, side, config) {
+        Ok((mut transport, mut desk)) => {
+            talk(alloc, &mut transport, parts, &mut desk, source, sink, notes)
+        }
+        Err(error) => TalkEnd::Refused(error),
+    }
+}
+
+/// A transport that has written its version line, and a desk.
+fn opened<'c>(alloc: Global, side: Side, config: &'c Config) -> Result<(Transport<'c>, Desk), Error>
+    ensures { IfOk result (λ v. IsNew side config.now v.0) }
+{
+    let desk = Desk::new(alloc, side)?;
+    let transport = match side {
+        Side::Client => Transport::client(alloc, config)?,
+        Side::Server => Transport::server(alloc, config)?,
+    };
+    Ok((transport, desk))
+}
