@@ -1,6 +1,7 @@
 # shellcheck shell=bash
-# What ./sshlink and ./sshservice share. Each has set `top`, the repository; `name`, the program's; `quiet`, 1 where only the
-# program writes; `malformed`, what may be wrong with a line; and `usage`. Then come what is run: its words.
+# What ./sshlink, ./sshservice, ./sshaudit and ./sshmux share. Each has set `top`, the repository; `name`, the
+# program's; `quiet`, 1 where only the program writes; `malformed`, what may be wrong with a line; and `usage`. Then come
+# what is run: its words.
 : "${top:?}" "${name:?}" "${quiet?}" "${malformed:?}"
 crate=$top/crates/$name
 program=$crate/out/$name

@@ -1,7 +1,8 @@
 #!/usr/bin/env bash
 # Usage: check/alloc.sh [--program FILE] [--bound N STEP] [SCRIPT..]
 # Lets each allocation of the program fail in turn, on each script (those of examples/ if none is given), by the
-# command `run` or `attack`, or by `service` of `sshservice`, where the script's name begins so and by `clear` elsewhere. Each
+# command `run` or `attack`, by `service` of `sshservice`, or by `channels` of `sshmux`, where the script's name begins so,
+# and by `clear` elsewhere. Each
 # run has to end with
 # status 6 and nothing written, or, where a growth has another way, with the report and status that it has without a
 # failure. Without one it has to agree with the .stdout and .status beside the script, where these are. How many runs
@@ -83,6 +84,7 @@ for script in "$@"; do
   run*) word=run ;;
   attack*) word=attack ;;
   service*) word=service name=sshservice ;;
+  channels*) word=channels name=sshmux ;;
   *) word=clear ;;
   esac
   program=${given:-$top/crates/$name/out/$name}

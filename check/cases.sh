@@ -4,8 +4,9 @@
 # compares what it writes and its exit status. A case is a folder with `args` (one word a line), `stdin`, `stdout` and
 # `status`; in place of `stdin` a line `COUNT TEXT` in `repeat` stands for so many lines of the text. The program is
 # `sshlink`, or that which `program` names in the folder that the case stands in. An example is a script NAME.txt of the
-# command `clear`, or of `run` or `attack` or, for `sshservice`, of `service` where its name begins so, with NAME.stdout and
-# NAME.status beside it.
+# command `clear`, or of `run` or `attack` or, for `sshservice`, of `service` or, for `sshaudit`, of `audit` or, for
+# `sshmux`, of `channels` where its name
+# begins so, with NAME.stdout and NAME.status beside it.
 set -u
 case ${1:-} in
 --help) sed -n '2,/^[^#]/s/^# \{0,1\}//p' "$0"; exit ;;
@@ -13,10 +14,10 @@ esac
 cd "$(dirname "$0")/.." || exit 1
 [ -d "${1:-cases}" ] || { echo "there is no folder $1" >&2; exit 2; }
 # The proved programs, with nothing beside their own answers.
-for program in sshlink sshservice; do
+for program in sshlink sshservice sshaudit sshmux; do
   [ -x "crates/$program/out/$program" ] || "./$program" --prove || exit 1
 done
-export SSHLINK_QUIET=1 SSHSERVICE_QUIET=1
+export SSHLINK_QUIET=1 SSHSERVICE_QUIET=1 SSHAUDIT_QUIET=1 SSHMUX_QUIET=1
 agree=0
 differ=0
 written=$(mktemp)
@@ -54,6 +55,8 @@ if [ "$#" = 0 ]; then
     run*) word=run ;;
     attack*) word=attack ;;
     service*) word=service program=sshservice ;;
+    audit*) word=audit program=sshaudit ;;
+    channels*) word=channels program=sshmux ;;
     *) word=clear ;;
     esac
     "./$program" "$word" <"$script" >"$written"

@@ -164,7 +164,7 @@ def faulty_names():
     ported crate has, and the crates' pages are made of the sources."""
     roots = [*(TOP / top for top in (".ci", "bench", "check", "cases", "docs", "examples", "vectors")),
              *(folder for kind in ("src", "specs", "proofs", "must-fail", "planted") for folder in TOP.glob(f"crates/*/{kind}"))]
-    files = [*(TOP / file for file in ("sshlink", "sshservice", "wrapper.sh")), TOP / "NOTICE", TOP / "crates.txt", *(path for root in roots for path in root.rglob("*"))]
+    files = [*(TOP / file for file in ("sshlink", "sshservice", "sshaudit", "sshmux", "sshpipe", "wrapper.sh")), TOP / "NOTICE", TOP / "crates.txt", *(path for root in roots for path in root.rglob("*"))]
     texts = (path.read_text(encoding="utf-8", errors="replace") for path in files if path.is_file() and path.suffix != ".md")
     paths = (str(path.relative_to(TOP)) for path in files)
     words = set(re.findall(r"\w+", "\n".join((*texts, *paths))))

@@ -64,8 +64,12 @@ def breaks_beyond(words, seen, stepped):
     """Whether a line that the grammar takes breaks one of the rules beyond it."""
     if words[0] == b"offer":
         return stepped or len(words[1]) > 255
+    if words[0] == b"wire":
+        again = b"wire " + words[1] in seen
+        seen.add(b"wire " + words[1])
+        return again
     if words[0] != b"set":
-        numbers = words[-1:] if words[0] == b"deliver" else []
+        numbers = {b"deliver": words[-1:], b"sent": words[1:]}.get(words[0], [])
         return any(int(n) >= 2 ** 64 for n in numbers)
     if stepped:
         return True
@@ -99,7 +103,7 @@ def first_fault(text, word, form):
             continue
         if not form.fullmatch(line) or breaks_beyond(words, seen, stepped):
             return i
-        stepped = stepped or words[0] not in (b"set", b"offer")
+        stepped = stepped or words[0] not in (b"set", b"offer", b"secret", b"wire", b"sent")
     return None
 
 
@@ -112,7 +116,7 @@ def main():
             sys.exit(f"there is no folder {word}")
     known, made = rules(), {}
     spaces = pattern("SP", known, made) + b"*"
-    forms = {w: re.compile(spaces + pattern(f"{w}-form", known, made) + spaces, re.S) for w in ("clear", "run", "attack", "service")}
+    forms = {w: re.compile(spaces + pattern(f"{w}-form", known, made) + spaces, re.S) for w in ("clear", "run", "attack", "service", "audit")}
     compared, differ = 0, []
     folders = [pathlib.Path(word).resolve() for word in sys.argv[1:]] or [TOP / "cases"]
     for case in sorted(path.parent for folder in folders for path in folder.glob("**/args")):

@@ -3,7 +3,8 @@
 # Tries each row of the table (cases/outside/table.txt if none is given), whose head says what its columns are: the
 # program's words, what outside it refuses, the script, the status, and what is written. Prints each row that is
 # answered otherwise. Where there is no cc, rows in which a call is refused by its number are passed over. The program
-# is the proved one if none is given: `sshservice` where the first word is `service`, and else `sshlink`.
+# is the proved one if none is given: `sshservice` where the first word is `service`, `sshmux` where it is `channels`, and
+# else `sshlink`.
 set -u
 usage() { sed -n '2,/^[^#]/s/^# \{0,1\}//p' "$0"; }
 top=$(cd "$(dirname "${BASH_SOURCE[0]}")/.." && pwd)
@@ -56,6 +57,7 @@ while IFS='|' read -r words refused script status text; do
   read -ra call <<<"$words"
   name=sshlink
   [ "${call[0]}" != service ] || name=sshservice
+  [ "${call[0]}" != channels ] || name=sshmux
   program=${given:-$top/crates/$name/out/$name}
   [ -x "$program" ] || "./$name" --prove </dev/null || exit 1
   read -ra refusal <<<"$refused"

@@ -15,11 +15,18 @@ ITEM = re.compile(r"pub (?:const )?(struct|enum|trait|fn|const) (\w+)")
 DEFINED = re.compile(r"(?:abbrev |unfoldable )?pub (?:abbrev |unfoldable )?(?:record |data )?(?!mod\b)([^\s:(]+)")
 CLAUSE = re.compile(r"\s*(?:ensures|requires|decreases|ghost)\b")
 LAYERS = [
-    ("The programs", ["sshlink", "sshservice"]),
+    ("The programs", ["sshlink", "sshservice", "sshaudit", "sshmux", "sshpipe"]),
+    ("Scripts of records, and what is answered to them", ["ssh_audit"]),
+    ("The judge of recorded links", ["ssh_judge"]),
+    ("Recorded wires, read whole", ["ssh_transcript"]),
+    ("Blocks of exchange messages", ["ssh_blocks"]),
     ("From a script's text to a report's text", ["ssh_link"]),
+    ("Channels over a link, from a script's text to a report's text", ["ssh_mux"]),
     ("Two sides joined, two sides fed any bytes, scripts and reports", ["ssh_run", "ssh_attack", "ssh_script"]),
     ("Records of links, without code", ["ssh_record"]),
+    ("A talk with a peer over a pipe", ["ssh_pipe"]),
     ("Services and extension info: over a transport, and of a script", ["ssh_service"]),
+    ("Channels with windows: one side, and the laws of both", ["ssh_channels"]),
     ("One side of a connection", ["ssh_transport"]),
     ("One exchange of keys", ["ssh_client_kex", "ssh_server_kex"]),
     ("The rules without code, and parts for tests", ["ssh_rules", "ssh_vectors"]),
