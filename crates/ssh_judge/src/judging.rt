@@ -1,7 +1,8 @@
 //! The top call of the judge.
 
-ghost use Rattle.std.specs.Prelude.{IfErr, OnOk};
-ghost use Rattle.ssh_judge.specs.Findings.{HasEndFinding, IsFitting};
+ghost use Rattle.std.specs.Prelude.{◌≡◌, suc, length, map, take, IfErr, IfOk};
+ghost use Rattle.ssh_record.specs.Runs.{sent_at};
+ghost use Rattle.ssh_judge.specs.Findings.{HasEndFinding, IsFittingReport};
 ghost use Rattle.ssh_transcript.specs.Ends.{IsLaterEnd};
 
 use crate::fits::fits_sent;
@@ -24,7 +25,7 @@ pub fn audit(
     server: &Config,
     transcript: &Transcript,
 ) -> Result<AuditReport, AuditEnd>
-    ensures accepted { OnOk result (IsFitting client.now server.now transcript.now) }
+    ensures accepted { IfOk result (IsFittingReport client.now server.now transcript.now) }
     ensures refused { IfErr result (HasEndFinding client.now server.now transcript.now) }
 {
     let setting = setting_for(alloc, client, server)?;
@@ -40,6 +41,8 @@ fn judged(
     setting: &Setting<'_>,
     transcript: &Transcript,
 ) -> Result<AuditReport, AuditEnd>
+    ensures sent { IfOk result (λ r. map sent_at r.marks
+        ≡ take (suc (length transcript.now.steps)) transcript.now.sent) }
     ensures refused { IfErr result IsLaterEnd }
 {
     let wires = read_wires(alloc, setting, transcript)?;

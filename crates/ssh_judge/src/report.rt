@@ -1,5 +1,7 @@
 //! What an accepted record shows.
 
+ghost use Rattle.std.specs.Prelude.{◌≡◌, IfOk};
+
 use ssh_blocks::next_submit;
 use ssh_record::{AuditReport, Transcript};
 use ssh_rules::link::{ExchangeList, Mark, MarkList, Step};
@@ -13,7 +15,9 @@ pub(crate) fn report_of(
     transcript: &Transcript,
     wires: ReadWires<'_>,
     marks: Vec<Mark>,
-) -> Result<AuditReport, AllocError> {
+) -> Result<AuditReport, AllocError>
+    ensures { IfOk result (λ r. r.marks ≡ marks.items) }
+{
     let (to_client, to_server) = delivered_at(marks.last());
     let steps = transcript.steps.as_slice();
     let client_delivered = first_submits(alloc, steps, Side::Server, to_client)?;

@@ -1,6 +1,8 @@
 //! The marks of a record, step by step.
 
-ghost use Rattle.std.specs.Prelude.{IfErr};
+ghost use Rattle.std.specs.Prelude.{◌≡◌, suc, length, map, take, Some, IsTrue, IfErr, IfOk, IfSome};
+ghost use Rattle.std.specs.Option.{option_copied};
+ghost use Rattle.ssh_record.specs.Runs.{sent_at};
 ghost use Rattle.ssh_transcript.specs.Ends.{IsLaterEnd};
 
 use crate::cause::{have_causes, see_causes};
@@ -31,6 +33,8 @@ pub(crate) fn run_marks(
     wires: &ReadWires<'_>,
     transcript: &Transcript,
 ) -> Result<Vec<Mark>, AuditEnd>
+    ensures sent { IfOk result (λ marks. map sent_at marks.items
+        ≡ take (suc (length transcript.now.steps)) transcript.now.sent) }
     ensures refused { IfErr result IsLaterEnd }
 {
     let mut run = RunState::new(alloc, setting, wires, transcript)?;
@@ -60,7 +64,10 @@ fn line_length(alloc: Global, id: &SshId) -> Result<usize, AllocError> {
 }
 
 /// Whether as much was sent at a mark as a record says.
-fn is_sent(mark: &Mark, sent: &SentPair) -> bool {
+#[tactic(auto, using(crate::proofs::Sending::sent_pair_is))]
+fn is_sent(mark: &Mark, sent: &SentPair) -> bool
+    ensures { IsTrue result → sent_at mark.now ≡ sent.now }
+{
     mark.client.sent == sent.client && mark.server.sent == sent.server
 }
 
@@ -98,7 +105,9 @@ impl<'r> RunState<'r> {
     }
 
     /// The mark that both sides stand at.
-    fn mark(&self) -> Mark {
+    fn mark(&self) -> Mark
+        ensures { (result.client ≡ self.now.client.mark) × (result.server ≡ self.now.server.mark) }
+    {
         Mark {
             client: self.client.mark,
             server: self.server.mark,
@@ -113,6 +122,7 @@ impl<'r> RunState<'r> {
 
     /// The mark before the first step, where each side had sent its version line alone. Mark where it isn't so.
     fn first_mark(&self, sent: Option<&SentPair>) -> Result<Mark, AuditEnd>
+        ensures sent { IfOk result (λ m. option_copied sent.entry ≡ Some (sent_at m)) }
         ensures refused { IfErr result IsLaterEnd }
     {
         let mark = self.mark();
@@ -129,6 +139,7 @@ impl<'r> RunState<'r> {
         sent: Option<&SentPair>,
         place: usize,
     ) -> Result<Mark, AuditEnd>
+        ensures sent { IfOk result (λ m. option_copied sent.entry ≡ Some (sent_at m)) }
         ensures refused { IfErr result IsLaterEnd }
     {
         let Some(sent) = sent else {
@@ -141,7 +152,9 @@ impl<'r> RunState<'r> {
     }
 
     /// The mark behind a step, where it is one of a run.
-    fn next_mark(&mut self, step: &Step, sent: SentPair) -> Result<Option<Mark>, AllocError> {
+    fn next_mark(&mut self, step: &Step, sent: SentPair) -> Result<Option<Mark>, AllocError>
+        ensures { IfOk result (λ found. IfSome found (λ m. sent_at m ≡ sent)) }
+    {
         let before = self.mark();
         self.client.see_rekey(step);
         self.server.see_rekey(step);
@@ -157,7 +170,10 @@ impl<'r> RunState<'r> {
     }
 
     /// Brings both sides to the mark behind a step.
-    fn reach(&mut self, step: &Step, before: &Mark, sent: SentPair) -> Result<Mark, AllocError> {
+    #[tactic(auto, using(crate::proofs::Sending::sent_pair_is))]
+    fn reach(&mut self, step: &Step, before: &Mark, sent: SentPair) -> Result<Mark, AllocError>
+        ensures { IfOk result (λ m. sent_at m ≡ sent) }
+    {
         let client = Reach {
             sent: sent.client,
             taken: taken_behind(step, Side::Client, before, sent),
