@@ -1,11 +1,13 @@
 //! The host that a server presents.
 
-ghost use Rattle.std.specs.Prelude.{◌≡◌, ◌&&◌, find};
+ghost use Rattle.std.specs.Prelude.{◌≡◌, ◌&&◌, false, find, true};
 ghost use Rattle.std.specs.Option.{option_copied};
 ghost use Rattle.std.specs.Str.{bytes_eq};
 ghost use Rattle.ssh_negotiate.specs.Advertised.{fits, has_key, is_rsa};
 ghost use Rattle.ssh_negotiate.specs.declared.preferred.HostKey.{HostKey};
 ghost use Rattle.ssh_negotiate.specs.declared.preferred.HostCertificate.{HostCertificate};
+ghost use Rattle.ssh_kex.specs.Messages.{presented};
+ghost use Rattle.ssh_rules.specs.Headline.{blob_in, blob_shown};
 
 use ssh_kex::Config;
 use ssh_negotiate::{HostCertificate, HostKey, Names, ServerKeys, is_key_compatible_with_algo};
@@ -13,7 +15,9 @@ use ssh_wire::Algorithm;
 
 /// The blob that a server presents under the names: that of the first certificate that fits and whose key is there, or
 /// of the first key that fits.
-pub fn blob_shown<'h>(config: &'h Config, names: &Names) -> Option<&'h [u8]> {
+pub fn blob_shown<'h>(config: &'h Config, names: &Names) -> Option<&'h [u8]>
+    ensures { option_copied result ≡ blob_shown config.now names.now }
+{
     if names.host_key_is_certificate {
         certificate_shown(&config.host, names.key)
     } else {
@@ -22,22 +26,24 @@ pub fn blob_shown<'h>(config: &'h Config, names: &Names) -> Option<&'h [u8]> {
 }
 
 /// The blob of the first key that fits.
-fn key_shown(hosts: &ServerKeys, algorithm: Algorithm) -> Option<&[u8]> {
-    Some(
-        fitting_key(hosts.keys.as_slice(), algorithm)?
-            .blob
-            .as_slice(),
-    )
+fn key_shown(hosts: &ServerKeys, algorithm: Algorithm) -> Option<&[u8]>
+    ensures { option_copied result ≡ blob_in (presented hosts.now false algorithm) }
+{
+    match fitting_key(hosts.keys.as_slice(), algorithm) {
+        Some(key) => Some(key.blob.as_slice()),
+        None => None,
+    }
 }
 
 /// The blob of the first certificate that fits and whose key is there.
-fn certificate_shown(hosts: &ServerKeys, algorithm: Algorithm) -> Option<&[u8]> {
+fn certificate_shown(hosts: &ServerKeys, algorithm: Algorithm) -> Option<&[u8]>
+    ensures { option_copied result ≡ blob_in (presented hosts.now true algorithm) }
+{
     let keys = hosts.keys.as_slice();
-    Some(
-        fitting_certificate(hosts.certificates.as_slice(), keys, algorithm)?
-            .blob
-            .as_slice(),
-    )
+    match fitting_certificate(hosts.certificates.as_slice(), keys, algorithm) {
+        Some(certificate) => Some(certificate.blob.as_slice()),
+        None => None,
+    }
 }
 
 /// The first key that signs under an algorithm.

@@ -1,6 +1,7 @@
 //! The types of a side's messages in one exchange, and how many of them are due.
 
-ghost use Rattle.std.specs.Prelude.{◌≡◌};
+ghost use Rattle.std.specs.Prelude.{◌≡◌, ◌≢◌, ◌<◌, ◌+◌, false, length, slice_get, IsTrue, Some};
+ghost use Rattle.ssh_packet.specs.Stream.{message_type as message_type_of};
 ghost use Rattle.ssh_rules.specs.Marks.{due};
 ghost use Rattle.ssh_rules.specs.MessageTypes as message_types;
 
@@ -58,5 +59,26 @@ pub fn messages_due(side: Side, kind: bool, read: usize) -> usize
         (Side::Server, false, _) => 3,
         (Side::Server, true, 2) => 2,
         (Side::Server, true, _) => 4,
+    }
+}
+
+/// The type of a message: its first byte, 0 where it has none.
+pub(crate) fn type_of(payload: &[u8]) -> u8
+    ensures { result ≡ message_type_of payload.now }
+{
+    match payload.first() {
+        Some(first) => *first,
+        None => 0,
+    }
+}
+
+/// Whether an order has the type at a place.
+pub(crate) fn is_due(order: &[u8], place: usize, message_type: u8) -> bool
+    ensures due { IsTrue result → slice_get order.now place ≡ Some message_type }
+    ensures other { result ≡ false → slice_get order.now place ≢ Some message_type }
+{
+    match order.get(place) {
+        Some(due) => *due == message_type,
+        None => false,
     }
 }

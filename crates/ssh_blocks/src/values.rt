@@ -1,5 +1,11 @@
 //! The values that a client's and a server's block hold.
 
+ghost use Rattle.std.specs.Prelude.{◌≡◌, ◌∷◌, [], ℕ, List, None, IfSome, false, true};
+ghost use Rattle.ssh_kex.specs.declared.config.Config.{Config};
+ghost use Rattle.ssh_kex.specs.declared.exchange.Exchange.{Exchange};
+ghost use Rattle.ssh_record.specs.Exchanges.{BlocksHold};
+ghost use Rattle.ssh_blocks.specs.Blocks.{AreShort, exchange_in};
+
 use crate::forms::{Numbers, Reply, one_string, three_sizes, three_strings, two_numbers};
 use ssh_kex::GexParams;
 use ssh_wire::{Payload, msg};
@@ -28,7 +34,12 @@ pub fn values_of<'b>(
     client: &'b [Payload],
     server: &'b [Payload],
     kind: bool,
-) -> Option<BlockValues<'b>> {
+) -> Option<BlockValues<'b>>
+    ensures held { IfSome result (λ v. (c s : Config) → AreShort client.now → AreShort server.now
+        → BlocksHold c s kind client.now server.now (exchange_in c s v) v.reply.host.now) }
+    ensures none { result ≡ None → (c s : Config) (e : Exchange) (host : List ℕ)
+        → BlocksHold c s kind client.now server.now e host → ⊥ }
+{
     if kind {
         group_values(client, server)
     } else {
@@ -37,33 +48,68 @@ pub fn values_of<'b>(
 }
 
 /// Those of an exchange in a fixed group, or on a curve.
-fn plain_values<'b>(client: &'b [Payload], server: &'b [Payload]) -> Option<BlockValues<'b>> {
-    let ([client_kexinit, value, _], [server_kexinit, reply, _]) = (client, server) else {
-        return None;
-    };
+fn plain_values<'b>(client: &'b [Payload], server: &'b [Payload]) -> Option<BlockValues<'b>>
+    ensures held { IfSome result (λ v. (c s : Config) → AreShort client.now → AreShort server.now
+        → BlocksHold c s false client.now server.now (exchange_in c s v) v.reply.host.now) }
+    ensures none { result ≡ None → (c s : Config) (e : Exchange) (host : List ℕ)
+        → BlocksHold c s false client.now server.now e host → ⊥ }
+{
+    let (client_kexinit, value) = two_of_three(client)?;
+    let (server_kexinit, reply) = two_of_three(server)?;
+    let client_value = one_string(value, msg::KEX_ECDH_INIT)?;
+    let reply = three_strings(reply, msg::KEX_ECDH_REPLY)?;
     Some(BlockValues {
-        client_kexinit: client_kexinit.as_slice(),
-        server_kexinit: server_kexinit.as_slice(),
-        client_value: one_string(value.as_slice(), msg::KEX_ECDH_INIT)?,
-        reply: three_strings(reply.as_slice(), msg::KEX_ECDH_REPLY)?,
+        client_kexinit,
+        server_kexinit,
+        client_value,
+        reply,
         group: None,
     })
 }
 
 /// Those of a group exchange.
-fn group_values<'b>(client: &'b [Payload], server: &'b [Payload]) -> Option<BlockValues<'b>> {
-    let ([client_kexinit, request, value, _], [server_kexinit, group, reply, _]) = (client, server)
-    else {
-        return None;
-    };
+fn group_values<'b>(client: &'b [Payload], server: &'b [Payload]) -> Option<BlockValues<'b>>
+    ensures held { IfSome result (λ v. (c s : Config) → AreShort client.now → AreShort server.now
+        → BlocksHold c s true client.now server.now (exchange_in c s v) v.reply.host.now) }
+    ensures none { result ≡ None → (c s : Config) (e : Exchange) (host : List ℕ)
+        → BlocksHold c s true client.now server.now e host → ⊥ }
+{
+    let (client_kexinit, request, value) = three_of_four(client)?;
+    let (server_kexinit, group, reply) = three_of_four(server)?;
+    let client_value = one_string(value, msg::KEX_DH_GEX_INIT)?;
+    let reply = three_strings(reply, msg::KEX_DH_GEX_REPLY)?;
+    let sizes = three_sizes(request, msg::KEX_DH_GEX_REQUEST)?;
+    let numbers = two_numbers(group, msg::KEX_DH_GEX_GROUP)?;
     Some(BlockValues {
-        client_kexinit: client_kexinit.as_slice(),
-        server_kexinit: server_kexinit.as_slice(),
-        client_value: one_string(value.as_slice(), msg::KEX_DH_GEX_INIT)?,
-        reply: three_strings(reply.as_slice(), msg::KEX_DH_GEX_REPLY)?,
-        group: Some(GroupValues {
-            sizes: three_sizes(request.as_slice(), msg::KEX_DH_GEX_REQUEST)?,
-            numbers: two_numbers(group.as_slice(), msg::KEX_DH_GEX_GROUP)?,
-        }),
+        client_kexinit,
+        server_kexinit,
+        client_value,
+        reply,
+        group: Some(GroupValues { sizes, numbers }),
     })
+}
+
+/// The first two messages of three.
+fn two_of_three(block: &[Payload]) -> Option<(&[u8], &[u8])>
+    ensures some { IfSome result (λ m. (last : List ℕ) × (block.now ≡ m.0.now ∷ m.1.now ∷ last ∷ [])) }
+    ensures none { result ≡ None → (a b last : List ℕ) → block.now ≡ a ∷ b ∷ last ∷ [] → ⊥ }
+{
+    match block {
+        [first, second, _] => Some((first.as_slice(), second.as_slice())),
+        _ => None,
+    }
+}
+
+/// The first three messages of four.
+fn three_of_four(block: &[Payload]) -> Option<(&[u8], &[u8], &[u8])>
+    ensures some { IfSome result (λ m. (last : List ℕ)
+        × (block.now ≡ m.0.now ∷ m.1.now ∷ m.2.now ∷ last ∷ [])) }
+    ensures none { result ≡ None → (a b c last : List ℕ) → block.now ≡ a ∷ b ∷ c ∷ last ∷ [] → ⊥ }
+{
+    match block {
+        [first, second, third, _] => {
+            Some((first.as_slice(), second.as_slice(), third.as_slice()))
+        }
+        _ => None,
+    }
 }

@@ -1,0 +1,4 @@
+pub mod Forms
+pub mod Submits
+pub mod Judging
+pub mod Blocks
