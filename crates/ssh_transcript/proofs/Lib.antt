@@ -1,2 +1,10 @@
 pub mod Naming
 pub mod Keeping
+pub mod Padded
+pub mod Places
+pub mod Wider
+pub mod Standings
+pub mod WholeWires
+pub mod Turning
+pub mod Exchanging
+pub mod Lemmas

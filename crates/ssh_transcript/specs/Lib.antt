@@ -1,3 +1,5 @@
 pub mod Making
 pub mod Choosing
 pub mod Ends
+pub mod Reading
+pub mod Alike

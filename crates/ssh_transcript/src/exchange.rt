@@ -4,6 +4,8 @@ ghost use Rattle.std.specs.Prelude.{◌≡◌, ℕ, List, false, Some, IfOk};
 ghost use Rattle.std.specs.Option.{option_copied, option_map};
 ghost use Rattle.ssh_kex.specs.Exchange.{exchange_hash};
 ghost use Rattle.ssh_negotiate.specs.Tables.{shape_of};
+ghost use Rattle.ssh_wire.specs.declared.side.Side.TheVariants.{Client as client_side, Server as server_side};
+ghost use Rattle.ssh_transcript.specs.Reading.{AreKeysOf, IsSetting};
 ghost use Rattle.ssh_transcript.specs.Making.{IsHashed, IsKeptWith, exchange_between, group_given, session_or};
 
 use crate::direction::Directions;
@@ -33,8 +35,10 @@ pub fn exchange_made(
     secret: &[u8],
     session_id: Option<HashValue>,
 ) -> Result<Made, AllocError>
-    ensures { (shape_of setting.now.names.kex).skip ≡ false
-        → IfOk result (λ m. IsHashed setting.now values.now secret.now session_id m.exchange) }
+    requires { IsSetting setting.now }
+    ensures hashed { IfOk result (λ m. IsHashed setting.now values.now secret.now session_id m.exchange) }
+    ensures client { IfOk result (λ m. AreKeysOf client_side m.exchange m.directions.client) }
+    ensures server { IfOk result (λ m. AreKeysOf server_side m.exchange m.directions.server) }
 {
     let algorithm = algorithm_with(alloc, setting, secret)?;
     let hash = hash_of(alloc, setting, values, &algorithm)?;
@@ -76,8 +80,10 @@ fn kept(
     hash: HashValue,
     session_id: HashValue,
 ) -> Made
-    ensures { (secret : List ℕ) → algorithm.now.secret ≡ Some secret → algorithm.now.name ≡ setting.now.names.kex
+    ensures kept { (secret : List ℕ) → algorithm.now.secret ≡ Some secret → algorithm.now.name ≡ setting.now.names.kex
         → IsKeptWith setting.now.names secret hash session_id result.exchange }
+    ensures client { AreKeysOf client_side result.exchange result.directions.client }
+    ensures server { AreKeysOf server_side result.exchange result.directions.server }
 {
     let client = algorithm.compute_keys(&session_id, &hash, &setting.names, false);
     let server = algorithm.compute_keys(&session_id, &hash, &setting.names, true);

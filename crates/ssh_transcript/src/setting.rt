@@ -8,9 +8,14 @@ ghost use Rattle.ssh_negotiate.specs.declared.negotiation.Names.{Names};
 ghost use Rattle.ssh_kex.specs.Messages.{is_gex};
 ghost use Rattle.ssh_kex.specs.Setting.{offers_of};
 ghost use Rattle.ssh_rules.specs.Headline.{chosen_by};
+ghost use Rattle.ssh_rules.specs.Headline as valid_host;
 ghost use Rattle.ssh_rules.specs.Valid as valid;
 ghost use Rattle.ssh_record.specs.declared.report.AuditEnd.TheVariants.{Fault, Memory};
 ghost use Rattle.ssh_record.specs.declared.report.AuditFault.TheVariants.{Config as config_refused};
+ghost use Rattle.ssh_record.specs.Packets.{host_recorded};
+ghost use Rattle.ssh_record.specs.Recordings.{Recording, config_in};
+ghost use Rattle.ssh_blocks.specs.Judging.{IsRulesOf};
+ghost use Rattle.ssh_transcript.specs.Reading.{IsSetting, judged_under};
 ghost use Rattle.ssh_transcript.specs.Choosing.{ChooseNone, IsKexinitOf, IsSettingOf, TakesNames};
 
 use rand_chacha::ChaCha20Rng;
@@ -43,7 +48,8 @@ pub fn setting_for<'c>(
     server: &'c Config,
 ) -> Result<Setting<'c>, AuditEnd>
     ensures setting { IfOk result (IsSettingOf client.now server.now) }
-    ensures refused { IfErr result (λ e. (e ≡ Memory) ⊎ ((e ≡ Fault config_refused) × ChooseNone client.now server.now)) }
+    ensures refused { IfErr result (λ e. (e ≡ Memory)
+        ⊎ ((e ≡ Fault config_refused) × ChooseNone client.now server.now)) }
 {
     tested(client, server)?;
     let client_kexinit = client_kexinit(alloc, client)?;
@@ -163,22 +169,43 @@ impl<'c> Setting<'c> {
     }
 
     /// What a side's messages are measured by.
-    pub fn rules(&self, side: Side) -> WireRules<'_> {
+    pub fn rules(&self, side: Side) -> WireRules<'_>
+        requires { IsSetting self.now }
+        ensures { (r : Recording) → IsRulesOf side (config_in side (judged_under self.now r))
+            (is_gex self.now.names.kex) (host_recorded side (judged_under self.now r)) result }
+    {
         match side {
-            Side::Client => WireRules {
-                side,
-                kind: self.kind(),
-                kexinit: self.client_kexinit.as_slice(),
-                sizes: self.client.gex,
-                host: None,
-            },
-            Side::Server => WireRules {
-                side,
-                kind: self.kind(),
-                kexinit: self.server_kexinit.as_slice(),
-                sizes: self.server.gex,
-                host: blob_shown(self.server, &self.names),
-            },
+            Side::Client => self.client_rules(),
+            Side::Server => self.server_rules(),
+        }
+    }
+
+    /// What a client's messages are measured by.
+    fn client_rules(&self) -> WireRules<'_>
+        requires { IsSetting self.now }
+        ensures { IsRulesOf client_side self.now.client.now (is_gex self.now.names.kex) None result }
+    {
+        WireRules {
+            side: Side::Client,
+            kind: self.kind(),
+            kexinit: self.client_kexinit.as_slice(),
+            sizes: self.client.gex,
+            host: None,
+        }
+    }
+
+    /// What a server's messages are measured by.
+    fn server_rules(&self) -> WireRules<'_>
+        requires { IsSetting self.now }
+        ensures { IsRulesOf server_side self.now.server.now (is_gex self.now.names.kex)
+            (valid_host.blob_shown self.now.server.now self.now.names) result }
+    {
+        WireRules {
+            side: Side::Server,
+            kind: self.kind(),
+            kexinit: self.server_kexinit.as_slice(),
+            sizes: self.server.gex,
+            host: blob_shown(self.server, &self.names),
         }
     }
 }
