@@ -8,7 +8,7 @@ use Rattle.ssh_record.specs.declared.report.AuditFault.{AuditFault}
 use Rattle.ssh_record.specs.declared.report.AuditReport.{AuditReport}
 use Rattle.ssh_kex.specs.declared.config.Config.{Config}
 use Rattle.ssh_record.specs.Recordings.{Recording}
-use Rattle.ssh_judge.specs.Findings.{HasFinding, IsFittingReport}
+use Rattle.ssh_record.specs.Answers.{IsAcceptedRecord, IsAuditFault}
 use Rattle.ssh_audit.specs.AuditScript.{AuditPlan, audit_script, recording_in}
 use Rattle.ssh_audit.specs.AuditText.{audit_fault_line, audit_report_text}
 use Rattle.ssh_audit.specs.declared.answer.AuditAnswer.{AuditAnswer}
@@ -27,11 +27,11 @@ audit_command_in (word ∷ more ∷ words) = None
 abbrev pub needs_record : AuditCommand → Bool
 needs_record Audit = true
 
--- what is answered to a record between two configurations, by what is proved of the judge
+-- what is answered to a record between two configurations: the first thing that is wrong with it, or what it shows
 abbrev pub AnswersJudged : Config → Config → Recording → AuditAnswer → Type 0
 AnswersJudged client server r (Faulty told) = ⊥
-AnswersJudged client server r (Refused f) = HasFinding client server r f
-AnswersJudged client server r (Passed report) = IsFittingReport client server r report
+AnswersJudged client server r (Refused f) = IsAuditFault client server r f
+AnswersJudged client server r (Passed report) = IsAcceptedRecord client server r report
 
 -- what is answered to the record of a script
 abbrev pub AnswersRecord : AuditPlan → AuditAnswer → Type 0

@@ -1,1 +1,14 @@
+pub mod Told
 pub mod Sending
+pub mod Changing
+pub mod Counted
+pub mod Lengths
+pub mod Fronts
+pub mod SideMarks
+pub mod Stepping
+pub mod Causes
+pub mod Flags
+pub mod Steps
+pub mod Beginning
+pub mod Accepting
+pub mod Marking

@@ -1,1 +1,4 @@
-pub mod Findings
+pub mod Tallies
+pub mod Effects
+pub mod Standing
+pub mod Marking

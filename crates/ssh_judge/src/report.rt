@@ -1,6 +1,9 @@
 //! What an accepted record shows.
 
-ghost use Rattle.std.specs.Prelude.{◌≡◌, IfOk};
+ghost use Rattle.std.specs.Prelude.{◌≡◌, ℕ, suc, length, slice_get, take, IfOk, Some, option_copied};
+ghost use Rattle.ssh_rules.specs.Headline.{submitted_by};
+ghost use Rattle.ssh_rules.specs.declared.link.Mark as marks_of;
+ghost use Rattle.ssh_wire.specs.declared.side.Side.TheVariants.{Client as client_side, Server as server_side};
 
 use ssh_blocks::next_submit;
 use ssh_record::{AuditReport, Transcript};
@@ -16,7 +19,14 @@ pub(crate) fn report_of(
     wires: ReadWires<'_>,
     marks: Vec<Mark>,
 ) -> Result<AuditReport, AllocError>
-    ensures { IfOk result (λ r. r.marks ≡ marks.items) }
+    ensures marks { IfOk result (λ r. r.marks ≡ marks.items) }
+    ensures exchanges { IfOk result (λ r. r.exchanges ≡ wires.entry.exchanges.items) }
+    ensures to_client { IfOk result (λ r. (k : ℕ) (last : marks_of.Mark) → suc k ≡ length marks.items
+        → slice_get marks.items k ≡ Some last
+        → r.client_delivered ≡ take last.client.delivered (submitted_by server_side transcript.now.steps)) }
+    ensures to_server { IfOk result (λ r. (k : ℕ) (last : marks_of.Mark) → suc k ≡ length marks.items
+        → slice_get marks.items k ≡ Some last
+        → r.server_delivered ≡ take last.server.delivered (submitted_by client_side transcript.now.steps)) }
 {
     let (to_client, to_server) = delivered_at(marks.last());
     let steps = transcript.steps.as_slice();
@@ -31,7 +41,10 @@ pub(crate) fn report_of(
 }
 
 /// How many payloads were delivered to the client and to the server at a mark.
-fn delivered_at(mark: Option<&Mark>) -> (u64, u64) {
+fn delivered_at(mark: Option<&Mark>) -> (u64, u64)
+    ensures { (m : marks_of.Mark) → option_copied mark.entry ≡ Some m
+        → (result.0 ≡ m.client.delivered) × (result.1 ≡ m.server.delivered) }
+{
     match mark {
         Some(mark) => (mark.client.delivered, mark.server.delivered),
         None => (0, 0),
@@ -44,7 +57,9 @@ fn first_submits(
     steps: &[Step],
     side: Side,
     count: u64,
-) -> Result<Vec<Payload>, AllocError> {
+) -> Result<Vec<Payload>, AllocError>
+    ensures { IfOk result (λ payloads. payloads.items ≡ take count (submitted_by side steps.now)) }
+{
     let mut payloads = Vec::new(alloc);
     let mut rest = steps;
     for _ in 0..count {

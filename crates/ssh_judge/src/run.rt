@@ -1,18 +1,24 @@
 //! The marks of a record, step by step.
 
-ghost use Rattle.std.specs.Prelude.{◌≡◌, suc, length, map, take, Some, IsTrue, IfErr, IfOk, IfSome};
+ghost use Rattle.std.specs.Prelude.{◌≡◌, ◌⊎◌, ◌↔◌, suc, length, map, take, Some, None, IsTrue, IfErr, IfOk, IfSome, OnOk};
 ghost use Rattle.std.specs.Option.{option_copied};
-ghost use Rattle.ssh_record.specs.Runs.{sent_at};
+ghost use Rattle.ssh_record.specs.Answers.{FitsSent};
+ghost use Rattle.ssh_record.specs.Runs.{RunsBy, sent_at};
+ghost use Rattle.ssh_record.specs.declared.report.AuditEnd.TheVariants.{Fault, Memory};
+ghost use Rattle.ssh_record.specs.declared.report.AuditFault.TheVariants.{Mark as MarkFault};
+ghost use Rattle.ssh_judge.specs.Effects.{HasChanged};
+ghost use Rattle.ssh_judge.specs.Marking.{IsFirst, IsMarkEnd};
+ghost use Rattle.ssh_judge.specs.Standing.{AreStanding, BeginsOneMore, ComesBoth, GoesOnTo, HaveBothCauses, KeepsBothCauses, StandBehind, StopsAt, marks_at};
 ghost use Rattle.ssh_transcript.specs.Ends.{IsLaterEnd};
+ghost use Rattle.ssh_transcript.specs.Reading.{AreGoodWires, IsSetting, judged_under};
+ghost use Rattle.ssh_wire.specs.Lines.{id_line};
 
 use crate::cause::{have_causes, see_causes};
-use crate::effect::{
-    Change, is_settled, is_step_of_one, keep_sent, submitted_behind, taken_behind,
-};
+use crate::effect::{Change, is_settled, is_step_of_one, keep_sent};
 use crate::marked::is_marked;
-use crate::side::{Reach, SideState, facts_of, is_rekey_of};
+use crate::side::{SideState, facts_of, is_rekey_of};
 use ssh_record::{AuditEnd, AuditFault, SentPair, Transcript};
-use ssh_rules::link::{Mark, Step};
+use ssh_rules::link::{Mark, SideMark, Step};
 use ssh_transcript::{ReadWires, Setting};
 use ssh_wire::{Side, SshId};
 use std::alloc::{AllocError, Global};
@@ -36,6 +42,13 @@ pub(crate) fn run_marks(
     ensures sent { IfOk result (λ marks. map sent_at marks.items
         ≡ take (suc (length transcript.now.steps)) transcript.now.sent) }
     ensures refused { IfErr result IsLaterEnd }
+    ensures run { IsSetting setting.now → FitsSent transcript.now
+        → AreGoodWires (judged_under setting.now transcript.now) wires.now
+        → IfOk result (λ marks. RunsBy (judged_under setting.now transcript.now) wires.now.exchanges.items
+        (length transcript.now.steps) marks.items) }
+    ensures broken { IsSetting setting.now → FitsSent transcript.now
+        → AreGoodWires (judged_under setting.now transcript.now) wires.now
+        → IfErr result (IsMarkEnd setting.now wires.now transcript.now) }
 {
     let mut run = RunState::new(alloc, setting, wires, transcript)?;
     let mut marks = Vec::new(alloc);
@@ -49,13 +62,16 @@ pub(crate) fn run_marks(
 
 /// The fault of a mark that is not one of a run.
 fn broken(place: u64) -> AuditEnd
-    ensures { IsLaterEnd result }
+    ensures later { IsLaterEnd result }
+    ensures told { result ≡ Fault (MarkFault place) }
 {
     AuditEnd::Fault(AuditFault::Mark { place })
 }
 
 /// How many bytes a version line has. Memory.
-fn line_length(alloc: Global, id: &SshId) -> Result<usize, AllocError> {
+fn line_length(alloc: Global, id: &SshId) -> Result<usize, AllocError>
+    ensures { IfOk result (λ n. n ≡ length (id_line id.now)) }
+{
     let mut line = Vec::new(alloc);
     match id.write(&mut line) {
         Ok(()) => Ok(line.len()),
@@ -64,9 +80,9 @@ fn line_length(alloc: Global, id: &SshId) -> Result<usize, AllocError> {
 }
 
 /// Whether as much was sent at a mark as a record says.
-#[tactic(auto, using(crate::proofs::Sending::sent_pair_is))]
+#[tactic(auto, using(crate::proofs::Changing::sent_pair_is))]
 fn is_sent(mark: &Mark, sent: &SentPair) -> bool
-    ensures { IsTrue result → sent_at mark.now ≡ sent.now }
+    ensures { IsTrue result ↔ (sent_at mark.now ≡ sent.now) }
 {
     mark.client.sent == sent.client && mark.server.sent == sent.server
 }
@@ -79,7 +95,9 @@ impl<'r> RunState<'r> {
         wires: &'r ReadWires<'_>,
         transcript: &Transcript,
     ) -> Result<RunState<'r>, AuditEnd>
+        ensures first { IfOk result (IsFirst setting.now wires.now transcript.now) }
         ensures refused { IfErr result IsLaterEnd }
+        ensures memory { IfErr result (λ e. e ≡ Memory) }
     {
         let client_line = line_length(alloc, &setting.client.id)?;
         let server_line = line_length(alloc, &setting.server.id)?;
@@ -106,7 +124,7 @@ impl<'r> RunState<'r> {
 
     /// The mark that both sides stand at.
     fn mark(&self) -> Mark
-        ensures { (result.client ≡ self.now.client.mark) × (result.server ≡ self.now.server.mark) }
+        ensures { result ≡ marks_at self.now }
     {
         Mark {
             client: self.client.mark,
@@ -115,7 +133,9 @@ impl<'r> RunState<'r> {
     }
 
     /// Whether both sides stand at the mark as sides of a run do.
-    fn are_marked(&self) -> bool {
+    fn are_marked(&self) -> bool
+        ensures { IsTrue result ↔ AreStanding self.now }
+    {
         is_marked(&self.client, &self.server, self.kind)
             && is_marked(&self.server, &self.client, self.kind)
     }
@@ -123,12 +143,21 @@ impl<'r> RunState<'r> {
     /// The mark before the first step, where each side had sent its version line alone. Mark where it isn't so.
     fn first_mark(&self, sent: Option<&SentPair>) -> Result<Mark, AuditEnd>
         ensures sent { IfOk result (λ m. option_copied sent.entry ≡ Some (sent_at m)) }
+        ensures begins { IfOk result (λ m. (m ≡ marks_at self.now) × AreStanding self.now) }
+        ensures stops { IfErr result (λ e. (e ≡ Fault (MarkFault 0))
+            × (option_copied sent.entry ≡ Some (sent_at (marks_at self.now)) → AreStanding self.now → ⊥)) }
         ensures refused { IfErr result IsLaterEnd }
     {
         let mark = self.mark();
         match sent {
-            Some(sent) if is_sent(&mark, sent) && self.are_marked() => Ok(mark),
-            _ => Err(broken(0)),
+            Some(sent) => {
+                if is_sent(&mark, sent) && self.are_marked() {
+                    Ok(mark)
+                } else {
+                    Err(broken(0))
+                }
+            }
+            None => Err(broken(0)),
         }
     }
 
@@ -140,6 +169,9 @@ impl<'r> RunState<'r> {
         place: usize,
     ) -> Result<Mark, AuditEnd>
         ensures sent { IfOk result (λ m. option_copied sent.entry ≡ Some (sent_at m)) }
+        ensures goes_on { IfOk result (λ m. GoesOnTo step.now self.old m self.new) }
+        ensures stops { IfErr result (λ e. (e ≡ Memory) ⊎ ((e ≡ Fault (MarkFault place))
+            × ((p : SentPair) → option_copied sent.entry ≡ Some p → StopsAt step.now p self.old))) }
         ensures refused { IfErr result IsLaterEnd }
     {
         let Some(sent) = sent else {
@@ -153,13 +185,13 @@ impl<'r> RunState<'r> {
 
     /// The mark behind a step, where it is one of a run.
     fn next_mark(&mut self, step: &Step, sent: SentPair) -> Result<Option<Mark>, AllocError>
-        ensures { IfOk result (λ found. IfSome found (λ m. sent_at m ≡ sent)) }
+        ensures sent { IfOk result (λ found. IfSome found (λ m. sent_at m ≡ sent)) }
+        ensures goes_on { IfOk result (λ found. IfSome found (λ m. GoesOnTo step.now self.old m self.new)) }
+        ensures stops { IfOk result (λ found. found ≡ None → StopsAt step.now sent self.old) }
     {
         let before = self.mark();
-        self.client.see_rekey(step);
-        self.server.see_rekey(step);
-        let after = self.reach(step, &before, sent)?;
-        if !self.has_effect(step, &before) || !self.are_marked() || !self.begins(step, &before) {
+        let after = self.come(step, sent)?;
+        if !self.stands_behind(step, &before) {
             return Ok(None);
         }
         if self.see_causes(step)? {
@@ -170,27 +202,30 @@ impl<'r> RunState<'r> {
     }
 
     /// Brings both sides to the mark behind a step.
-    #[tactic(auto, using(crate::proofs::Sending::sent_pair_is))]
-    fn reach(&mut self, step: &Step, before: &Mark, sent: SentPair) -> Result<Mark, AllocError>
-        ensures { IfOk result (λ m. sent_at m ≡ sent) }
+    fn come(&mut self, step: &Step, sent: SentPair) -> Result<Mark, AllocError>
+        ensures sent { IfOk result (λ m. sent_at m ≡ sent) }
+        ensures mark { IfOk result (λ m. m ≡ marks_at self.new) }
+        ensures comes { OnOk result (ComesBoth step.now sent self.old self.new) }
     {
-        let client = Reach {
-            sent: sent.client,
-            taken: taken_behind(step, Side::Client, before, sent),
-            submitted: submitted_behind(step, Side::Client, before.client.submitted),
-        };
-        let server = Reach {
-            sent: sent.server,
-            taken: taken_behind(step, Side::Server, before, sent),
-            submitted: submitted_behind(step, Side::Server, before.server.submitted),
-        };
-        self.client.reach(self.server.facts.packets, client)?;
-        self.server.reach(self.client.facts.packets, server)?;
+        let before = self.mark();
+        let others = self.server.facts.packets;
+        self.client.come(Side::Client, others, step, &before, sent)?;
+        let others = self.client.facts.packets;
+        self.server.come(Side::Server, others, step, &before, sent)?;
         Ok(self.mark())
     }
 
+    /// Whether both sides stand behind a step as sides of a run do; `before` is the mark before it.
+    fn stands_behind(&self, step: &Step, before: &Mark) -> bool
+        ensures { IsTrue result ↔ StandBehind step.now before.now self.now }
+    {
+        self.has_effect(step, before) && self.are_marked() && self.begins(step, before)
+    }
+
     /// Whether the step has its effect.
-    fn has_effect(&self, step: &Step, before: &Mark) -> bool {
+    fn has_effect(&self, step: &Step, before: &Mark) -> bool
+        ensures { IsTrue result ↔ HasChanged step.now before.now self.now.client self.now.server }
+    {
         let client = Change {
             before: before.client,
             after: self.client.mark,
@@ -213,13 +248,19 @@ impl<'r> RunState<'r> {
     }
 
     /// Whether a rekey outside an exchange began one exchange.
-    fn begins(&self, step: &Step, before: &Mark) -> bool {
-        begins_one(&self.client, step, before.client.inside)
-            && begins_one(&self.server, step, before.server.inside)
+    fn begins(&self, step: &Step, before: &Mark) -> bool
+        ensures { IsTrue result ↔ (BeginsOneMore step.now before.now.client self.now.client
+            × BeginsOneMore step.now before.now.server self.now.server) }
+    {
+        begins_one(&self.client, step, &before.client)
+            && begins_one(&self.server, step, &before.server)
     }
 
     /// Keeps the causes of the exchanges that were begun in a step. Whether each has one.
-    fn see_causes(&mut self, step: &Step) -> Result<bool, AllocError> {
+    fn see_causes(&mut self, step: &Step) -> Result<bool, AllocError>
+        ensures keeps { OnOk result (KeepsBothCauses step.now self.old self.new) }
+        ensures told { IfOk result (λ all. IsTrue all ↔ HaveBothCauses self.old self.new) }
+    {
         let client_from = self.client.causes.len();
         let server_from = self.server.causes.len();
         see_causes(&mut self.client, step)?;
@@ -232,8 +273,10 @@ impl<'r> RunState<'r> {
 }
 
 /// Whether a side began one exchange, where the step is its rekey and it was outside one.
-fn begins_one(half: &SideState<'_>, step: &Step, was_inside: bool) -> bool {
-    was_inside
+fn begins_one(half: &SideState<'_>, step: &Step, before: &SideMark) -> bool
+    ensures { IsTrue result ↔ BeginsOneMore step.now before.now half.now }
+{
+    before.inside
         || !is_rekey_of(step, half.facts.side)
         || half.own.kexinits.checked_sub(1) == Some(half.causes.len())
 }

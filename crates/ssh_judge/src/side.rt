@@ -1,10 +1,14 @@
 //! One side at a mark.
 
 ghost use Rattle.std.specs.Prelude.{◌≡◌, length, OnOk};
+ghost use Rattle.ssh_judge.specs.Effects.{asks_side, rekeyed_behind};
+ghost use Rattle.ssh_judge.specs.Standing.{AreFactsFor, ComesSide, ComesTo, IsNew};
 
+use crate::effect::{is_same, mark_of, sent_of, submitted_behind, taken_behind};
 use crate::tally::Tally;
 use ssh_kex::Config;
-use ssh_rules::link::{SideMark, Step};
+use ssh_record::SentPair;
+use ssh_rules::link::{Mark, SideMark, Step};
 use ssh_transcript::Packet;
 use ssh_wire::Side;
 use std::alloc::{AllocError, Global};
@@ -52,7 +56,9 @@ pub(crate) fn facts_of<'r>(
     wire: &[u8],
     line: usize,
     packets: &'r [Packet],
-) -> SideFacts<'r> {
+) -> SideFacts<'r>
+    ensures { AreFactsFor side config.now (length wire.now) line packets.now result }
+{
     SideFacts {
         side,
         packets,
@@ -65,7 +71,9 @@ pub(crate) fn facts_of<'r>(
 
 impl<'r> SideState<'r> {
     /// A side that has sent its version line alone, and taken nothing.
-    pub(crate) fn new(alloc: Global, facts: SideFacts<'r>, other_line: u64) -> SideState<'r> {
+    pub(crate) fn new(alloc: Global, facts: SideFacts<'r>, other_line: u64) -> SideState<'r>
+        ensures { IsNew facts.entry other_line result }
+    {
         SideState {
             facts,
             own: Tally::new(alloc, facts.line),
@@ -83,12 +91,29 @@ impl<'r> SideState<'r> {
         }
     }
 
+    /// Comes by a step to where so much is sent behind it; `before` are the marks before it.
+    pub(crate) fn come(
+        &mut self,
+        side: Side,
+        others: &[Packet],
+        step: &Step,
+        before: &Mark,
+        sent: SentPair,
+    ) -> Result<(), AllocError>
+        ensures { OnOk result (ComesSide step.now side before.now sent others.now self.old self.new) }
+    {
+        self.see_rekey(step);
+        let reach = Reach {
+            sent: sent_of(sent, side),
+            taken: taken_behind(step, side, before, sent),
+            submitted: submitted_behind(step, side, mark_of(before, side).submitted),
+        };
+        self.reach(others, reach)
+    }
+
     /// Comes so far, over the other side's packets.
-    pub(crate) fn reach(&mut self, others: &[Packet], reach: Reach) -> Result<(), AllocError>
-        ensures told { OnOk result ((self.new.mark.sent ≡ reach.sent) × (self.new.mark.taken ≡ reach.taken)
-            × (self.new.mark.submitted ≡ reach.submitted)) }
-        ensures delivered { OnOk result (self.new.mark.delivered ≡ self.new.theirs.carried) }
-        ensures finished { OnOk result (self.new.mark.finished ≡ length self.new.theirs.ended.items) }
+    fn reach(&mut self, others: &[Packet], reach: Reach) -> Result<(), AllocError>
+        ensures { OnOk result (ComesTo others.now reach self.old self.new) }
     {
         self.own.advance(self.facts.packets, reach.sent)?;
         self.theirs.advance(others, reach.taken)?;
@@ -105,17 +130,33 @@ impl<'r> SideState<'r> {
     }
 
     /// Keeps how many exchanges were finished, where the step is a rekey of this side.
-    pub(crate) fn see_rekey(&mut self, step: &Step) {
-        if is_rekey_of(step, self.facts.side) {
-            self.rekeyed = Some(self.mark.finished);
-        }
+    fn see_rekey(&mut self, step: &Step)
+        ensures { self.new ≡ record self.old {
+          rekeyed = rekeyed_behind step.now self.old.facts.side
+              self.old.mark.finished self.old.rekeyed;
+        } }
+    {
+        self.rekeyed = rekeyed_behind(step, self.facts.side, self.mark.finished, self.rekeyed);
+    }
+}
+
+/// How many exchanges were finished at a side's last rekey, behind a step before which so many were.
+fn rekeyed_behind(step: &Step, side: Side, finished: u64, before: Option<u64>) -> Option<u64>
+    ensures { result ≡ rekeyed_behind step.now side finished before }
+{
+    if is_rekey_of(step, side) {
+        Some(finished)
+    } else {
+        before
     }
 }
 
 /// Whether a step asks the side for an exchange.
-pub(crate) fn is_rekey_of(step: &Step, side: Side) -> bool {
+pub(crate) fn is_rekey_of(step: &Step, side: Side) -> bool
+    ensures { result ≡ asks_side step.now side }
+{
     match step {
-        Step::Rekey(of) => *of == side,
+        Step::Rekey(of) => is_same(*of, side),
         Step::Submit(_, _) | Step::Deliver(_, _) | Step::Settle => false,
     }
 }

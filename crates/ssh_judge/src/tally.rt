@@ -1,6 +1,9 @@
 //! What is counted of the first packets of a wire.
 
-ghost use Rattle.std.specs.Prelude.{◌≡◌, length};
+ghost use Rattle.std.specs.Prelude.{◌≡◌, ◌+◌, ◌<◌, ◌^◌, ◌++◌, ◌∷◌, [], length, Bool, List, OnOk};
+ghost use Rattle.ssh_packet.specs.Sealing.{Item};
+ghost use Rattle.ssh_rules.specs.Marks.{Half};
+ghost use Rattle.ssh_judge.specs.Tallies.{Advances, Counts, CountsFront, CountsMessage, CountsPacket, CountsPayload, EndsEpoch, IsKeptHalf, IsSeenAs, MayFollow, counted_in, line_of};
 
 use ssh_blocks::is_payload_type;
 use ssh_transcript::Packet;
@@ -30,7 +33,12 @@ pub(crate) struct Tally {
 
 impl Tally {
     /// No packet, behind a version line of this length.
-    pub(crate) fn new(alloc: Global, line: u64) -> Tally {
+    #[tactic(auto, using(crate::proofs::Counted::counts_none))]
+    pub(crate) fn new(alloc: Global, line: u64) -> Tally
+        ensures counts { Counts [] result }
+        ensures none { result.packets ≡ 0 }
+        ensures end { result.end ≡ line }
+    {
         Tally {
             packets: 0,
             end: line,
@@ -44,7 +52,11 @@ impl Tally {
     }
 
     /// Counts on to the last of a wire's packets that lies whole in its first `reach` bytes.
-    pub(crate) fn advance(&mut self, packets: &[Packet], reach: u64) -> Result<(), AllocError> {
+    pub(crate) fn advance(&mut self, packets: &[Packet], reach: u64) -> Result<(), AllocError>
+        ensures { OnOk result ((kind : Bool) (h : Half) (items : List Item) → IsKeptHalf kind h items packets.now
+            → CountsFront (line_of h) items packets.now self.old
+            → Advances (line_of h) items packets.now reach self.old self.new) }
+    {
         for packet in packets.get(self.packets..).unwrap_or(&[]) {
             if reach < packet.end {
                 return Ok(());
@@ -55,30 +67,64 @@ impl Tally {
     }
 
     /// Counts one packet more.
-    fn count(&mut self, packet: &Packet) -> Result<(), AllocError> {
+    fn count(&mut self, packet: &Packet) -> Result<(), AllocError>
+        ensures packets { OnOk result (self.old.packets + 1 < 2 ^ 64 → self.new.packets ≡ self.old.packets + 1) }
+        ensures end { OnOk result (self.new.end ≡ packet.now.end) }
+        ensures counts { OnOk result ((items : List Item) (i : Item) → MayFollow items i
+            → IsSeenAs self.old.end i packet.now → self.old.packets + 1 < 2 ^ 64
+            → Counts items self.old → Counts (items ++ i ∷ []) self.new) }
+    {
+        let counted = *packet;
+        self.count_packet(counted);
+        if is_payload_type(counted.message_type) {
+            self.count_payload(counted.length);
+            return Ok(());
+        }
+        self.count_message(counted.message_type)
+    }
+
+    /// Counts what every packet has.
+    fn count_packet(&mut self, packet: Packet)
+        ensures counts { CountsPacket packet self.old self.new }
+        ensures fits { packet.end < 2 ^ 64 }
+    {
         self.packets = self.packets.saturating_add(1);
         self.end = packet.end;
         self.epoch_bytes = self.epoch_bytes.saturating_add(packet.length);
-        if is_payload_type(packet.message_type) {
-            self.carried = self.carried.saturating_add(1);
-            self.carried_bytes = self.carried_bytes.saturating_add(packet.length);
-            return Ok(());
-        }
-        self.count_message(packet.message_type)
+    }
+
+    /// Counts a payload that is handed up.
+    fn count_payload(&mut self, length: u64)
+        ensures { CountsPayload length self.old self.new }
+    {
+        self.carried = self.carried.saturating_add(1);
+        self.carried_bytes = self.carried_bytes.saturating_add(length);
     }
 
     /// Counts a message of an exchange.
-    fn count_message(&mut self, message_type: u8) -> Result<(), AllocError> {
+    fn count_message(&mut self, message_type: u8) -> Result<(), AllocError>
+        ensures { OnOk result (CountsMessage message_type self.old self.new) }
+    {
         if message_type == msg::KEXINIT {
             self.kexinits = self.kexinits.saturating_add(1);
-            self.messages = 0;
+            self.messages = 1;
+            return Ok(());
+        }
+        if message_type == msg::NEWKEYS {
+            return self.end_epoch();
         }
         self.messages = self.messages.saturating_add(1);
-        if message_type == msg::NEWKEYS {
-            self.ended.push(self.carried_bytes)?;
-            self.carried_bytes = 0;
-            self.epoch_bytes = 0;
-        }
+        Ok(())
+    }
+
+    /// Counts the message that ends an epoch.
+    fn end_epoch(&mut self) -> Result<(), AllocError>
+        ensures { OnOk result (EndsEpoch self.old self.new) }
+    {
+        self.messages = self.messages.saturating_add(1);
+        self.ended.push(self.carried_bytes)?;
+        self.carried_bytes = 0;
+        self.epoch_bytes = 0;
         Ok(())
     }
 
@@ -90,7 +136,9 @@ impl Tally {
     }
 
     /// How many bytes the payloads have that are handed up of an epoch, counted from 0.
-    pub(crate) fn bytes_in(&self, epoch: usize) -> u64 {
+    pub(crate) fn bytes_in(&self, epoch: usize) -> u64
+        ensures { result ≡ counted_in epoch self.now }
+    {
         if epoch == self.ended.len() {
             return self.carried_bytes;
         }
