@@ -1,0 +1,9 @@
+pub mod Packets
+pub mod Mute
+pub mod Halves
+pub mod Steps
+pub mod Openings
+pub mod Talking
+pub mod Flowing
+pub mod Reading
+pub mod Lemmas

@@ -1,0 +1,34 @@
+//! Laws of many channels, for every order of calls and deliveries.
+
+ghost use Rattle.ssh_talks.specs.Talks.{ChannelsAreTalks, ChannelsCome, ChannelsFlow, NoPacketRefused, NoPayloadRefused};
+
+/// Each channel that a side opened is a talk of two ends that may have come of its opening, whatever else happens on
+/// other channels. Each channel that a side accepted is the other end of such a talk.
+#[tactic(auto, using(crate::proofs::Talking::channels_are_talks))]
+pub fn channels_are_talks()
+    ensures { ChannelsAreTalks }
+{}
+
+/// On each channel, both ways, what came is a front of what was written, and no more bytes went out than the other side's
+/// window and the reads that it told of.
+#[tactic(auto, using(crate::proofs::Flowing::channels_flow))]
+pub fn channels_flow()
+    ensures { ChannelsFlow }
+{}
+
+/// No packet that comes is out of place, none is for a channel that isn't there, and none brings too much.
+#[tactic(auto, using(crate::proofs::Flowing::no_packet_refused))]
+pub fn no_packet_refused()
+    ensures { NoPacketRefused }
+{}
+
+/// Where nothing is on the way, all that was written on a channel that nobody closed came, as far as the windows allow.
+#[tactic(auto, using(crate::proofs::Flowing::channels_come))]
+pub fn channels_come()
+    ensures { ChannelsCome }
+{}
+
+/// Each payload that comes is read as the packet that was written, and none is refused.
+pub fn no_payload_refused()
+    ensures { NoPayloadRefused }
+{}
