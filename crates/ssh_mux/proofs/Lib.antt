@@ -1,4 +1,8 @@
 mod MuxEnds
 pub mod Carrying
+pub mod Linking
 pub mod Refusing
 pub mod Mild
+pub mod OnTime
+pub mod Honesty
+pub mod Settling

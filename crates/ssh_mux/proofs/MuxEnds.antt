@@ -1,5 +1,5 @@
 -- With which status a call of the program ends, and that it read the script to its end.
-use Rattle.std.proofs.Common.{◌≡◌, ◌≢◌, inl, inr, ◌∙◌, ℕ, Bool, true, false, List, [], Option, Some, None, IfSome, Ok, Err, refl, sym, subst}
+use Rattle.std.proofs.Common.{◌≡◌, inl, inr, ◌∙◌, ℕ, Bool, true, false, List, Option, Some, None, Ok, Err, refl, sym, subst}
 use Rattle.ssh_wire.specs.Outside.{ReachesEnd}
 use Rattle.ssh_program.specs.Programs.{AnswersLeft, AnswersWords, HasOneStatus, IsAnswer, IsWritten, is_too_long, status_told}
 use Rattle.ssh_program.specs.Statuses.{report_written, run_refused, script_faulty, sink_failed, source_failed, want_of_memory}
@@ -7,7 +7,7 @@ use Rattle.ssh_program.proofs.OneStatus.{one_to_script}
 use Rattle.ssh_lines.specs.declared.script.ScriptFault.{ScriptFault}
 use Rattle.ssh_mux.specs.Alike.{too_long}
 use Rattle.ssh_mux.specs.Pairs.{are_within}
-use Rattle.ssh_mux.specs.Program.{AnswersMuxCommand, AnswersMuxPlan, AnswersMuxScript, HasChannelFault, HasWideWindow, mux_answer_status, mux_command_in, needs_channels}
+use Rattle.ssh_mux.specs.Program.{AnswersMuxCommand, AnswersMuxScript, HasChannelFault, HasWideWindow, mux_answer_status, mux_command_in, needs_channels}
 use Rattle.ssh_mux.specs.Script.{MuxPlan}
 use Rattle.ssh_mux.specs.declared.answer.MuxAnswer.{MuxAnswer}
 use Rattle.ssh_mux.specs.declared.answer.MuxAnswer.TheVariants.{Faulty, Refused, Ran}

@@ -2,6 +2,8 @@ pub mod Pairs
 pub mod Script
 pub mod Summing
 pub mod Running
+pub mod Honesty
 pub mod Printing
 pub mod Program
 pub mod Alike
+pub mod Linking

@@ -1,5 +1,5 @@
 -- Both sides of a run.
-use Rattle.std.specs.Prelude.{◌≡◌, ℕ, ◌&&◌, Bool, List, []}
+use Rattle.std.specs.Prelude.{◌&&◌, Bool, []}
 use Rattle.ssh_channels.specs.Muxes.{is_within}
 use Rattle.ssh_channels.specs.declared.config.MuxConfig.{MuxConfig}
 use Rattle.ssh_mux.specs.declared.pair.Pair.{Pair}

@@ -5,7 +5,7 @@ use Rattle.std.specs.Str.{bytes_eq}
 use Rattle.hex.specs.Hex.{decode_pairs}
 use Rattle.ssh_wire.specs.declared.side.Side.{Side}
 use Rattle.ssh_wire.specs.declared.side.Side.TheVariants.{Client, Server}
-use Rattle.ssh_lines.specs.Fields.{all_three, form_makes, from_three, from_two, from_word, hex_of, number_of, side_and, side_number, side_of}
+use Rattle.ssh_lines.specs.Fields.{form_makes, from_three, from_two, from_word, hex_of, number_of, side_and, side_number, side_of}
 use Rattle.ssh_lines.specs.Lines.{said_by}
 use Rattle.ssh_lines.specs.declared.script.ScriptFault.{ScriptFault}
 use Rattle.ssh_lines.specs.declared.script.ScriptKind.{ScriptKind}

@@ -4,6 +4,8 @@
 mod answer;
 mod carried;
 mod fault;
+mod laws;
+mod linked;
 mod mux_program;
 mod pair;
 mod parts;
@@ -14,9 +16,11 @@ mod run;
 mod script;
 mod step;
 mod summing;
+mod typed;
 
 pub use crate::answer::{MuxAnswer, MuxMain};
 pub use crate::fault::RunFault;
+pub use crate::laws::{runs_are_talks, runs_flow, runs_settle};
 pub use crate::mux_program::{MuxCommand, MuxProgram};
 pub use crate::pair::{Pair, PairConfig};
 pub use crate::print::{print_channels, print_run_fault};

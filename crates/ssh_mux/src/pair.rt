@@ -1,10 +1,11 @@
 //! Both sides of a run, and how much of what the link delivered they received.
 
-ghost use Rattle.std.specs.Prelude.{◌≡◌, OnOk, IfErr, drop, false};
+ghost use Rattle.std.specs.Prelude.{◌≡◌, [], OnOk, IfErr, drop, false, length, max};
+ghost use Rattle.ssh_wire.specs.Sides.{other_side};
 ghost use Rattle.ssh_channels.specs.Asking.{IsRefused, TakesPayload, request_fault};
 ghost use Rattle.ssh_channels.specs.Ends.{CallClose, CallEof, Read, Write};
 ghost use Rattle.ssh_channels.specs.Muxes.{On, Start};
-ghost use Rattle.ssh_mux.specs.Running.{Carries, IsCall, TakesAll, both_of, is_call_fault, state_at};
+ghost use Rattle.ssh_mux.specs.Running.{IsCall, ReceivesNew, TakesAll, both_of, is_call_fault, side_at, state_at};
 ghost use Rattle.ssh_mux.specs.Pairs.{are_within, new_pair, new_side};
 
 use ssh_channels::{Mux, MuxConfig, MuxFault};
@@ -58,7 +59,8 @@ fn receive_one(mux: &mut Mux, payload: &Payload) -> Result<(), MuxFault>
 
 /// A side receives those of the delivered payloads that it hasn't received.
 fn receive_new(side: &mut PairSide, delivered: &[Payload]) -> Result<(), MuxFault>
-    ensures takes { OnOk result (TakesAll (drop side.old.received delivered.now) side.old.mux side.new.mux) }
+    ensures takes { OnOk result (TakesAll (drop side.old.received delivered.now) side.old.mux side.new.mux
+        × (side.new.received ≡ max side.old.received (length delivered.now))) }
     ensures err { IfErr result (λ f. is_call_fault f ≡ false) }
 {
     let Some(new) = delivered.get(side.received..) else {
@@ -93,8 +95,9 @@ impl Pair {
     }
 
     /// A side receives those of the payloads delivered to it that it hasn't received.
+    #[tactic(auto, using(crate::proofs::Carrying::received_ok))]
     pub fn receive(&mut self, side: Side, delivered: &[Payload]) -> Result<(), MuxFault>
-        ensures carries { OnOk result (Carries (both_of self.old) (both_of self.new)) }
+        ensures received { OnOk result (ReceivesNew side delivered.now (both_of self.old) (both_of self.new)) }
         ensures err { IfErr result (λ f. is_call_fault f ≡ false) }
     {
         match side {
@@ -105,7 +108,11 @@ impl Pair {
 
     /// What a side made since it was taken.
     pub fn take_output(&mut self, side: Side) -> PayloadList
-        ensures { Carries (both_of self.old) (both_of self.new) }
+        ensures taken { result ≡ (state_at side (both_of self.old)).made }
+        ensures none { (state_at side (both_of self.new)).made ≡ [] }
+        ensures side { (state_at side (both_of self.new)).side ≡ (state_at side (both_of self.old)).side }
+        ensures received { (side_at side (both_of self.new)).received ≡ (side_at side (both_of self.old)).received }
+        ensures other { side_at (other_side side) (both_of self.new) ≡ side_at (other_side side) (both_of self.old) }
     {
         match side {
             Side::Client => self.client.mux.take_output(),
@@ -129,8 +136,8 @@ impl Pair {
     /// Writes bytes to a channel of a side. Unknown, then Ended. Memory.
     pub fn write(&mut self, side: Side, channel: u32, bytes: &[u8]) -> Result<(), MuxFault>
         ensures ok { OnOk result (IsCall side (On channel (Write bytes.now)) (both_of self.old) (both_of self.new)) }
-        ensures refused { IfErr result (λ f. IsRefused (request_fault (On channel (Write bytes.now)) (state_at side (both_of self.old)).side) f
-            (both_of self.new ≡ both_of self.old)) }
+        ensures refused { IfErr result (λ f. IsRefused (request_fault (On channel (Write bytes.now))
+            (state_at side (both_of self.old)).side) f (both_of self.new ≡ both_of self.old)) }
     {
         self.turns = self.turns.saturating_add(bytes.len() as u64);
         match side {
@@ -142,8 +149,8 @@ impl Pair {
     /// The next bytes that came on a channel of a side, at most `n`. Unknown. Memory.
     pub fn read(&mut self, side: Side, channel: u32, n: u64) -> Result<Payload, MuxFault>
         ensures ok { OnOk result (IsCall side (On channel (Read n)) (both_of self.old) (both_of self.new)) }
-        ensures refused { IfErr result (λ f. IsRefused (request_fault (On channel (Read n)) (state_at side (both_of self.old)).side) f
-            (both_of self.new ≡ both_of self.old)) }
+        ensures refused { IfErr result (λ f. IsRefused (request_fault (On channel (Read n))
+            (state_at side (both_of self.old)).side) f (both_of self.new ≡ both_of self.old)) }
     {
         match side {
             Side::Client => self.client.mux.read(channel, n),
@@ -154,8 +161,8 @@ impl Pair {
     /// Says that no more is written to a channel of a side. Unknown, then Ended. Memory.
     pub fn eof(&mut self, side: Side, channel: u32) -> Result<(), MuxFault>
         ensures ok { OnOk result (IsCall side (On channel CallEof) (both_of self.old) (both_of self.new)) }
-        ensures refused { IfErr result (λ f. IsRefused (request_fault (On channel CallEof) (state_at side (both_of self.old)).side) f
-            (both_of self.new ≡ both_of self.old)) }
+        ensures refused { IfErr result (λ f. IsRefused (request_fault (On channel CallEof)
+            (state_at side (both_of self.old)).side) f (both_of self.new ≡ both_of self.old)) }
     {
         match side {
             Side::Client => self.client.mux.eof(channel),
@@ -166,8 +173,8 @@ impl Pair {
     /// Closes a channel of a side. Unknown, then Ended. Memory.
     pub fn close(&mut self, side: Side, channel: u32) -> Result<(), MuxFault>
         ensures ok { OnOk result (IsCall side (On channel CallClose) (both_of self.old) (both_of self.new)) }
-        ensures refused { IfErr result (λ f. IsRefused (request_fault (On channel CallClose) (state_at side (both_of self.old)).side) f
-            (both_of self.new ≡ both_of self.old)) }
+        ensures refused { IfErr result (λ f. IsRefused (request_fault (On channel CallClose)
+            (state_at side (both_of self.old)).side) f (both_of self.new ≡ both_of self.old)) }
     {
         match side {
             Side::Client => self.client.mux.close(channel),

@@ -14,8 +14,8 @@ use ssh_wire::{Error, put_u8};
 use std::alloc::Global;
 
 /// Three lines for each channel: `channel SIDE N M STATE`, with the opener, its number, the other side's number or `-`,
-/// and `open`, `refused` or `closed`; then `to other HEX read N` and `to opener HEX read N`, with the bytes that came and
-/// how many of them were read. Memory where there is no room for it.
+/// and `open`, `refused` or `closed`; then `to other HEX read N` and `to opener HEX read N`, with the bytes that came
+/// and how many of them were read. Memory where there is no room for it.
 pub fn print_channels(alloc: Global, channels: &[ChannelReport]) -> Result<Vec<u8>, Error>
     ensures text { IfOk result (λ text. text.items ≡ channels_text channels.now) }
     ensures err { IfErr result (λ e. e ≡ Memory) }

@@ -28,9 +28,10 @@ pub fn exit_code<S: Source, K: Sink>(
     ensures status { exit_status result ≤ want_of_memory }
     ensures answered { exit_status result ≢ source_failed → exit_status result ≢ want_of_memory
         → (words : List (List ℕ)) × AreWords arguments words
-        × ((answer : Option MuxAnswer) × IsAnswer mux_command_in needs_channels AnswersMuxCommand words (S.left source.old)
-        (S.left source.new) answer × IsWritten (text_told mux_answer_text answer) (status_told mux_answer_status answer)
-        (exit_status result) (K.held sink.old) (K.held sink.new) (K.faults sink.old) (K.faults sink.new)) }
+        × ((answer : Option MuxAnswer) × IsAnswer mux_command_in needs_channels AnswersMuxCommand words
+        (S.left source.old) (S.left source.new) answer × IsWritten (text_told mux_answer_text answer)
+        (status_told mux_answer_status answer) (exit_status result) (K.held sink.old) (K.held sink.new)
+        (K.faults sink.old) (K.faults sink.new)) }
     ensures ends { exit_status result ≡ report_written → ReachesEnd (S.left source.old) (S.left source.new) }
     ensures source_failed { exit_status result ≡ source_failed → Rose (S.faults source.old) (S.faults source.new) }
     ensures silent { (exit_status result ≡ source_failed) ⊎ (exit_status result ≡ want_of_memory)
@@ -42,7 +43,8 @@ pub fn exit_code<S: Source, K: Sink>(
         → IsReading mux_command_in needs_channels words }
     ensures source_unfailed { exit_status result ≢ source_failed → S.faults source.new ≡ S.faults source.old }
     ensures sink_unfailed { exit_status result ≢ sink_failed → K.faults sink.new ≡ K.faults sink.old }
-    ensures unread { (words : List (List ℕ)) → AreWords arguments words → ¬ (IsReading mux_command_in needs_channels words)
+    ensures unread { (words : List (List ℕ)) → AreWords arguments words
+        → ¬ (IsReading mux_command_in needs_channels words)
         → S.left source.new ≡ S.left source.old }
     ensures bounded { TakesAtMost (longest_script + 1) (S.left source.old) (S.left source.new) }
     ensures faulty { (words : List (List ℕ)) → AreWords arguments words → HasChannelFault words (S.left source.old)
@@ -55,8 +57,8 @@ pub fn exit_code<S: Source, K: Sink>(
     ssh_program::exit_code::<MuxProgram, S, K>(alloc, arguments, source, sink)
 }
 
-/// Runs the command `channels`: tests the words, reads the script from the source, runs it, and writes the report to the
-/// sink. Nothing is written before all of it is known.
+/// Runs the command `channels`: tests the words, reads the script from the source, runs it, and writes the report to
+/// the sink. Nothing is written before all of it is known.
 pub fn mux_main<S: Source, K: Sink>(
     alloc: Global,
     words: &[Word],
@@ -65,14 +67,16 @@ pub fn mux_main<S: Source, K: Sink>(
 ) -> MuxMain
     ensures status { result.status ≤ want_of_memory }
     ensures answered { result.status ≢ source_failed → result.status ≢ want_of_memory → (answer : Option MuxAnswer)
-        × IsAnswer mux_command_in needs_channels AnswersMuxCommand words.now (S.left source.old) (S.left source.new) answer
-        × ShowsMux answer result × IsWritten (text_told mux_answer_text answer) (status_told mux_answer_status answer)
+        × IsAnswer mux_command_in needs_channels AnswersMuxCommand words.now (S.left source.old) (S.left source.new)
+        answer × ShowsMux answer result
+        × IsWritten (text_told mux_answer_text answer) (status_told mux_answer_status answer)
         result.status (K.held sink.old) (K.held sink.new) (K.faults sink.old) (K.faults sink.new) }
     ensures ends { result.status ≡ report_written → ReachesEnd (S.left source.old) (S.left source.new) }
     ensures source_failed { result.status ≡ source_failed → Rose (S.faults source.old) (S.faults source.new) }
     ensures silent { (result.status ≡ source_failed) ⊎ (result.status ≡ want_of_memory) → ShowsNoMux result
         × (K.held sink.new ≡ K.held sink.old) }
-    ensures usage { ¬ (IsCommand mux_command_in words.now) → (result.status ≡ no_command) ⊎ (result.status ≡ sink_failed) }
+    ensures usage { ¬ (IsCommand mux_command_in words.now)
+        → (result.status ≡ no_command) ⊎ (result.status ≡ sink_failed) }
     ensures read { result.status ≡ source_failed → IsReading mux_command_in needs_channels words.now }
     ensures run { result.status ≡ want_of_memory → IsCommand mux_command_in words.now }
     ensures source_unfailed { result.status ≢ source_failed → S.faults source.new ≡ S.faults source.old }

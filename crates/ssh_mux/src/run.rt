@@ -1,21 +1,28 @@
 //! The run of channels over a link.
 
-ghost use Rattle.std.specs.Prelude.{◌≡◌, ◌⊎◌, None, Some, IfErr, IfOk, OnOk, Ok, ◌∷◌, [], true, false};
+ghost use Rattle.std.specs.Prelude.{List, ◌≡◌, ◌⊎◌, None, Some, IfErr, IfOk, OnOk, Ok, ◌++◌, ◌∷◌, [], true, false};
+ghost use Rattle.ssh_kex.specs.Parts.{between};
+ghost use Rattle.ssh_rules.specs.Headline.{IsLink};
 ghost use Rattle.ssh_channels.specs.Asking.{IsRefused};
 ghost use Rattle.ssh_mux.specs.Pairs.{are_within, new_pair};
 ghost use Rattle.ssh_mux.specs.Program.{HasBefore, IsRefusedRun, IsWholeRun};
-ghost use Rattle.ssh_mux.specs.Running.{Called, Carries, IsBrokenOff, IsLinkFault, IsRunBefore, RefusesStep, RunsSteps, IsEndBehind, TellsChannels, both_of, is_call_refused, step_fault};
+ghost use Rattle.ssh_mux.specs.Running.{Called, Carries, IsBrokenOff, IsEndBehind, IsLinkFault, LeavesNone, RefusesStep, RunsSteps, both_of, is_call_refused, on_link, step_fault};
 ghost use Rattle.ssh_mux.specs.declared.fault.RunFault.TheVariants.{Config as config_fault};
+ghost use Rattle.ssh_mux.specs.declared.run.LinkCall.TheVariants.{Settle as settle_behind};
+ghost use Rattle.ssh_mux.specs.declared.step.ChannelStep.{ChannelStep};
+ghost use Rattle.ssh_mux.specs.declared.step.ChannelStep.TheVariants.{Settle as settle_step};
 
-use crate::carried::{carry_all, receive_delivered, submit_made};
+use crate::carried::{carry_all, receive_delivered, step_link, submit_made};
 use crate::fault::RunFault;
+use crate::linked::Linked;
 use crate::pair::{Pair, PairConfig};
 use crate::report::{MuxEnd, MuxReport};
 use crate::step::ChannelStep;
 use crate::summing::report_of;
+use crate::typed::{see_config, see_steps};
 use rand_core::Rng;
 use ssh_channels::MuxFault;
-use ssh_kex::{Agreement, Config, GroupLookup, HostKeys, Parts};
+use ssh_kex::{Agreement, Config, GroupLookup, Handed, HostKeys, Parts};
 use ssh_rules::link::Step;
 use ssh_run::Link;
 use ssh_wire::{Error, Side};
@@ -30,11 +37,13 @@ pub struct Setup<'c> {
 }
 
 /// Runs calls on the channels of a client and a server over an honest carrier. Each message that a side makes is
-/// submitted when it is made, and a side receives what was delivered behind each `Deliver`. `Settle` settles the link and
-/// lets both sides receive, until no message is made.
+/// submitted when it is made, and a side receives what was delivered behind each `Deliver`. `Settle` settles the link
+/// and lets both sides receive, until no message is made: it leaves nothing on the way.
 ///
 /// Config where a window or a largest packet is out of its bounds, before any step. Unknown, Ended or Full by the first
 /// call that a side refuses, with the report of the steps before. Link where the link refuses a step. Memory.
+///
+/// Of lawful parts the link of the report is a link between both sides.
 #[tactic(auto, using(crate::proofs::Refusing::refused_config, crate::proofs::Refusing::refused_link, crate::proofs::Refusing::refused_behind, crate::proofs::Refusing::whole))]
 pub fn run_channels<'c, A: Agreement, H: HostKeys, G: GroupLookup, R: Rng>(
     alloc: Global,
@@ -45,7 +54,14 @@ pub fn run_channels<'c, A: Agreement, H: HostKeys, G: GroupLookup, R: Rng>(
 ) -> Result<MuxReport, MuxEnd>
     ensures run { IfOk result (IsWholeRun setup.now.channels steps.now) }
     ensures refused { IfErr result (IsRefusedRun setup.now.channels steps.now) }
+    ensures link { A.lawful client_parts.old.agreement (between setup.now.client.now setup.now.server.now)
+        → A.lawful server_parts.old.agreement (between setup.now.client.now setup.now.server.now)
+        → G.lawful server_parts.old.groups (between setup.now.client.now setup.now.server.now)
+        → IfOk result (λ r. IsLink A.client_makes A.server_makes A.agrees setup.now.client.now setup.now.server.now
+        r.steps.items r.link) }
 {
+    see_config(setup.client);
+    see_config(setup.server);
     if !setup.channels.is_within() {
         return Err(refused(RunFault::Config));
     }
@@ -55,7 +71,10 @@ pub fn run_channels<'c, A: Agreement, H: HostKeys, G: GroupLookup, R: Rng>(
     };
     let mut pair = Pair::new(alloc, &setup.channels);
     match run_steps(&mut link, client_parts, server_parts, &mut pair, steps) {
-        Ok(()) => ended(report_of(alloc, link, &pair)),
+        Ok(()) => {
+            see_steps(link.steps());
+            ended(report_of(alloc, link, &pair))
+        }
         Err(fault) => Err(broken_off(alloc, link, &pair, fault)),
     }
 }
@@ -86,7 +105,7 @@ fn ended(report: Result<MuxReport, RunFault>) -> Result<MuxReport, MuxEnd>
 #[tactic(auto, using(crate::proofs::Refusing::ended_untold))]
 fn broken_off(alloc: Global, link: Link<'_>, pair: &Pair, fault: RunFault) -> MuxEnd
     requires { fault ≡ config_fault → ⊥ }
-    ensures { IsEndBehind fault (both_of pair.now) result }
+    ensures { IsEndBehind fault (on_link pair.now link.entry) result }
 {
     if is_call_refused(&fault) {
         return end_before(alloc, link, pair, fault);
@@ -98,7 +117,7 @@ fn broken_off(alloc: Global, link: Link<'_>, pair: &Pair, fault: RunFault) -> Mu
 #[tactic(auto, using(crate::proofs::Refusing::ended_told, crate::proofs::Refusing::ended_wanting))]
 fn end_before(alloc: Global, link: Link<'_>, pair: &Pair, fault: RunFault) -> MuxEnd
     requires { is_call_refused fault ≡ true }
-    ensures { IsEndBehind fault (both_of pair.now) result }
+    ensures { IsEndBehind fault (on_link pair.now link.entry) result }
 {
     match report_of(alloc, link, pair) {
         Ok(report) => MuxEnd {
@@ -127,9 +146,15 @@ fn run_steps<'c, A: Agreement, H: HostKeys, G: GroupLookup, R: Rng>(
     pair: &mut Pair,
     steps: &[ChannelStep],
 ) -> Result<(), RunFault>
-    ensures run { OnOk result (RunsSteps steps.now (both_of pair.old) (both_of pair.new)) }
-    ensures refused { IfErr result (λ fault. IsBrokenOff steps.now fault (both_of pair.old) (both_of pair.new)
-        ⊎ IsLinkFault fault) }
+    ensures run { OnOk result (RunsSteps steps.now (on_link pair.old link.old) (on_link pair.new link.new)) }
+    ensures settled { (before : List ChannelStep) → steps.now ≡ before ++ settle_step ∷ []
+        → OnOk result (LeavesNone (on_link pair.new link.new)) }
+    ensures refused { IfErr result (λ fault. IsBrokenOff steps.now fault (on_link pair.old link.old)
+        (on_link pair.new link.new) ⊎ IsLinkFault fault) }
+    ensures goes { OnOk result (⟦<Parts<A, H, G, R> as Linked>⟧.goes_on link.old client_parts.old server_parts.old
+        link.new) }
+    ensures client_keeps { ⟦<Parts<A, H, G, R> as Handed>⟧.keeps client_parts.old client_parts.new }
+    ensures server_keeps { ⟦<Parts<A, H, G, R> as Handed>⟧.keeps server_parts.old server_parts.new }
 {
     for step in steps {
         match run_step(link, client_parts, server_parts, pair, step) {
@@ -149,8 +174,14 @@ fn run_step<'c, A: Agreement, H: HostKeys, G: GroupLookup, R: Rng>(
     pair: &mut Pair,
     step: &ChannelStep,
 ) -> Result<(), RunFault>
-    ensures run { OnOk result (RunsSteps (step.now ∷ []) (both_of pair.old) (both_of pair.new)) }
-    ensures refused { IfErr result (λ fault. RefusesStep step.now fault (both_of pair.old) (both_of pair.new)) }
+    ensures run { OnOk result (RunsSteps (step.now ∷ []) (on_link pair.old link.old) (on_link pair.new link.new)) }
+    ensures settled { step.now ≡ settle_step → OnOk result (LeavesNone (on_link pair.new link.new)) }
+    ensures refused { IfErr result (λ fault. RefusesStep step.now fault (on_link pair.old link.old)
+        (on_link pair.new link.new)) }
+    ensures goes { OnOk result (⟦<Parts<A, H, G, R> as Linked>⟧.goes_on link.old client_parts.old server_parts.old
+        link.new) }
+    ensures client_keeps { ⟦<Parts<A, H, G, R> as Handed>⟧.keeps client_parts.old client_parts.new }
+    ensures server_keeps { ⟦<Parts<A, H, G, R> as Handed>⟧.keeps server_parts.old server_parts.new }
 {
     let behind = call(pair, step)?;
     carry(link, client_parts, server_parts, pair, behind)
@@ -164,8 +195,13 @@ fn carry<'c, A: Agreement, H: HostKeys, G: GroupLookup, R: Rng>(
     pair: &mut Pair,
     behind: LinkCall,
 ) -> Result<(), RunFault>
-    ensures carries { OnOk result (Carries (both_of pair.old) (both_of pair.new)) }
+    ensures carries { OnOk result (Carries (on_link pair.old link.old) (on_link pair.new link.new)) }
+    ensures settled { behind ≡ settle_behind → OnOk result (LeavesNone (on_link pair.new link.new)) }
     ensures fault { IfErr result IsLinkFault }
+    ensures goes { OnOk result (⟦<Parts<A, H, G, R> as Linked>⟧.goes_on link.old client_parts.old server_parts.old
+        link.new) }
+    ensures client_keeps { ⟦<Parts<A, H, G, R> as Handed>⟧.keeps client_parts.old client_parts.new }
+    ensures server_keeps { ⟦<Parts<A, H, G, R> as Handed>⟧.keeps server_parts.old server_parts.new }
 {
     match behind {
         LinkCall::Submit(side) => {
@@ -173,19 +209,19 @@ fn carry<'c, A: Agreement, H: HostKeys, G: GroupLookup, R: Rng>(
             Ok(())
         }
         LinkCall::Deliver(side, count) => {
-            link.step(client_parts, server_parts, Step::Deliver(side, count))?;
+            step_link(link, client_parts, server_parts, Step::Deliver(side, count))?;
             receive_delivered(link, client_parts, server_parts, pair, side)?;
             Ok(())
         }
         LinkCall::Rekey(side) => {
-            link.step(client_parts, server_parts, Step::Rekey(side))?;
+            step_link(link, client_parts, server_parts, Step::Rekey(side))?;
             Ok(())
         }
         LinkCall::Settle => settle(link, client_parts, server_parts, pair),
     }
 }
 
-/// Carries all until no message is made.
+/// Carries all until no message is made. Then nothing is on the way.
 #[tactic(auto, using(crate::proofs::Carrying::carries_then))]
 fn settle<'c, A: Agreement, H: HostKeys, G: GroupLookup, R: Rng>(
     link: &mut Link<'c>,
@@ -193,8 +229,13 @@ fn settle<'c, A: Agreement, H: HostKeys, G: GroupLookup, R: Rng>(
     server_parts: &mut Parts<A, H, G, R>,
     pair: &mut Pair,
 ) -> Result<(), RunFault>
-    ensures carries { OnOk result (Carries (both_of pair.old) (both_of pair.new)) }
+    ensures carries { OnOk result (Carries (on_link pair.old link.old) (on_link pair.new link.new)) }
+    ensures settled { OnOk result (LeavesNone (on_link pair.new link.new)) }
     ensures fault { IfErr result IsLinkFault }
+    ensures goes { OnOk result (⟦<Parts<A, H, G, R> as Linked>⟧.goes_on link.old client_parts.old server_parts.old
+        link.new) }
+    ensures client_keeps { ⟦<Parts<A, H, G, R> as Handed>⟧.keeps client_parts.old client_parts.new }
+    ensures server_keeps { ⟦<Parts<A, H, G, R> as Handed>⟧.keeps server_parts.old server_parts.new }
 {
     for _turn in 0..pair.turns {
         if !carry_all(link, client_parts, server_parts, pair)? {
@@ -217,6 +258,7 @@ enum LinkCall {
 /// Makes the call that a step asks for, and says what the link has to do then.
 fn call(pair: &mut Pair, step: &ChannelStep) -> Result<LinkCall, MuxFault>
     ensures ok { OnOk result (Called step.now (both_of pair.old) (both_of pair.new)) }
+    ensures settles { IfOk result (λ behind. step.now ≡ settle_step → behind ≡ settle_behind) }
     ensures refused { IfErr result (λ f. IsRefused (step_fault step.now (both_of pair.old)) f
         (both_of pair.new ≡ both_of pair.old)) }
 {

@@ -118,7 +118,8 @@ impl LineForms for MuxForms {
 /// Takes the words of a window.
 fn set_window(script: &mut MuxScript, words: Words) -> Result<(), LineFault>
     ensures ok { OnOk result (window_behind script.old.steps.items (option_map
-        (with_window (record { channels = script.old.channels; steps = script.old.steps.items })) (window_in words.entry))
+        (with_window (record { channels = script.old.channels; steps = script.old.steps.items }))
+        (window_in words.entry))
         ≡ Some (record { channels = script.new.channels; steps = script.new.steps.items })) }
     ensures fault { IfErr result (AreWrong (window_behind script.old.steps.items (option_map
         (with_window (record { channels = script.old.channels; steps = script.old.steps.items }))

@@ -3,7 +3,7 @@
 ghost use Rattle.std.specs.Prelude.{◌≡◌, ◌++◌, ◌==◌, ◌&&◌, not, IfErr, IfOk, OnOk};
 ghost use Rattle.std.specs.Option.{option_map};
 ghost use Rattle.ssh_mux.specs.Summing.{all_channels, both_flows, channel_of, channels_from, flows_of, granted_channel, granted_number, is_refused_in, is_shut, lone_flows, next_number, one_channel, refusal_in, refusals_in, submitted_by_step, flow_between};
-ghost use Rattle.ssh_mux.specs.Running.{IsLinkFault};
+ghost use Rattle.ssh_mux.specs.Running.{IsLinkFault, TellsRun, on_link};
 
 use crate::fault::RunFault;
 use crate::pair::Pair;
@@ -16,8 +16,7 @@ use std::alloc::{AllocError, Global};
 
 /// The report of a run. Memory.
 pub(crate) fn report_of(alloc: Global, link: Link<'_>, pair: &Pair) -> Result<MuxReport, RunFault>
-    ensures channels { IfOk result (λ report. report.channels.items ≡ all_channels pair.now.client.mux.side.channels
-        pair.now.server.mux.side.channels report.steps.items) }
+    ensures tells { IfOk result (TellsRun (on_link pair.now link.entry)) }
     ensures want { IfErr result IsLinkFault }
 {
     match link.report() {
@@ -35,6 +34,8 @@ fn with_channels(
 ) -> Result<MuxReport, RunFault>
     ensures channels { IfOk result (λ report. report.channels.items ≡ all_channels pair.now.client.mux.side.channels
         pair.now.server.mux.side.channels report.steps.items) }
+    ensures steps { IfOk result (λ report. report.steps.items ≡ steps.items) }
+    ensures link { IfOk result (λ report. report.link ≡ link) }
     ensures want { IfErr result IsLinkFault }
 {
     match channels_of(alloc, steps.as_slice(), pair) {

@@ -1,4 +1,4 @@
-use Rattle.std.proofs.Common.{◌≡◌, take}
+use Rattle.std.proofs.Common.{take}
 use Rattle.ssh_mux.specs.Running.{TakesAll}
 use Rattle.ssh_mux.proofs.pair.receive_new.Given as goal
 

@@ -1,4 +1,4 @@
-use Rattle.ssh_program.specs.Statuses.{report_written, run_refused, script_faulty}
+use Rattle.ssh_program.specs.Statuses.{run_refused, script_faulty}
 use Rattle.ssh_mux.proofs.MuxEnds.{faulty_sure, wide_sure, written_ample, written_unfailed, written_whole}
 use Rattle.ssh_mux.proofs.program.exit_code.Goals as goal
 

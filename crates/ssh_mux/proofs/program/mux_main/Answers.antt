@@ -1,4 +1,4 @@
-use Rattle.std.proofs.Common.{◌≡◌, inl, inr, ◌∙◌, sym, subst}
+use Rattle.std.proofs.Common.{◌≡◌, ◌∙◌, sym, subst}
 use Rattle.ssh_program.specs.Statuses.{report_written, run_refused, script_faulty}
 use Rattle.ssh_mux.specs.Program.{ShowsMux}
 use Rattle.ssh_mux.proofs.MuxEnds.{faulty_sure, wide_sure, written_ample, written_unfailed, written_whole}

@@ -1,9 +1,17 @@
 use Rattle.std.proofs.Common.{refl}
-use Rattle.ssh_mux.proofs.Carrying.{breaks, next_runs}
+use Rattle.ssh_mux.proofs.Carrying.{breaks, next_runs, next_settled}
+use Rattle.ssh_mux.proofs.Linking.{goes_then, parts_after}
+use Rattle.ssh_mux.specs.declared.step.ChannelStep.TheVariants.{Settle}
 use Rattle.ssh_mux.proofs.run.run_steps.Goals as goal
 
 pub loop-step-preserved : goal.loop-step-preserved
-loop-step-preserved g c = next_runs c.args.steps.now c.loop-step.step-index c.step-item.result c.step-item.result _ _ _ c.loop-step-test.true c.step-item.is refl c.loop-step.invariant c.in-Ok.ensures.run
+loop-step-preserved g c = record {
+  runs = next_runs c.args.steps.now c.loop-step.step-index c.step-item.result c.step-item.result _ _ _ c.loop-step-test.true c.step-item.is refl c.loop-step.invariant.runs c.in-Ok.ensures.run;
+  settled = λ before e. c.in-Ok.ensures.settled (next_settled c.args.steps.now before c.loop-step.step-index c.step-item.result c.step-item.result Settle c.loop-step-test.true c.step-item.is refl e);
+  goes = goes_then g.A.Agreement.client_makes g.A.Agreement.server_makes g.A.Agreement.agrees g.H.HostKeys.makes c.args.link.now c.loop-step.link c.run_step.new.link c.loop-step.invariant.client_keeps c.loop-step.invariant.server_keeps c.loop-step.invariant.goes c.in-Ok.ensures.goes;
+  client_keeps = parts_after c.loop-step.invariant.client_keeps c.run_step.ensures.client_keeps;
+  server_keeps = parts_after c.loop-step.invariant.server_keeps c.run_step.ensures.server_keeps;
+}
 
 pub returns-in-Err-clause-refused : goal.returns-in-Err-clause-refused
-returns-in-Err-clause-refused g c = breaks c.args.steps.now c.loop-step.step-index c.step-item.result c.step-item.result c.in-Err.fault _ _ _ c.loop-step-test.true c.step-item.is refl c.loop-step.invariant c.in-Err.ensures.refused
+returns-in-Err-clause-refused g c = breaks c.args.steps.now c.loop-step.step-index c.step-item.result c.step-item.result c.in-Err.fault _ _ _ c.loop-step-test.true c.step-item.is refl c.loop-step.invariant.runs c.in-Err.ensures.refused
