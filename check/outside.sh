@@ -2,9 +2,8 @@
 # Usage: check/outside.sh [--program FILE] [TABLE]
 # Tries each row of the table (cases/outside/table.txt if none is given), whose head says what its columns are: the
 # program's words, what outside it refuses, the script, the status, and what is written. Prints each row that is
-# answered otherwise. Where there is no cc, rows in which a call is refused by its number are passed over. The program
-# is the proved one if none is given: `sshservice` where the first word is `service`, `sshmux` where it is `channels`, and
-# else `sshlink`.
+# answered otherwise. Where there is no cc, rows in which a call is refused by its number are passed over. The programs
+# are the proved ones. With --program the rows of `sshlink` alone are tried, with that file in its place.
 set -u
 usage() { sed -n '2,/^[^#]/s/^# \{0,1\}//p' "$0"; }
 top=$(cd "$(dirname "${BASH_SOURCE[0]}")/.." && pwd)
@@ -54,10 +53,10 @@ failed=0
 skipped=0
 while IFS='|' read -r words refused script status text; do
   case $words in '' | '#'*) continue ;; esac
-  read -ra call <<<"$words"
   name=sshlink
-  [ "${call[0]}" != service ] || name=sshservice
-  [ "${call[0]}" != channels ] || name=sshmux
+  case $words in *:*) name=${words%%:*} words=${words#*:} ;; esac
+  read -ra call <<<"$words"
+  [ -z "$given" ] || [ "$name" = sshlink ] || continue
   program=${given:-$top/crates/$name/out/$name}
   [ -x "$program" ] || "./$name" --prove </dev/null || exit 1
   read -ra refusal <<<"$refused"
@@ -91,7 +90,7 @@ while IFS='|' read -r words refused script status text; do
   (
     [ "$closed" != no-input ] || exec <&-
     [ "$closed" != no-output ] || exec >&-
-    exec env "${environment[@]}" "$program" "${call[@]}" 2>/dev/null
+    exec env "${environment[@]}" "$program" ${call[@]+"${call[@]}"} 2>/dev/null
   ) <"$input" >"$output"
   ended=$?
   if [ "$ended" = "$status" ] && cmp -s "$room/written" "$room/wanted"; then
