@@ -1,10 +1,10 @@
 -- What is carried, and steps one after the other.
-use Rattle.std.proofs.Common.{◌≡◌, ℕ, zero, suc, ◌+◌, ◌<◌, ◌≤◌, max, Bool, true, false, ◌⊎◌, inl, inr, List, [], ◌∷◌, ◌++◌, length, get_or, take, drop, Option, Some, None, Result, Ok, Err, OnOk, refl, sym, ap, ◌∙◌, subst, arith, append_assoc, append-nil, length-append}
+use Rattle.std.proofs.Common.{◌≡◌, ℕ, zero, suc, ◌+◌, ◌<◌, ◌≤◌, max, Bool, true, false, ◌⊎◌, inl, inr, List, [], ◌∷◌, ◌++◌, length, get_or, take, drop, Option, Some, None, Result, Ok, Err, IfErr, OnOk, refl, sym, ap, ◌∙◌, subst, arith, append_assoc, append-nil, length-append}
 use Rattle.std.proofs.lemmas.List.{drop_more, take-append-drop, take_more}
 use Rattle.ssh_wire.specs.Sides.{other_side}
 use Rattle.ssh_wire.specs.declared.side.Side.{Side}
 use Rattle.ssh_wire.specs.declared.side.Side.TheVariants.{Client, Server}
-use Rattle.ssh_channels.specs.Asking.{IsRefused, MuxState, TakesPayload}
+use Rattle.ssh_channels.specs.Asking.{IsRefused, MuxState, TakesPayload, payload_fault}
 use Rattle.ssh_channels.specs.declared.fault.MuxFault.{MuxFault}
 use Rattle.ssh_kex.specs.Setting.{Says}
 use Rattle.ssh_rules.specs.declared.link.Step.{Step}
@@ -14,6 +14,7 @@ use Rattle.ssh_run.specs.Carrying.{CarriedEnd, CarriedLink, CarriesTo, RepeatsTu
 use Rattle.ssh_run.specs.Stepping.{LinkState, TakesStep}
 use Rattle.ssh_wire.specs.declared.error.Error.{Error}
 use Rattle.ssh_wire.specs.declared.error.Error.TheVariants.{Disconnect}
+use Rattle.ssh_mux.specs.Breaking.{Breaks}
 use Rattle.ssh_mux.specs.Running.{Both, Called, Carried, Received, ReceivesNew, Stepped, Submitted, state_at, side_at, with_state, Carries, CarriesBy, IsBrokenOff, IsLinkFault, PairOnLink, is_submit, RefusesStep, RunsSteps, TakesAll, LinkGoes, step_fault}
 use Rattle.ssh_mux.specs.declared.fault.RunFault.{RunFault}
 use Rattle.ssh_mux.specs.declared.fault.RunFault.TheVariants.{Mux}
@@ -49,6 +50,23 @@ pub next_takes : (all : List (List ℕ)) (i : ℕ) (payload item : List ℕ) (ol
     → TakesAll (take i all) old mid → TakesPayload payload mid new → TakesAll (take (i + 1) all) old new
 next_takes all i payload item old mid new h is p t k =
     subst (λ l. TakesAll l old new) (ap (λ x. take i all ++ x ∷ []) (p ∙ is) ∙ sym (take_more all i item h)) (takes_more (take i all) payload old mid new t k)
+
+-- the next payload is refused
+pub payload_breaks : (all : List (List ℕ)) (i : ℕ) (payload item : List ℕ) (fault : MuxFault) (old mid new : MuxState) → i < length all → item ≡ get_or all i item → payload ≡ item
+    → TakesAll (take i all) old mid → IsRefused (payload_fault payload mid.side) fault (new ≡ mid) → Breaks all old fault
+payload_breaks all i payload item fault old mid new h is p t r = record {
+  done = take i all;
+  payload = payload;
+  rest = drop (i + 1) all;
+  mid = mid;
+  all = sym (take-append-drop i all) ∙ ap (λ l. take i all ++ l) (drop_more all i item h ∙ ap (λ x. x ∷ drop (i + 1) all) (sym (p ∙ is)));
+  takes = t;
+  new = new;
+  refused = r;
+}
+
+pub breaks_so : {A : Type 0} (r : Result A MuxFault) (all payloads : List (List ℕ)) (old : MuxState) (fault : MuxFault) → r ≡ Err fault → all ≡ payloads → Breaks all old fault → IfErr r (λ f. Breaks payloads old f)
+breaks_so r all payloads old fault e is h = subst (λ x. IfErr x (λ f. Breaks payloads old f)) (sym e) (subst (λ l. Breaks l old fault) is h)
 
 -- one step, and some behind others
 pub one_step : (step : ChannelStep) (old : PairOnLink) (called : Both) (new : PairOnLink) → Called step old.both called → Carries (record { both = called; link = old.link }) new → RunsSteps (step ∷ []) old new

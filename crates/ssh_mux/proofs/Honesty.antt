@@ -11,7 +11,8 @@ use Rattle.ssh_rules.specs.declared.link.Step.{Step}
 use Rattle.ssh_rules.specs.declared.link.Step.TheVariants.{Submit, Deliver, Rekey, Settle}
 use Rattle.ssh_run.specs.Carrying.{CarriedLink, both_marks}
 use Rattle.ssh_run.specs.Stepping.{LinkState, first_link_state}
-use Rattle.ssh_channels.specs.Asking.{MuxState}
+use Rattle.ssh_channels.specs.Asking.{IsRefused, MuxState, payload_fault}
+use Rattle.ssh_channels.specs.declared.fault.MuxFault.TheVariants.{Memory}
 use Rattle.ssh_channels.specs.Formats.{PacketFault, packet_of, packet_text}
 use Rattle.ssh_channels.specs.Laws.{AreSettings}
 use Rattle.ssh_channels.specs.Muxes.{Asks, Channel, Mux, Packet, Request, Takes}
@@ -20,9 +21,11 @@ use Rattle.ssh_talks.proofs.Lemmas.{channels_flow, no_payload_refused}
 use Rattle.ssh_mux.specs.Honesty.{IsHonest, IsPairAt, RunsAreTalks, RunsFlow, new_muxes}
 use Rattle.ssh_mux.proofs.OnTime.{IsBefore, IsMarkedLink, MakesHonest, link_honest}
 use Rattle.ssh_mux.specs.Pairs.{are_within}
+use Rattle.ssh_mux.specs.Breaking.{BreaksNow, BreaksRun, IsNoMessageFault, is_message_fault, is_message_refused}
 use Rattle.ssh_mux.specs.Running.{Both, CalledAs, Carried, CarriesBy, IsCall, PairOnLink, Received, ReceivesNew, RunsSteps, Stepped, Submitted, TakesAll, LinkGoes, delivered_at, first_on_link, is_submit, request_of, side_at, state_at, with_state}
 use Rattle.ssh_mux.specs.declared.pair.PairConfig.{PairConfig}
 use Rattle.ssh_mux.specs.declared.pair.PairSide.{PairSide}
+use Rattle.ssh_mux.specs.declared.fault.RunFault.{RunFault}
 use Rattle.ssh_mux.specs.declared.step.ChannelStep.{ChannelStep}
 
 -- ---- lists
@@ -456,6 +459,53 @@ pub run_at : (config : PairConfig) → are_within config ≡ true → (first : C
 run_at config within first steps last honest run =
     let x = at_steps config.client.window config.client.largest config.server.window config.server.largest (settings config within) last.link honest steps (first_on_link config first) last (record { many = refl; last = refl }) (before_self last.link) (at_first config first) run in
     record { mids = x.mids; pair = x.pair; happens = x.happens; client = x.mux Client; server = x.mux Server; to_client = x.way Client; to_server = x.way Server }
+
+-- ---- no message is refused
+
+carries_marked : (mids : List PairOnLink) (a b : PairOnLink) → IsMarkedLink a.link → CarriesBy mids a b → IsMarkedLink b.link
+carries_marked [] a b m e = subst (λ (y : PairOnLink). IsMarkedLink y.link) (sym e) m
+carries_marked (mid ∷ mids) a b m h = carries_marked mids mid b (carried_marked a mid m h.0) h.1
+
+runs_marked : (steps : List ChannelStep) (a b : PairOnLink) → IsMarkedLink a.link → RunsSteps steps a b → IsMarkedLink b.link
+runs_marked [] a b m e = subst (λ (y : PairOnLink). IsMarkedLink y.link) (sym e) m
+runs_marked (step ∷ steps) a b m h = runs_marked steps h.1 b (carries_marked h.3.0 (record { both = h.0; link = a.link }) h.1 m h.3.1) h.4
+
+-- a payload that was delivered is refused only where memory is wanting
+now_unbroken : (w m v k : ℕ) → AreSettings w m v k → (s : PairOnLink) (fault : RunFault) → IsHonest s.link → IsAtMoment w m v k s → BreaksNow fault s → IsNoMessageFault fault
+now_unbroken w m v k are s fault honest x h =
+    let side = h.side in
+    let b = h.breaks in
+    let d = delivered_at side s.link in
+    let r = (side_at side s.both).received in
+    let made = (state_at (other_side side) s.both).made in
+    let front = honest_at s.link honest side in
+    let all : submitted_by (other_side side) s.link.steps ++ made ≡ d ++ (front.0 ++ made) = ap (λ l. l ++ made) (sym front.1) ∙ append_assoc d front.0 made in
+    let way : map (λ p. packet_text p) (way_to side x.pair) ≡ b.done ++ (b.payload ∷ (b.rest ++ (front.0 ++ made))) =
+    x.way side ∙ (ap (drop r) all ∙ (drop_front r d (front.0 ++ made) (x.received side) ∙ (ap (λ l. l ++ (front.0 ++ made)) b.all ∙ append_assoc b.done (b.payload ∷ b.rest) (front.0 ++ made)))) in
+    let o = (side_at (other_side side) s.both).received in
+    let t = submitted_by side s.link.steps in
+    let within : o ≤ length t = (let a = x.sent (other_side side) in let c = ap (λ s'. length (submitted_by s' s.link.steps)) (twice side) in omega (arith, a, c)) in
+    let back : map (λ p. packet_text p) (way_to (other_side side) x.pair) ≡ drop o t ++ (state_at side s.both).made =
+    subst (λ s'. map (λ p. packet_text p) (way_to (other_side side) x.pair) ≡ drop o (submitted_by s' s.link.steps ++ (state_at s' s.both).made)) (twice side) (x.way (other_side side)) ∙ drop_front o t (state_at side s.both).made within in
+    let a = take_all w m v k are side b.done x.mids x.pair (state_at side s.both) b.mid (b.payload ∷ (b.rest ++ (front.0 ++ made))) (drop o t) x.happens (x.mux side) way back b.takes in
+    let begin = begins (λ p. packet_text p) (way_to side a.pair) b.payload (b.rest ++ (front.0 ++ made)) a.way in
+    let passes = (no_payload_refused w m v k are a.mids a.pair a.happens side begin.head begin.tail begin.is).passes in
+    let none : payload_fault b.payload b.mid.side ≡ None = subst (λ (u : Mux). payload_fault b.payload u ≡ None) a.own (subst (λ l. payload_fault l (mux_of side a.pair) ≡ None) begin.head_is passes) in
+    let memory : h.due ≡ Memory = subst (λ f. IsRefused f h.due (b.new ≡ b.mid)) none b.refused in
+    ap is_message_refused h.fault_is ∙ ap is_message_fault memory
+
+-- so no run is refused for a message that comes
+pub run_unbroken : (config : PairConfig) → are_within config ≡ true → (first : CarriedLink) (fault : RunFault) (last : LinkState) → MakesHonest last → BreaksRun fault (first_on_link config first) last → IsNoMessageFault fault
+run_unbroken config within first fault last honest b =
+    let are = settings config within in
+    let called : PairOnLink = record { both = b.called; link = b.mid.link } in
+    let moment : PairOnLink = record { both = b.at.both; link = last } in
+    let marked : IsMarkedLink (first_link_state first) = record { many = refl; last = refl } in
+    let before : IsBefore b.mid.link last = carries_before b.at.carries.0 called moment b.at.carries.1 in
+    let x = at_steps config.client.window config.client.largest config.server.window config.server.largest are last honest b.done (first_on_link config first) b.mid marked before (at_first config first) b.run in
+    let c = at_carries config.client.window config.client.largest config.server.window config.server.largest are last honest b.at.carries.0 called moment (runs_marked b.done (first_on_link config first) b.mid marked b.run) (before_self last)
+    (at_called config.client.window config.client.largest config.server.window config.server.largest (request_of b.step) b.mid b.called x b.call) b.at.carries.1 in
+    now_unbroken config.client.window config.client.largest config.server.window config.server.largest are moment fault (honest last c.1 (before_self last)) c.0 b.at.breaks
 
 flow_at : (config : PairConfig) (s : PairOnLink) → IsPairAt config s → (side : Side) (n : ℕ) (c : Channel) → slice_get (state_at side s.both).side.channels n ≡ Some c → c.started ≡ false
     → (d : Channel) × (slice_get (state_at (other_side side) s.both).side.channels c.peer ≡ Some d) × (d.started ≡ true) × FlowsWell d.end c.end × FlowsWell c.end d.end

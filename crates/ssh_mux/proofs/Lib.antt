@@ -1,5 +1,6 @@
 mod MuxEnds
 pub mod Carrying
+pub mod Breaking
 pub mod Linking
 pub mod Refusing
 pub mod Mild

@@ -161,6 +161,21 @@ abbrev both_configs : (client server : Config) → Side → Config
 both_configs client server Client = client
 both_configs client server Server = server
 
+pub so_far_is_link : (c s : Config → Says) (client server : Config) (client_makes : ClientPairs) (server_makes : ServerValues) (agrees : Secrets) (first last : LinkState)
+    → config_fault Client client ≡ None → config_fault Server server ≡ None → HasSizes client → HasSizes server → is_utf8 (text_of_id client.id) ≡ true → is_utf8 (text_of_id server.id) ≡ true → length last.steps < 2 ^ 64
+    → TellsParts (c client) (s server) client_makes server_makes agrees → OneSecret (c client) (s server) → FindsCanonical (s server)
+    → IsNewLink client server first.carried → first ≡ first_link_state first.carried
+    → TakesSteps (c first.carried.client.transport.config) (s first.carried.server.transport.config) first last
+    → IsLink client_makes server_makes agrees client server last.steps (report_so_far last)
+so_far_is_link c s client server cm sm ag first last vc vs zc zs uc us few tells secret canonical n e h =
+    let carried = taken_carried c s client server first.carried last (report_so_far last) n
+    (subst (λ l. TakesSteps (c first.carried.client.transport.config) (s first.carried.server.transport.config) l last) e h) refl in
+    carried_is_link (both_say (c client) (s server)) (both_configs client server) cm sm ag last.steps (report_so_far last)
+    (of_sides (λ side. config_fault side (both_configs client server side) ≡ None) vc vs)
+    (of_sides (λ side. HasSizes (both_configs client server side)) zc zs)
+    (of_sides (λ side. IsWholeId (both_configs client server side)) (whole_id Client client vc uc) (whole_id Server server vs us))
+    few tells secret canonical carried
+
 pub run_is_link : (c s : Config → Says) (client server : Config) (client_makes : ClientPairs) (server_makes : ServerValues) (agrees : Secrets) (first : LinkState) (last : PairOnLink) (report : MuxReport)
     → config_fault Client client ≡ None → config_fault Server server ≡ None → HasSizes client → HasSizes server → is_utf8 (text_of_id client.id) ≡ true → is_utf8 (text_of_id server.id) ≡ true → length last.link.steps < 2 ^ 64
     → TellsParts (c client) (s server) client_makes server_makes agrees → OneSecret (c client) (s server) → FindsCanonical (s server)
@@ -168,14 +183,8 @@ pub run_is_link : (c s : Config → Says) (client server : Config) (client_makes
     → TakesSteps (c first.carried.client.transport.config) (s first.carried.server.transport.config) first last.link → TellsRun last report
     → IsLink client_makes server_makes agrees client server report.steps.items report.link
 run_is_link c s client server cm sm ag first last report vc vs zc zs uc us few tells secret canonical n e h t =
-    let carried = taken_carried c s client server first.carried last.link report.link n
-    (subst (λ l. TakesSteps (c first.carried.client.transport.config) (s first.carried.server.transport.config) l last.link) e h) t.link in
     subst (λ l. IsLink cm sm ag client server l report.link) (sym t.steps)
-    (carried_is_link (both_say (c client) (s server)) (both_configs client server) cm sm ag last.link.steps report.link
-    (of_sides (λ side. config_fault side (both_configs client server side) ≡ None) vc vs)
-    (of_sides (λ side. HasSizes (both_configs client server side)) zc zs)
-    (of_sides (λ side. IsWholeId (both_configs client server side)) (whole_id Client client vc uc) (whole_id Server server vs us))
-    few tells secret canonical carried)
+    (subst (λ r. IsLink cm sm ag client server last.link.steps r) (sym t.link) (so_far_is_link c s client server cm sm ag first last.link vc vs zc zs uc us few tells secret canonical n e h))
 
 -- what holds of each report of a run holds of the one that is answered
 pub told_of : (Q : MuxReport → Type 0) (last : PairOnLink) (r : Result MuxReport MuxEnd) (report : Result MuxReport RunFault) → IfOk r (λ x. report ≡ Ok x) → IfOk report (TellsRun last)

@@ -7,3 +7,4 @@ pub mod Printing
 pub mod Program
 pub mod Alike
 pub mod Linking
+pub mod Breaking

@@ -1,7 +1,8 @@
 //! The link, with the parts of both sides.
 
-ghost use Rattle.std.specs.Prelude.{◌≡◌, IfErr, IfOk, OnOk, false};
+ghost use Rattle.std.specs.Prelude.{◌≡◌, IfErr, IfOk, OnOk, false, true};
 ghost use Rattle.ssh_rules.specs.declared.link.Step.TheVariants as steps;
+ghost use Rattle.ssh_mux.specs.Breaking.{BreaksAt, IsNoMessageFault, is_message_refused};
 ghost use Rattle.ssh_mux.specs.Running.{Carries, HasReceived, IsEmptied, IsLinkFault, LeavesNone, LinkGoes, both_of, is_submit, on_link};
 
 use crate::fault::RunFault;
@@ -24,6 +25,7 @@ pub(crate) fn step_link<'c, A: Agreement, H: HostKeys, G: GroupLookup, R: Rng>(
     ensures fault { IfErr result IsLinkFault }
     ensures goes { OnOk result (⟦<Parts<A, H, G, R> as Linked>⟧.goes_on link.old client_parts.old server_parts.old
         link.new) }
+    ensures unbroken { IfErr result IsNoMessageFault }
     ensures client_keeps { ⟦<Parts<A, H, G, R> as Handed>⟧.keeps client_parts.old client_parts.new }
     ensures server_keeps { ⟦<Parts<A, H, G, R> as Handed>⟧.keeps server_parts.old server_parts.new }
 {
@@ -45,6 +47,7 @@ fn submit_one<'c, A: Agreement, H: HostKeys, G: GroupLookup, R: Rng>(
     ensures fault { IfErr result IsLinkFault }
     ensures goes { OnOk result (⟦<Parts<A, H, G, R> as Linked>⟧.goes_on link.old client_parts.old server_parts.old
         link.new) }
+    ensures unbroken { IfErr result IsNoMessageFault }
     ensures client_keeps { ⟦<Parts<A, H, G, R> as Handed>⟧.keeps client_parts.old client_parts.new }
     ensures server_keeps { ⟦<Parts<A, H, G, R> as Handed>⟧.keeps server_parts.old server_parts.new }
 {
@@ -66,6 +69,7 @@ pub(crate) fn submit_made<'c, A: Agreement, H: HostKeys, G: GroupLookup, R: Rng>
     ensures fault { IfErr result IsLinkFault }
     ensures goes { OnOk result (⟦<Parts<A, H, G, R> as Linked>⟧.goes_on link.old client_parts.old server_parts.old
         link.new) }
+    ensures unbroken { IfErr result IsNoMessageFault }
     ensures client_keeps { ⟦<Parts<A, H, G, R> as Handed>⟧.keeps client_parts.old client_parts.new }
     ensures server_keeps { ⟦<Parts<A, H, G, R> as Handed>⟧.keeps server_parts.old server_parts.new }
 {
@@ -92,6 +96,9 @@ pub(crate) fn receive_delivered<'c, A: Agreement, H: HostKeys, G: GroupLookup, R
     ensures fault { IfErr result IsLinkFault }
     ensures goes { OnOk result (⟦<Parts<A, H, G, R> as Linked>⟧.goes_on link.old client_parts.old server_parts.old
         link.new) }
+    ensures breaks { IfErr result (λ fault. is_message_refused fault ≡ true
+        → BreaksAt fault (on_link pair.old link.old) link.new
+        × ⟦<Parts<A, H, G, R> as Linked>⟧.goes_on link.old client_parts.old server_parts.old link.new) }
     ensures client_keeps { ⟦<Parts<A, H, G, R> as Handed>⟧.keeps client_parts.old client_parts.new }
     ensures server_keeps { ⟦<Parts<A, H, G, R> as Handed>⟧.keeps server_parts.old server_parts.new }
 {
@@ -112,6 +119,9 @@ pub(crate) fn carry_all<'c, A: Agreement, H: HostKeys, G: GroupLookup, R: Rng>(
     ensures fault { IfErr result IsLinkFault }
     ensures goes { OnOk result (⟦<Parts<A, H, G, R> as Linked>⟧.goes_on link.old client_parts.old server_parts.old
         link.new) }
+    ensures breaks { IfErr result (λ fault. is_message_refused fault ≡ true
+        → BreaksAt fault (on_link pair.old link.old) link.new
+        × ⟦<Parts<A, H, G, R> as Linked>⟧.goes_on link.old client_parts.old server_parts.old link.new) }
     ensures client_keeps { ⟦<Parts<A, H, G, R> as Handed>⟧.keeps client_parts.old client_parts.new }
     ensures server_keeps { ⟦<Parts<A, H, G, R> as Handed>⟧.keeps server_parts.old server_parts.new }
 {

@@ -2,9 +2,10 @@
 
 ghost use Rattle.std.specs.Prelude.{◌≡◌, [], OnOk, IfErr, drop, false, length, max};
 ghost use Rattle.ssh_wire.specs.Sides.{other_side};
-ghost use Rattle.ssh_channels.specs.Asking.{IsRefused, TakesPayload, request_fault};
+ghost use Rattle.ssh_channels.specs.Asking.{IsRefused, TakesPayload, payload_fault, request_fault};
 ghost use Rattle.ssh_channels.specs.Ends.{CallClose, CallEof, Read, Write};
 ghost use Rattle.ssh_channels.specs.Muxes.{On, Start};
+ghost use Rattle.ssh_mux.specs.Breaking.{Breaks};
 ghost use Rattle.ssh_mux.specs.Running.{IsCall, ReceivesNew, TakesAll, both_of, is_call_fault, side_at, state_at};
 ghost use Rattle.ssh_mux.specs.Pairs.{are_within, new_pair, new_side};
 
@@ -53,6 +54,7 @@ fn new_side(alloc: Global, config: &MuxConfig) -> PairSide
 fn receive_one(mux: &mut Mux, payload: &Payload) -> Result<(), MuxFault>
     ensures ok { OnOk result (TakesPayload payload.now mux.old mux.new) }
     ensures err { IfErr result (λ f. is_call_fault f ≡ false) }
+    ensures refused { IfErr result (λ f. IsRefused (payload_fault payload.now mux.old.side) f (mux.new ≡ mux.old)) }
 {
     mux.receive(payload.as_slice())
 }
@@ -62,6 +64,7 @@ fn receive_new(side: &mut PairSide, delivered: &[Payload]) -> Result<(), MuxFaul
     ensures takes { OnOk result (TakesAll (drop side.old.received delivered.now) side.old.mux side.new.mux
         × (side.new.received ≡ max side.old.received (length delivered.now))) }
     ensures err { IfErr result (λ f. is_call_fault f ≡ false) }
+    ensures breaks { IfErr result (λ f. Breaks (drop side.old.received delivered.now) side.old.mux f) }
 {
     let Some(new) = delivered.get(side.received..) else {
         return Ok(());
@@ -99,6 +102,8 @@ impl Pair {
     pub fn receive(&mut self, side: Side, delivered: &[Payload]) -> Result<(), MuxFault>
         ensures received { OnOk result (ReceivesNew side delivered.now (both_of self.old) (both_of self.new)) }
         ensures err { IfErr result (λ f. is_call_fault f ≡ false) }
+        ensures breaks { IfErr result (λ f. Breaks (drop (side_at side (both_of self.old)).received delivered.now)
+            (state_at side (both_of self.old)) f) }
     {
         match side {
             Side::Client => receive_new(&mut self.client, delivered),

@@ -4,6 +4,7 @@ ghost use Rattle.std.specs.Prelude.{List, ◌≡◌, ◌⊎◌, None, Some, IfEr
 ghost use Rattle.ssh_kex.specs.Parts.{between};
 ghost use Rattle.ssh_rules.specs.Headline.{IsLink};
 ghost use Rattle.ssh_channels.specs.Asking.{IsRefused};
+ghost use Rattle.ssh_mux.specs.Breaking.{BreaksAt, BreaksRun, IsNoMessageFault, is_message_refused};
 ghost use Rattle.ssh_mux.specs.Pairs.{are_within, new_pair};
 ghost use Rattle.ssh_mux.specs.Program.{HasBefore, IsRefusedRun, IsWholeRun};
 ghost use Rattle.ssh_mux.specs.Running.{Called, Carries, IsBrokenOff, IsEndBehind, IsLinkFault, LeavesNone, RefusesStep, RunsSteps, both_of, is_call_refused, on_link, step_fault};
@@ -43,8 +44,8 @@ pub struct Setup<'c> {
 /// Config where a window or a largest packet is out of its bounds, before any step. Unknown, Ended or Full by the first
 /// call that a side refuses, with the report of the steps before. Link where the link refuses a step. Memory.
 ///
-/// Of lawful parts the link of the report is a link between both sides.
-#[tactic(auto, using(crate::proofs::Refusing::refused_config, crate::proofs::Refusing::refused_link, crate::proofs::Refusing::refused_behind, crate::proofs::Refusing::whole))]
+/// Of lawful parts the link of the report is a link between both sides, and no run is refused for a message that comes.
+#[tactic(auto, using(crate::proofs::Refusing::refused_config, crate::proofs::Refusing::refused_link, crate::proofs::Refusing::refused_behind, crate::proofs::Refusing::whole, crate::proofs::Breaking::end_unbroken))]
 pub fn run_channels<'c, A: Agreement, H: HostKeys, G: GroupLookup, R: Rng>(
     alloc: Global,
     setup: &Setup<'c>,
@@ -59,6 +60,10 @@ pub fn run_channels<'c, A: Agreement, H: HostKeys, G: GroupLookup, R: Rng>(
         → G.lawful server_parts.old.groups (between setup.now.client.now setup.now.server.now)
         → IfOk result (λ r. IsLink A.client_makes A.server_makes A.agrees setup.now.client.now setup.now.server.now
         r.steps.items r.link) }
+    ensures unrefused { A.lawful client_parts.old.agreement (between setup.now.client.now setup.now.server.now)
+        → A.lawful server_parts.old.agreement (between setup.now.client.now setup.now.server.now)
+        → G.lawful server_parts.old.groups (between setup.now.client.now setup.now.server.now)
+        → IfErr result (λ end. IsNoMessageFault end.fault) }
 {
     see_config(setup.client);
     see_config(setup.server);
@@ -75,7 +80,10 @@ pub fn run_channels<'c, A: Agreement, H: HostKeys, G: GroupLookup, R: Rng>(
             see_steps(link.steps());
             ended(report_of(alloc, link, &pair))
         }
-        Err(fault) => Err(broken_off(alloc, link, &pair, fault)),
+        Err(fault) => {
+            see_steps(link.steps());
+            Err(broken_off(alloc, link, &pair, fault))
+        }
     }
 }
 
@@ -90,10 +98,12 @@ fn refused(fault: RunFault) -> MuxEnd
 }
 
 /// The report, if there was memory for it.
+#[tactic(auto, using(crate::proofs::Breaking::end_unbroken))]
 fn ended(report: Result<MuxReport, RunFault>) -> Result<MuxReport, MuxEnd>
     requires { IfErr report IsLinkFault }
     ensures ran { IfOk result (λ r. report ≡ Ok r) }
     ensures refused { IfErr result (λ end. IsLinkFault end.fault × (end.before ≡ None)) }
+    ensures unbroken { IfErr report IsNoMessageFault → IfErr result (λ end. IsNoMessageFault end.fault) }
 {
     match report {
         Ok(report) => Ok(report),
@@ -102,10 +112,11 @@ fn ended(report: Result<MuxReport, RunFault>) -> Result<MuxReport, MuxEnd>
 }
 
 /// The end of a run that is refused: with the report of the steps before where a side refused a call.
-#[tactic(auto, using(crate::proofs::Refusing::ended_untold))]
+#[tactic(auto, using(crate::proofs::Refusing::ended_untold, crate::proofs::Breaking::end_unbroken))]
 fn broken_off(alloc: Global, link: Link<'_>, pair: &Pair, fault: RunFault) -> MuxEnd
     requires { fault ≡ config_fault → ⊥ }
-    ensures { IsEndBehind fault (on_link pair.now link.entry) result }
+    ensures ended { IsEndBehind fault (on_link pair.now link.entry) result }
+    ensures unbroken { IsNoMessageFault fault → IsNoMessageFault result.fault }
 {
     if is_call_refused(&fault) {
         return end_before(alloc, link, pair, fault);
@@ -114,10 +125,11 @@ fn broken_off(alloc: Global, link: Link<'_>, pair: &Pair, fault: RunFault) -> Mu
 }
 
 /// The end of a run in which a side refused a call.
-#[tactic(auto, using(crate::proofs::Refusing::ended_told, crate::proofs::Refusing::ended_wanting))]
+#[tactic(auto, using(crate::proofs::Refusing::ended_told, crate::proofs::Refusing::ended_wanting, crate::proofs::Breaking::end_unbroken))]
 fn end_before(alloc: Global, link: Link<'_>, pair: &Pair, fault: RunFault) -> MuxEnd
     requires { is_call_refused fault ≡ true }
-    ensures { IsEndBehind fault (on_link pair.now link.entry) result }
+    ensures ended { IsEndBehind fault (on_link pair.now link.entry) result }
+    ensures unbroken { IsNoMessageFault fault → IsNoMessageFault result.fault }
 {
     match report_of(alloc, link, pair) {
         Ok(report) => MuxEnd {
@@ -153,6 +165,9 @@ fn run_steps<'c, A: Agreement, H: HostKeys, G: GroupLookup, R: Rng>(
         (on_link pair.new link.new) ⊎ IsLinkFault fault) }
     ensures goes { OnOk result (⟦<Parts<A, H, G, R> as Linked>⟧.goes_on link.old client_parts.old server_parts.old
         link.new) }
+    ensures breaks { IfErr result (λ fault. is_message_refused fault ≡ true
+        → BreaksRun fault (on_link pair.old link.old) link.new
+        × ⟦<Parts<A, H, G, R> as Linked>⟧.goes_on link.old client_parts.old server_parts.old link.new) }
     ensures client_keeps { ⟦<Parts<A, H, G, R> as Handed>⟧.keeps client_parts.old client_parts.new }
     ensures server_keeps { ⟦<Parts<A, H, G, R> as Handed>⟧.keeps server_parts.old server_parts.new }
 {
@@ -180,6 +195,9 @@ fn run_step<'c, A: Agreement, H: HostKeys, G: GroupLookup, R: Rng>(
         (on_link pair.new link.new)) }
     ensures goes { OnOk result (⟦<Parts<A, H, G, R> as Linked>⟧.goes_on link.old client_parts.old server_parts.old
         link.new) }
+    ensures breaks { IfErr result (λ fault. is_message_refused fault ≡ true
+        → BreaksRun fault (on_link pair.old link.old) link.new
+        × ⟦<Parts<A, H, G, R> as Linked>⟧.goes_on link.old client_parts.old server_parts.old link.new) }
     ensures client_keeps { ⟦<Parts<A, H, G, R> as Handed>⟧.keeps client_parts.old client_parts.new }
     ensures server_keeps { ⟦<Parts<A, H, G, R> as Handed>⟧.keeps server_parts.old server_parts.new }
 {
@@ -200,6 +218,9 @@ fn carry<'c, A: Agreement, H: HostKeys, G: GroupLookup, R: Rng>(
     ensures fault { IfErr result IsLinkFault }
     ensures goes { OnOk result (⟦<Parts<A, H, G, R> as Linked>⟧.goes_on link.old client_parts.old server_parts.old
         link.new) }
+    ensures breaks { IfErr result (λ fault. is_message_refused fault ≡ true
+        → BreaksAt fault (on_link pair.old link.old) link.new
+        × ⟦<Parts<A, H, G, R> as Linked>⟧.goes_on link.old client_parts.old server_parts.old link.new) }
     ensures client_keeps { ⟦<Parts<A, H, G, R> as Handed>⟧.keeps client_parts.old client_parts.new }
     ensures server_keeps { ⟦<Parts<A, H, G, R> as Handed>⟧.keeps server_parts.old server_parts.new }
 {
@@ -234,6 +255,9 @@ fn settle<'c, A: Agreement, H: HostKeys, G: GroupLookup, R: Rng>(
     ensures fault { IfErr result IsLinkFault }
     ensures goes { OnOk result (⟦<Parts<A, H, G, R> as Linked>⟧.goes_on link.old client_parts.old server_parts.old
         link.new) }
+    ensures breaks { IfErr result (λ fault. is_message_refused fault ≡ true
+        → BreaksAt fault (on_link pair.old link.old) link.new
+        × ⟦<Parts<A, H, G, R> as Linked>⟧.goes_on link.old client_parts.old server_parts.old link.new) }
     ensures client_keeps { ⟦<Parts<A, H, G, R> as Handed>⟧.keeps client_parts.old client_parts.new }
     ensures server_keeps { ⟦<Parts<A, H, G, R> as Handed>⟧.keeps server_parts.old server_parts.new }
 {

@@ -2,6 +2,7 @@
 
 ghost use Rattle.std.specs.Prelude.{◌≡◌, ◌++◌, ◌==◌, ◌&&◌, not, IfErr, IfOk, OnOk};
 ghost use Rattle.std.specs.Option.{option_map};
+ghost use Rattle.ssh_mux.specs.Breaking.{IsNoMessageFault};
 ghost use Rattle.ssh_mux.specs.Summing.{all_channels, both_flows, channel_of, channels_from, flows_of, granted_channel, granted_number, is_refused_in, is_shut, lone_flows, next_number, one_channel, refusal_in, refusals_in, submitted_by_step, flow_between};
 ghost use Rattle.ssh_mux.specs.Running.{IsLinkFault, TellsRun, on_link};
 
@@ -18,6 +19,7 @@ use std::alloc::{AllocError, Global};
 pub(crate) fn report_of(alloc: Global, link: Link<'_>, pair: &Pair) -> Result<MuxReport, RunFault>
     ensures tells { IfOk result (TellsRun (on_link pair.now link.entry)) }
     ensures want { IfErr result IsLinkFault }
+    ensures unbroken { IfErr result IsNoMessageFault }
 {
     match link.report() {
         Ok((steps, report)) => with_channels(alloc, steps, report, pair),
@@ -37,6 +39,7 @@ fn with_channels(
     ensures steps { IfOk result (λ report. report.steps.items ≡ steps.items) }
     ensures link { IfOk result (λ report. report.link ≡ link) }
     ensures want { IfErr result IsLinkFault }
+    ensures unbroken { IfErr result IsNoMessageFault }
 {
     match channels_of(alloc, steps.as_slice(), pair) {
         Ok(channels) => Ok(MuxReport {

@@ -1,5 +1,6 @@
-use Rattle.std.proofs.Common.{refl}
+use Rattle.std.proofs.Common.{refl, rules}
 use Rattle.ssh_mux.specs.Running.{both_of, on_link}
+use Rattle.ssh_mux.proofs.Breaking.{breaks_behind, broken_so}
 use Rattle.ssh_mux.proofs.Carrying.{carries_then, steps_on}
 use Rattle.ssh_mux.proofs.Linking.{goes_then}
 use Rattle.ssh_mux.proofs.run.carry.Goals as goal
@@ -13,3 +14,11 @@ returns-in_ok-step_link-in-Rekey-clause-carries g c = steps_on (both_of c.args.p
 
 pub returns-in_ok-receive_delivered-in-Deliver-clause-goes : goal.returns-in_ok-receive_delivered-in-Deliver-clause-goes
 returns-in_ok-receive_delivered-in-Deliver-clause-goes g c = goes_then g.A.Agreement.client_makes g.A.Agreement.server_makes g.A.Agreement.agrees g.H.HostKeys.makes c.args.link.now c.step_link.new.link c.receive_delivered.new.link c.step_link.ensures.client_keeps c.step_link.ensures.server_keeps c.in_ok-step_link-in-Deliver.ensures.goes c.in_ok-receive_delivered-in-Deliver.ensures.goes
+
+pub returns-in_err-receive_delivered-in-Deliver-clause-breaks : goal.returns-in_err-receive_delivered-in-Deliver-clause-breaks
+returns-in_err-receive_delivered-in-Deliver-clause-breaks g c = broken_so c.from_residual-in_err-receive_delivered-in-Deliver.result c.in_err-receive_delivered-in-Deliver.field-0.0 (on_link c.args.pair.now c.args.link.now) c.receive_delivered.new.link _ (search rules)
+    (λ m. let b = c.in_err-receive_delivered-in-Deliver.ensures.breaks m in (
+      breaks_behind c.in_err-receive_delivered-in-Deliver.field-0.0 (on_link c.args.pair.now c.args.link.now) (on_link c.args.pair.now c.step_link.new.link) c.receive_delivered.new.link
+          (steps_on (both_of c.args.pair.now) _ c.args.link.now c.step_link.new.link refl c.in_ok-step_link-in-Deliver.ensures.step) b.0,
+      goes_then g.A.Agreement.client_makes g.A.Agreement.server_makes g.A.Agreement.agrees g.H.HostKeys.makes c.args.link.now c.step_link.new.link c.receive_delivered.new.link c.step_link.ensures.client_keeps c.step_link.ensures.server_keeps c.in_ok-step_link-in-Deliver.ensures.goes b.1,
+    ))

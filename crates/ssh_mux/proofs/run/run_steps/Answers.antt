@@ -1,4 +1,6 @@
 use Rattle.std.proofs.Common.{refl}
+use Rattle.ssh_mux.specs.Running.{on_link}
+use Rattle.ssh_mux.proofs.Breaking.{run_breaks}
 use Rattle.ssh_mux.proofs.Carrying.{breaks, next_runs, next_settled}
 use Rattle.ssh_mux.proofs.Linking.{goes_then, parts_after}
 use Rattle.ssh_mux.specs.declared.step.ChannelStep.TheVariants.{Settle}
@@ -15,3 +17,9 @@ loop-step-preserved g c = record {
 
 pub returns-in-Err-clause-refused : goal.returns-in-Err-clause-refused
 returns-in-Err-clause-refused g c = breaks c.args.steps.now c.loop-step.step-index c.step-item.result c.step-item.result c.in-Err.fault _ _ _ c.loop-step-test.true c.step-item.is refl c.loop-step.invariant.runs c.in-Err.ensures.refused
+
+pub returns-in-Err-clause-breaks : goal.returns-in-Err-clause-breaks
+returns-in-Err-clause-breaks g c = λ m. let b = c.in-Err.ensures.breaks m in (
+  run_breaks _ c.in-Err.fault (on_link c.args.pair.now c.args.link.now) (on_link c.loop-step.pair c.loop-step.link) c.run_step.new.link c.loop-step.invariant.runs b.0,
+  goes_then g.A.Agreement.client_makes g.A.Agreement.server_makes g.A.Agreement.agrees g.H.HostKeys.makes c.args.link.now c.loop-step.link c.run_step.new.link c.loop-step.invariant.client_keeps c.loop-step.invariant.server_keeps c.loop-step.invariant.goes b.1,
+)

@@ -1,4 +1,6 @@
+use Rattle.std.proofs.Common.{rules}
 use Rattle.ssh_mux.specs.Running.{on_link}
+use Rattle.ssh_mux.proofs.Breaking.{breaks_behind, broken_so}
 use Rattle.ssh_mux.proofs.Carrying.{carries_then}
 use Rattle.ssh_mux.proofs.Linking.{goes_then, parts_after}
 use Rattle.ssh_mux.proofs.run.settle.Goals as goal
@@ -16,3 +18,10 @@ loop-turn-preserved g c = record {
 
 pub returns-then-not-branch-clause-goes : goal.returns-then-not-branch-clause-goes
 returns-then-not-branch-clause-goes g c = goes_then g.A.Agreement.client_makes g.A.Agreement.server_makes g.A.Agreement.agrees g.H.HostKeys.makes c.args.link.now c.loop-turn.link c.carry_all.new.link c.loop-turn.invariant.client_keeps c.loop-turn.invariant.server_keeps c.loop-turn.invariant.goes c.in_ok-carry_all.ensures.goes
+
+pub returns-in_err-carry_all-clause-breaks : goal.returns-in_err-carry_all-clause-breaks
+returns-in_err-carry_all-clause-breaks g c = broken_so c.from_residual.result c.in_err-carry_all.field-0.0 (on_link c.args.pair.now c.args.link.now) c.carry_all.new.link _ (search rules)
+    (λ m. let b = c.in_err-carry_all.ensures.breaks m in (
+      breaks_behind c.in_err-carry_all.field-0.0 (on_link c.args.pair.now c.args.link.now) (on_link c.loop-turn.pair c.loop-turn.link) c.carry_all.new.link c.loop-turn.invariant.carries b.0,
+      goes_then g.A.Agreement.client_makes g.A.Agreement.server_makes g.A.Agreement.agrees g.H.HostKeys.makes c.args.link.now c.loop-turn.link c.carry_all.new.link c.loop-turn.invariant.client_keeps c.loop-turn.invariant.server_keeps c.loop-turn.invariant.goes b.1,
+    ))

@@ -1,0 +1,10 @@
+use Rattle.std.proofs.Common.{rules}
+use Rattle.ssh_mux.specs.Running.{both_of, on_link}
+use Rattle.ssh_mux.proofs.Breaking.{call_breaks, step_breaks}
+use Rattle.ssh_mux.proofs.run.run_step.Goals as goal
+
+pub returns-in_err-behind-clause-breaks : goal.returns-in_err-behind-clause-breaks
+returns-in_err-behind-clause-breaks g c = call_breaks c.from_residual.result c.args.step.now (both_of c.args.pair.now) c.in_err-behind.field-0.0 _ _ (search rules) c.in_err-behind.ensures.refused
+
+pub returns-clause-breaks : goal.returns-clause-breaks
+returns-clause-breaks g c = step_breaks c.carry.result c.args.step.now (on_link c.args.pair.now c.args.link.now) (both_of c.call.new.pair) c.carry.new.link _ c.in_ok-behind.ensures.ok c.carry.ensures.breaks
