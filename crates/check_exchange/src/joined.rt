@@ -37,9 +37,9 @@ pub(crate) fn answer(kind: &str, row: &mut Row<'_>, found: &mut String) -> Resul
     Ok(true)
 }
 
-/// `granted SCRIPT NAME TOLD VALUE`: the client of the script's configurations asks for the service NAME, and the server
-/// tells the extension TOLD of this value. The message of each grant of the server, and the messages that its client
-/// reads, or the refusal.
+/// `granted SCRIPT NAME TOLD VALUE`: the client of the script's configurations asks for the service NAME, and the
+/// server tells the extension TOLD of this value. The message of each grant of the server, and the messages that its
+/// client reads, or the refusal.
 fn say_granted(row: &mut Row<'_>, found: &mut String) -> Result<(), Fault> {
     let text = row.bytes()?;
     let name = row.bytes()?;

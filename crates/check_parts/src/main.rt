@@ -1,5 +1,5 @@
-//! Compares rows of values with what the public calls on parts for a transport answer. The status is 0 where none failed
-//! and at least one passed.
+//! Compares rows of values with what the public calls on parts for a transport answer. The status is 0 where none
+//! failed and at least one passed.
 #![tactic(auto)]
 
 use ssh_kex::{Agreement, DhGroup, GexParams, GroupLookup, HostKeys, Refusal, ServerHost};

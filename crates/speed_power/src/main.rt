@@ -1,5 +1,5 @@
-//! Raises numbers to powers again and again, for measuring: `speed_power BYTES COUNT`, where the modulus and the exponent
-//! have so many bytes, all bits set. Writes the last byte of the last power.
+//! Raises numbers to powers again and again, for measuring: `speed_power BYTES COUNT`, where the modulus and the
+//! exponent have so many bytes, all bits set. Writes the last byte of the last power.
 #![tactic(auto)]
 
 use ssh_power::Modulus;

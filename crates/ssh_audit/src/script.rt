@@ -32,12 +32,13 @@ pub struct AuditScript {
 /// Reads a script of a record, in one pass over the text, in linear time.
 ///
 /// It is a script of `run`, as `ssh_script::parse_script` reads it, with three forms more, which stand anywhere:
-/// `secret HEX`, for each exchange one, in their order; `wire SIDE HEX`, all that the side sent, at most once for a side;
-/// and `sent N N`, how many bytes the client and the server had sent, once before the first step and once behind each.
+/// `secret HEX`, for each exchange one, in their order; `wire SIDE HEX`, all that the side sent, at most once for a
+/// side; and `sent N N`, how many bytes the client and the server had sent, once before the first step and once behind
+/// each.
 ///
-/// Fault names the first line that is none of these, counted from 1: NotBuilt where its first word is none of the forms',
-/// Malformed where the words behind it are wrong, or where a side's wire is given again. A text over 67108864 bytes is
-/// TooLong, with the line 0. Memory where an allocation failed.
+/// Fault names the first line that is none of these, counted from 1: NotBuilt where its first word is none of the
+/// forms', Malformed where the words behind it are wrong, or where a side's wire is given again. A text over 67108864
+/// bytes is TooLong, with the line 0. Memory where an allocation failed.
 pub fn parse_audit(alloc: Global, text: &[u8]) -> Result<AuditScript, ScriptError>
     ensures read { IfOk result (λ script. (plan : AuditPlan) × (audit_script text.now ≡ Ok plan)
         × IsRecordOf plan script) }

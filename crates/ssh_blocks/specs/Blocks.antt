@@ -13,8 +13,8 @@ use Rattle.ssh_blocks.specs.declared.block.OpenBlock.{OpenBlock}
 use Rattle.ssh_blocks.specs.declared.values.BlockValues.{BlockValues}
 use Rattle.ssh_blocks.specs.declared.values.GroupValues.{GroupValues}
 
--- the packets of an open epoch that may belong to its block: all of the first epoch, of a later one those from the first
--- message of key exchange on
+-- the packets of an open epoch that may belong to its block: all of the first epoch, of a later one those from the
+-- first message of key exchange on
 abbrev pub block_in : Bool → List Item → List Item
 block_in false items = items
 block_in true items = from_exchange items
@@ -23,8 +23,8 @@ block_in true items = from_exchange items
 abbrev pub payloads_of : List Item → List (List ℕ)
 payloads_of items = map (λ (i : Item). i.payload) items
 
--- An open block has taken these packets of its epoch. Unless it is broken, it keeps the messages, which are the first of
--- the order; it is broken where they aren't.
+-- An open block has taken these packets of its epoch. Unless it is broken, it keeps the messages, which are the first
+-- of the order; it is broken where they aren't.
 pub record HasSeen (side : Side) (kind is_later : Bool) (items : List Item) (b : OpenBlock) : Type 0 where
   pub order_is : b.order.now ≡ order side kind
   pub later_is : b.is_later ≡ is_later

@@ -1,4 +1,5 @@
--- A channel is opened and confirmed, three bytes are written, and they come: the moves are there, and nothing is left on the way.
+-- A channel is opened and confirmed, three bytes are written, and they come: the moves are there, and nothing is left
+-- on the way.
 use Rattle.std.proofs.Common.{◌≡◌, ℕ, ◌≤◌, ◌<◌, true, false, List, [], ◌∷◌, ◌++◌, length, min, refl, inl, arith}
 use Rattle.ssh_channels.specs.Phases.{Message, Open, Confirmation, Data, Phase, Silent, Talking}
 use Rattle.ssh_channels.specs.Ends.{Calls, End, Receives, Sends, Write}

@@ -16,7 +16,8 @@ told_by e = if has_told e.said then e.window + e.told else 0
 abbrev pub known : Phase → ℕ → ℕ
 known p most = if has_told p then most else 0
 
--- One direction, from s to r: what is on the way to r, and what is on the way back. `answers`: whether s answers the opening.
+-- One direction, from s to r: what is on the way to r, and what is on the way back. `answers`: whether s answers the
+-- opening.
 pub record Way (answers : Bool) (s r : End) (sr rs : List Message) : Type 0 where
   pub bytes : r.received ++ data_in sr ≡ take s.gone s.written
   pub within : s.gone ≤ length s.written

@@ -3,8 +3,8 @@ use Rattle.std.specs.Prelude.{◌≡◌, ℕ, ◌+◌, ◌-◌, ◌≤◌, ◌<�
 use Rattle.ssh_channels.specs.Phases.{Message, Open, Confirmation, Failure, Adjust, Data, Eof, Close, Phase, Silent, Talking, Ended, Shut, Failed, is_live, is_refused, may_send}
 pub use Rattle.ssh_channels.specs.declared.end.End.{End}
 
--- What holds of an end between two calls: no byte goes out that wasn't written or isn't allowed, less than 2^32 more are
--- allowed, none is told of that wasn't read, none is read that didn't come, and none comes beyond the window.
+-- What holds of an end between two calls: no byte goes out that wasn't written or isn't allowed, less than 2^32 more
+-- are allowed, none is told of that wasn't read, none is read that didn't come, and none comes beyond the window.
 pub record IsSound (e : End) : Type 0 where
   pub within : e.gone ≤ length e.written
   pub passed : e.gone ≤ e.granted

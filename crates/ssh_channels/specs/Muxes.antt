@@ -27,7 +27,8 @@ addressed own peer (Data bytes) = record { to = Some peer; from = 0; message = D
 addressed own peer Eof = record { to = Some peer; from = 0; message = Eof }
 addressed own peer Close = record { to = Some peer; from = 0; message = Close }
 
--- a channel of a side: whether the side opened it, its number on the other side once that is known, and what the side knows
+-- a channel of a side: whether the side opened it, its number on the other side once that is known, and what the side
+-- knows
 pub record Channel : Type 0 where
   pub started : Bool
   pub peer : ℕ

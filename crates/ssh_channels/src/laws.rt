@@ -28,8 +28,8 @@ pub fn all_comes()
     ensures { AllComes }
 {}
 
-/// Where the ends only hear what is on the way, they come to an end: each message costs at least one byte that waits, or one
-/// of at most three turns of an end.
+/// Where the ends only hear what is on the way, they come to an end: each message costs at least one byte that waits,
+/// or one of at most three turns of an end.
 pub fn settle_ends()
     ensures { SettleEnds }
 {}
@@ -39,7 +39,8 @@ pub fn only_called()
     ensures { OnlyCalled }
 {}
 
-/// Once nothing is on the way and all that was written came, a close has closed the channel, and an end of data has come.
+/// Once nothing is on the way and all that was written came, a close has closed the channel, and an end of data has
+/// come.
 pub fn all_ends()
     ensures { AllEnds }
 {}

@@ -89,8 +89,8 @@ impl Mux {
         Ok(telling.own)
     }
 
-    /// Writes bytes to a channel. Unknown, then Ended where `eof` or `close` was called on it, the other side closed it,
-    /// or it was refused. Memory.
+    /// Writes bytes to a channel. Unknown, then Ended where `eof` or `close` was called on it, the other side closed
+    /// it, or it was refused. Memory.
     pub fn write(&mut self, channel: u32, bytes: &[u8]) -> Result<(), MuxFault>
         ensures ok { OnOk result (Answers (On channel (Write bytes.now)) self.old self.new) }
         ensures refused { IfErr result (λ f. IsRefused (request_fault (On channel (Write bytes.now)) self.old.side) f
@@ -130,8 +130,8 @@ impl Mux {
         }
     }
 
-    /// Closes a channel behind what was written to it. Unknown, then Ended where `close` was called on it, the other side
-    /// closed it, or it was refused. Memory.
+    /// Closes a channel behind what was written to it. Unknown, then Ended where `close` was called on it, the other
+    /// side closed it, or it was refused. Memory.
     pub fn close(&mut self, channel: u32) -> Result<(), MuxFault>
         ensures ok { OnOk result (Answers (On channel CallClose) self.old self.new) }
         ensures refused { IfErr result (λ f. IsRefused (request_fault (On channel CallClose) self.old.side) f
@@ -145,9 +145,9 @@ impl Mux {
     }
 
     /// Takes a payload that came. Encoding where a field is bad, bytes follow the last one, or there is no byte. Else
-    /// Unexpected where it is none of the seven messages, its channel isn't there, or it is out of place there, also where
-    /// the window that the other side grants would reach 2^32. Else Window where data is longer than the window left or
-    /// than the largest packet. Memory.
+    /// Unexpected where it is none of the seven messages, its channel isn't there, or it is out of place there, also
+    /// where the window that the other side grants would reach 2^32. Else Window where data is longer than the window
+    /// left or than the largest packet. Memory.
     pub fn receive(&mut self, payload: &[u8]) -> Result<(), MuxFault>
         ensures ok { OnOk result (TakesPayload payload.now self.old self.new) }
         ensures refused { IfErr result (λ f. IsRefused (payload_fault payload.now self.old.side) f

@@ -17,8 +17,8 @@ use std::alloc::Global;
 /// The first of these is answered that holds. Config: a configuration is refused, or the two have no names in common.
 /// Sent: there is not one pair of lengths more than steps, or the last isn't the lengths of the wires. Secrets: more
 /// exchanges stand whole on both wires than secrets are given. Packet: a packet isn't good, the client's wire first.
-/// Mark: a mark isn't one of a run of the steps. Memory. A record has one answer (`one_answer` of `ssh_record`), so but for
-/// Memory each is answered exactly where it holds.
+/// Mark: a mark isn't one of a run of the steps. Memory. A record has one answer (`one_answer` of `ssh_record`), so
+/// but for Memory each is answered exactly where it holds.
 pub fn audit(
     alloc: Global,
     client: &Config,

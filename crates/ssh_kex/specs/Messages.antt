@@ -1,4 +1,5 @@
--- The messages of an exchange (RFC 4253 sections 7.3 and 8, RFC 4419 section 3, RFC 5656 section 4), and what a server presents.
+-- The messages of an exchange (RFC 4253 sections 7.3 and 8, RFC 4419 section 3, RFC 5656 section 4), and what a server
+-- presents.
 use Rattle.std.specs.Prelude.{◌≡◌, ℕ, ◌+◌, ◌*◌, ◌&&◌, nat_lt, if◌then◌else◌, Bool, true, false, List, [], ◌∷◌, ◌++◌, length, find, Option, Some, None, refl}
 use Rattle.std.specs.Str.{bytes_eq}
 use Rattle.ssh_negotiate.specs.Advertised.{fits, has_key}

@@ -24,8 +24,8 @@ use Rattle.ssh_kex.specs.declared.exchange.ServerHost.{ServerHost}
 use Rattle.ssh_kex.specs.declared.group.DhGroup.{DhGroup}
 use Rattle.ssh_kex.specs.declared.group.GexParams.{GexParams}
 
--- What it means that a part refuses in a step: its count of refusals rose, and it isn't obliging, or what it was asked is
--- not what it owes an answer to.
+-- What it means that a part refuses in a step: its count of refusals rose, and it isn't obliging, or what it was asked
+-- is not what it owes an answer to.
 pub record Denies : Type 1 where
   -- name, group
   pub start : kexes.Name → Option DhGroup → Type 0

@@ -1,4 +1,5 @@
--- What is judged of a signature: the form of an ECDSA signature whose numbers have no needless zeros (RFC 5656 section 3.1.2).
+-- What is judged of a signature: the form of an ECDSA signature whose numbers have no needless zeros (RFC 5656 section
+-- 3.1.2).
 use Rattle.std.specs.Prelude.{◌≡◌, ℕ, ◌&&◌, nat_eq, Bool, if◌then◌else◌, List, [], ◌∷◌, ◌++◌, replicate, codes, Option, Some, None, Result, Ok, Err, refl}
 use Rattle.std.specs.List.{starts_with}
 use Rattle.std.specs.Str.{is_utf8, chars}

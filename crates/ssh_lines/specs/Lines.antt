@@ -28,7 +28,8 @@ words_of line = filter is_filled (pieces 32 (without_cr line))
 abbrev pub is_comment : List ℕ → Bool
 is_comment word = slice_index word 0 == 35
 
--- what a line makes of what those before it said: the same where it says nothing, else by its first word and those behind it
+-- what a line makes of what those before it said: the same where it says nothing, else by its first word and those
+-- behind it
 abbrev pub line_makes : {X : Type 0} → (X → List ℕ → List (List ℕ) → Result X ScriptKind) → X → List (List ℕ) → Result X ScriptKind
 line_makes form said [] = Ok said
 line_makes form said (word ∷ words) = if is_comment word then Ok said else form said word words

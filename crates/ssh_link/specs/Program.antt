@@ -109,7 +109,8 @@ AnswersGen plan (RanLink report) = ⊥
 AnswersGen plan (RanGen report) = IsLinkRun plan report
 AnswersGen plan (RanAttack report) = ⊥
 
--- what is answered to a plan whose sides are fed any bytes: which test refuses a configuration, or else the report of the run
+-- what is answered to a plan whose sides are fed any bytes: which test refuses a configuration, or else the report of
+-- the run
 abbrev pub AnswersAttack : Plan → Answer → Type 0
 AnswersAttack plan (Faulty fault) = ⊥
 AnswersAttack plan (Refused e) = IsInvalidPlan plan e
@@ -218,7 +219,8 @@ pub record IsReadWhole (words : List (List ℕ)) (answer : Option Answer) (old n
   pub attack_end : OnSome (shown_attack answer) (ReachesEnd old new)
   pub refused_end : IsReading command_in needs_script words → OnSome (shown_refused answer) (ReachesEnd old new)
 
--- The words are those of the command `attack`, and the text that is left is a script whose configurations no test refuses.
+-- The words are those of the command `attack`, and the text that is left is a script whose configurations no test
+-- refuses.
 pub record IsAttackable (words : List (List ℕ)) (left : Option (List ℕ)) : Type 0 where
   pub named : command_in words ≡ Some (Script command.Attack)
   pub text : List ℕ
@@ -227,8 +229,8 @@ pub record IsAttackable (words : List (List ℕ)) (left : Option (List ℕ)) : T
   pub is_script : link_script true text ≡ Ok plan
   pub valid : IsValidPlan plan
 
--- The words are those of the command `clear`, and the text that is left is a script of payloads that may be sent: each has
--- 1 to 262157 bytes.
+-- The words are those of the command `clear`, and the text that is left is a script of payloads that may be sent: each
+-- has 1 to 262157 bytes.
 pub record IsClearable (words : List (List ℕ)) (left : Option (List ℕ)) : Type 0 where
   pub named : command_in words ≡ Some (Script command.Clear)
   pub text : List ℕ

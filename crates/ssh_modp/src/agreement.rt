@@ -87,8 +87,8 @@ fn group_for(name: kex::Name, group: Option<&DhGroup>) -> Option<(&[u8], &[u8])>
     }
 }
 
-/// The secret that an exponent makes of the other side's public value, in the group of a name. Refused where there is no
-/// group, and as `secret_of`. Memory.
+/// The secret that an exponent makes of the other side's public value, in the group of a name. Refused where there is
+/// no group, and as `secret_of`. Memory.
 fn secret_in(
     alloc: Global,
     name: kex::Name,

@@ -105,8 +105,8 @@ pub(crate) fn blob_of(bytes: Vec<u8>) -> Blob
 }
 
 /// The secret that an exponent makes of the other side's public value: as many bytes as the prime has without zeros at
-/// its front. Refused where the prime is no odd number from 3 on of at most 8192 bits, where the value isn't the body of
-/// an mpint, and where its number is 0 or not below the prime. Memory.
+/// its front. Refused where the prime is no odd number from 3 on of at most 8192 bits, where the value isn't the body
+/// of an mpint, and where its number is 0 or not below the prime. Memory.
 pub(crate) fn secret_of(
     alloc: Global,
     prime: &[u8],

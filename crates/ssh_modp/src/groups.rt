@@ -10,8 +10,8 @@ use ssh_kex::{DhGroup, GexParams, GroupLookup, Refusal};
 use ssh_wire::Blob;
 use std::alloc::{AllocError, Global};
 
-/// Finds the group 14, 15 or 16 of RFC 3526: the smallest of at least the preferred size, or else the largest within the
-/// most, or else group 14. It refuses nothing: a group outside the sizes is for the exchange to refuse.
+/// Finds the group 14, 15 or 16 of RFC 3526: the smallest of at least the preferred size, or else the largest within
+/// the most, or else group 14. It refuses nothing: a group outside the sizes is for the exchange to refuse.
 #[derive(Clone, Copy, Debug)]
 pub struct ModpGroups;
 

@@ -17,8 +17,8 @@ use ssh_wire::{Algorithm, Blob};
 use std::alloc::Global;
 use std::marker::Model;
 
-/// A private key: the blob of its public key (RFC 4253 section 6.6), and the private exponent, the most significant byte
-/// first.
+/// A private key: the blob of its public key (RFC 4253 section 6.6), and the private exponent, the most significant
+/// byte first.
 #[derive(Drop)]
 pub struct RsaKey {
     pub blob: Blob,

@@ -214,8 +214,8 @@ pub(crate) fn accepts(
     verifies(alloc, hash, text, exponent, modulus, signature)
 }
 
-/// The signature of a text under a private key, as a blob: tested under the public key. None where the key's blob or the
-/// algorithm is none of RSA, and where the test fails. Memory.
+/// The signature of a text under a private key, as a blob: tested under the public key. None where the key's blob or
+/// the algorithm is none of RSA, and where the test fails. Memory.
 pub(crate) fn signature_blob(
     alloc: Global,
     blob: &[u8],

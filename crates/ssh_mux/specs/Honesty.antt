@@ -1,4 +1,5 @@
--- What both sides of a run are where the link is honest: what it delivers to a side is a front of what the other submitted.
+-- What both sides of a run are where the link is honest: what it delivers to a side is a front of what the other
+-- submitted.
 use Rattle.std.specs.Prelude.{◌≡◌, ℕ, true, List, [], ◌∷◌, ◌++◌, drop, map, slice_get, Some, false}
 use Rattle.ssh_wire.specs.Sides.{other_side}
 use Rattle.ssh_wire.specs.declared.side.Side.{Side}
@@ -27,8 +28,8 @@ pub record IsHonest (l : LinkState) : Type 0 where
 abbrev pub new_muxes : PairConfig → MuxPair
 new_muxes config = both_new config.client.window config.client.largest config.server.window config.server.largest
 
--- Both sides are those of a moment that requests and packets lead to, in which the packets on the way to a side are those
--- that the other made and that it hasn't received.
+-- Both sides are those of a moment that requests and packets lead to, in which the packets on the way to a side are
+-- those that the other made and that it hasn't received.
 pub record IsPairAt (config : PairConfig) (s : PairOnLink) : Type 0 where
   pub mids : List MuxPair
   pub pair : MuxPair
@@ -51,8 +52,8 @@ RunsFlow client_makes server_makes agrees = (config : PairConfig) (client server
     → (d : Channel) × (slice_get (state_at (other_side side) run.last.both).side.channels c.peer ≡ Some d) × (d.started ≡ true)
     × FlowsWell d.end c.end × FlowsWell c.end d.end
 
--- Nothing is on the way, and on each channel that nobody closed all that was written came, both ways, as far as the reader's
--- window and reads allow.
+-- Nothing is on the way, and on each channel that nobody closed all that was written came, both ways, as far as the
+-- reader's window and reads allow.
 pub record IsAtRest (config : PairConfig) (s : PairOnLink) : Type 0 where
   pub moment : IsPairAt config s
   pub quiet : IsQuietPair moment.pair

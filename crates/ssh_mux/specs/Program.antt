@@ -37,8 +37,8 @@ HasBefore true Tells (Some report) = Tells report
 HasBefore false Tells None = Unit {0}
 HasBefore false Tells (Some report) = ⊥
 
--- A run was refused: Config exactly where a number is out of its bounds, and with the report of the steps before exactly
--- where a call was refused.
+-- A run was refused: Config exactly where a number is out of its bounds, and with the report of the steps before
+-- exactly where a call was refused.
 pub record IsRefusedRun (config : PairConfig) (steps : List ChannelStep) (end : MuxEnd) : Type 0 where
   pub out : are_within config ≡ false → end.fault ≡ Config
   pub config_is : end.fault ≡ Config → are_within config ≡ false

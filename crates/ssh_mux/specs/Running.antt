@@ -102,7 +102,8 @@ pub record ReceivesNew (side : Side) (delivered : List (List ℕ)) (old new : Bo
   pub received : (side_at side new).received ≡ max (side_at side old).received (length delivered)
   pub other : side_at (other_side side) new ≡ side_at (other_side side) old
 
--- The link carried out a step: it stands behind what was carried out before, with one mark more, and what it delivered stays.
+-- The link carried out a step: it stands behind what was carried out before, with one mark more, and what it delivered
+-- stays.
 pub record LinkGoes (step : Step) (old new : LinkState) : Type 0 where
   pub steps : new.steps ≡ old.steps ++ step ∷ []
   pub marks : new.marks ≡ old.marks ++ both_marks new.carried ∷ []
@@ -115,8 +116,8 @@ is_submit (steps.Deliver side count) = false
 is_submit (steps.Rekey side) = false
 is_submit steps.Settle = false
 
--- A side received what was delivered to it, the first message that it made was submitted, or the link carried out another
--- step.
+-- A side received what was delivered to it, the first message that it made was submitted, or the link carried out
+-- another step.
 pub data Carried (old new : PairOnLink) : Type 0 where
   Received : (side : Side) → ReceivesNew side (delivered_at side old.link) old.both new.both → new.link ≡ old.link → Carried old new
   Submitted : (side : Side) (payload : List ℕ) (rest : List (List ℕ)) → (state_at side old.both).made ≡ payload ∷ rest
@@ -144,7 +145,8 @@ pub record HasReceived (side : Side) (l : LinkState) (old new : Both) : Type 0 w
   pub received : length (delivered_at side l) ≤ (side_at side new).received
   pub other : side_at (other_side side) new ≡ side_at (other_side side) old
 
--- Nothing that a side made is left, each received all that the link delivered to it, and the last step of the link is a settle.
+-- Nothing that a side made is left, each received all that the link delivered to it, and the last step of the link is
+-- a settle.
 pub record LeavesNone (s : PairOnLink) : Type 0 where
   pub client_made : (state_at Client s.both).made ≡ []
   pub server_made : (state_at Server s.both).made ≡ []
@@ -152,8 +154,8 @@ pub record LeavesNone (s : PairOnLink) : Type 0 where
   pub to_server : length (delivered_at Server s.link) ≤ s.both.server.received
   pub settled : (before : List Step) × (s.link.steps ≡ before ++ steps.Settle ∷ [])
 
--- Steps: the call of each, where it makes one, was answered, and behind it both sides only received what was delivered, and
--- the link carried what they made.
+-- Steps: the call of each, where it makes one, was answered, and behind it both sides only received what was
+-- delivered, and the link carried what they made.
 abbrev pub RunsSteps : List ChannelStep → (old new : PairOnLink) → Type 0
 RunsSteps [] old new = new ≡ old
 RunsSteps (step ∷ steps) old new =
@@ -174,7 +176,8 @@ is_call_refused Config = false
 is_call_refused (Mux fault) = is_call_fault fault
 is_call_refused (Link e) = false
 
--- a refusal of the link, or of a message that came, or want of memory: no call was refused, and the windows are in bounds
+-- a refusal of the link, or of a message that came, or want of memory: no call was refused, and the windows are in
+-- bounds
 abbrev pub IsLinkFault : RunFault → Type 0
 IsLinkFault fault = (is_call_refused fault ≡ false) × (fault ≡ Config → ⊥)
 
@@ -197,7 +200,8 @@ pub record IsBrokenOff (steps : List ChannelStep) (fault : RunFault) (old new : 
   pub fault_is : fault ≡ Mux due
   pub due_is : step_fault step new.both ≡ Some due
 
--- The report has the channels of both sides, as these calls and payloads leave them, the steps of the link, and its report.
+-- The report has the channels of both sides, as these calls and payloads leave them, the steps of the link, and its
+-- report.
 pub record TellsRun (s : PairOnLink) (report : MuxReport) : Type 0 where
   pub channels : report.channels.items ≡ all_channels (state_at Client s.both).side.channels (state_at Server s.both).side.channels report.steps.items
   pub steps : report.steps.items ≡ s.link.steps

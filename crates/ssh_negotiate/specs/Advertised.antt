@@ -64,8 +64,8 @@ abbrev pub each_once : List Algorithm → List Algorithm
 each_once [] = []
 each_once (a ∷ rest) = a ∷ filter (is_other a) (each_once rest)
 
--- the algorithms under which a server has a certificate: for each certificate whose key is there, the preferred ones that
--- it fits
+-- the algorithms under which a server has a certificate: for each certificate whose key is there, the preferred ones
+-- that it fits
 unfoldable pub certificate_names : List Algorithm → List HostCertificate → List HostKey → List Algorithm
 certificate_names preferred certificates keys =
     each_once (flat_map (λ (c : HostCertificate). filter (fits c.algorithm) preferred) (filter (has_key keys) certificates))

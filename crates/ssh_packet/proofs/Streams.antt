@@ -90,8 +90,8 @@ pub plain_by_type : (before items : List Item) → IsPlain by_type before items
 plain_by_type before [] = tt
 plain_by_type before (i ∷ items) = (refl, plain_by_type (before ++ i ∷ []) items)
 
--- The same where the reader tells ends of epochs by a test of its own that is plain on what was written: no packet of the
--- writer is dropped as a guess.
+-- The same where the reader tells ends of epochs by a test of its own that is plain on what was written: no packet of
+-- the writer is dropped as a guess.
 pub read_same_by : (ends_by : List Item → Item → Bool) (before : List Item) (left : Option ℕ) (p q : Option Place) (a b : List Item) (fed rest wire y : List ℕ) → IsPlain ends_by before b → PlacesAgree left p q → ReadsBy ends_by before p a fed rest → Reads q b wire [] → fed ++ y ≡ wire → SameFor left a b
 read_same_by E before None p q a b fed rest wire y pl h r w e = tt
 read_same_by E before (Some k) p q [] b fed rest wire y pl h r w e = tt

@@ -7,9 +7,9 @@ use Rattle.ssh_packet.specs.declared.error.OpenError.{OpenError}
 use Rattle.ssh_packet.specs.declared.error.OpenError.TheVariants as errors
 use Rattle.ssh_packet.specs.declared.reader.Incoming.{Incoming}
 
--- bytes that wait, the number of the next packet, the payload bytes handed out, whether a `next` was refused, the payload
--- that is still lent, how many bytes may wait of what is taken, and how many bytes that were handed out are still kept
--- before those that wait
+-- bytes that wait, the number of the next packet, the payload bytes handed out, whether a `next` was refused, the
+-- payload that is still lent, how many bytes may wait of what is taken, and how many bytes that were handed out are
+-- still kept before those that wait
 pub record Reader : Type 0 where
   pub waiting : List ℕ
   pub number : ℕ

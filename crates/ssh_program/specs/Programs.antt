@@ -33,7 +33,8 @@ IsCommand {C} command_in words = (command : C) × (command_in words ≡ Some com
 abbrev pub IsReading : {C : Type 0} → (List (List ℕ) → Option C) → (C → Bool) → List (List ℕ) → Type 0
 IsReading {C} command_in reads words = (command : C) × (command_in words ≡ Some command) × (reads command ≡ true)
 
--- What a command answers to what was left, all of it where that is told. A script that isn't too long is read to its end.
+-- What a command answers to what was left, all of it where that is told. A script that isn't too long is read to its
+-- end.
 abbrev pub AnswersLeft : {C A : Type 0} → (C → List ℕ → A → Type 0) → C → Option (List ℕ) → Option (List ℕ) → A → Type 0
 AnswersLeft answers command old new answer = (text : List ℕ) × IfSome old (λ bytes. bytes ≡ text)
     × answers command text answer × (is_too_long text ≡ false → ReachesEnd old new)

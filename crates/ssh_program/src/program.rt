@@ -116,8 +116,8 @@ pub fn exit_code<P: Program, S: Source, K: Sink>(
     }
 }
 
-/// Runs a command: tests the words, reads the script from the source where the command reads one, lets it be answered, and
-/// writes what tells the answer to the sink. Nothing is written before all of the answer is known.
+/// Runs a command: tests the words, reads the script from the source where the command reads one, lets it be answered,
+/// and writes what tells the answer to the sink. Nothing is written before all of the answer is known.
 pub fn run_program<P: Program, S: Source, K: Sink>(
     alloc: Global,
     words: &[Word],

@@ -12,8 +12,8 @@ use Rattle.ssh_rules.proofs.side.Blocks.{block_above, block_behind, block_below,
 use Rattle.ssh_rules.specs.MessageTypes.{order}
 use Rattle.ssh_rules.specs.Wire.{ArePadded, HasForm, HasFront, InBlocks, IsWire, carried_payloads, epochs_ended, exchange_block}
 
--- What is asked of a packet behind good ones: its place, its bytes and padding, that it may come next, and of an open block
--- that it keeps its form.
+-- What is asked of a packet behind good ones: its place, its bytes and padding, that it may come next, and of an open
+-- block that it keeps its form.
 pub record NextGood (side : Side) (config : Config) (kind : ℕ → Bool) (host : ℕ → Option (List ℕ)) (submitted : List (List ℕ)) (xs : List FinishedExchange) (items : List Item) (i : Item) : Type 0 where
   pub place : Place
   pub at : place_behind (Some (first_place (map (outgoing side) xs))) items ≡ Some place

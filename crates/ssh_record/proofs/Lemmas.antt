@@ -1,5 +1,5 @@
--- What crates above cite: readings, good packets one more and one less, where a cursor stands, and runs one step longer.
--- Declares nothing.
+-- What crates above cite: readings, good packets one more and one less, where a cursor stands, and runs one step
+-- longer. Declares nothing.
 pub use Rattle.ssh_record.proofs.Readings.{front_all, front_none, front_cons, front_join, front_length, front_same, reads_fronts, reads_less, entries_one, reads_wider, begins_outgoing, entries_wider, end_of_nothing}
 pub use Rattle.ssh_record.proofs.Good.{wire_front, good_less, good_fronts, wire_good, bad_one, bad_not_good}
 pub use Rattle.ssh_record.proofs.GoodMore.{NextGood, good_more}

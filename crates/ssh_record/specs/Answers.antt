@@ -80,8 +80,8 @@ abbrev pub AreDelivered : Side → JudgedRecord → List FinishedExchange → �
 AreDelivered other j xs taken delivered =
     (items : List Item) × LiesWhole other (config_in other j) xs (wire_in other j) taken items × (delivered ≡ carried_payloads items)
 
--- Nothing is wrong, and this is what the record shows: both wires are good, the marks are those of a run of the steps that
--- sent as much, and what was delivered lies whole in what was taken.
+-- Nothing is wrong, and this is what the record shows: both wires are good, the marks are those of a run of the steps
+-- that sent as much, and what was delivered lies whole in what was taken.
 pub record IsAcceptedRecord (client server : Config) (r : Recording) (report : AuditReport) : Type 0 where
   pub names : Names
   pub have_names : HaveNames client server names

@@ -36,7 +36,8 @@ abbrev pub from_exchange : List Item → List Item
 from_exchange [] = []
 from_exchange (i ∷ items) = if is_kex_type (type_of i) then i ∷ items else from_exchange items
 
--- Where the messages of exchange k, from 0, have to stand: before the first nothing may stand, before a later one payloads.
+-- Where the messages of exchange k, from 0, have to stand: before the first nothing may stand, before a later one
+-- payloads.
 abbrev pub block_items : ℕ → List Item → List Item
 block_items zero items = epoch_items zero items
 block_items (suc k) items = from_exchange (epoch_items (suc k) items)

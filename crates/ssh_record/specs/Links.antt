@@ -34,7 +34,8 @@ pub record IsSecretOf (client_makes : ClientPairs) (server_makes : ServerValues)
       → server_makes names.kex (group_of e.gex) e.server_ephemeral
       → agrees names.kex (group_of e.gex) e.client_ephemeral e.server_ephemeral other → other ≡ secret
 
--- For each block that is whole on both wires, read under the exchanges before it, the record has the secret of its values.
+-- For each block that is whole on both wires, read under the exchanges before it, the record has the secret of its
+-- values.
 pub record HasSecretsOf (client_makes : ClientPairs) (server_makes : ServerValues) (agrees : Secrets) (j : JudgedRecord) : Type 0 where
   pub given : (before : List FinishedExchange) (e : Exchange) (host : List ℕ) → AreNext j before → HasBlocks j before e host
       → (secret : List ℕ) × (slice_get j.recording.secrets (length before) ≡ Some secret)

@@ -1,5 +1,5 @@
--- What crates above cite: the lemmas of the laws, lemmas on events one after the other, and what one turn and one step of a
--- link do. Declares nothing.
+-- What crates above cite: the lemmas of the laws, lemmas on events one after the other, and what one turn and one step
+-- of a link do. Declares nothing.
 pub use Rattle.ssh_rules.proofs.pair.SameRecords.{makes_one_record}
 pub use Rattle.ssh_rules.proofs.side.Resets.{resets_is}
 pub use Rattle.ssh_rules.proofs.side.Ran.{steps_join, sent_join, read_join, recorded_is}

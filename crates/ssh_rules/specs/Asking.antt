@@ -19,8 +19,8 @@ pub record PartCalls : Type 0 where
 abbrev pub counted_by : {A H G : Type 0} (agreement : A → ℕ) (hosts : H → ℕ) (lookups : G → ℕ) → A → H → G → PartCalls
 counted_by agreement hosts lookups a h g = record { agreement = agreement a; hosts = hosts h; lookups = lookups g }
 
--- Between two states each part was asked no more often than was to come and than the exchanges that were begun ask it, and
--- the lookup in group exchanges alone.
+-- Between two states each part was asked no more often than was to come and than the exchanges that were begun ask it,
+-- and the lookup in group exchanges alone.
 pub record AsksWithin (side : Side) (st st' : SideState) (calls calls' : PartCalls) : Type 0 where
   pub agreement : CallsFrom (agreement_to_come side) (calls_of side) st st' calls.agreement calls'.agreement
   pub hosts : CallsFrom (hosts_to_come side) (calls_of side) st st' calls.hosts calls'.hosts

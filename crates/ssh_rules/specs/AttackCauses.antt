@@ -1,5 +1,5 @@
--- Why a side refuses the packet behind those that it handled, by its report: its configuration, the packets handled, its
--- own packets, the exchanges that it recorded, and what its parts did over the whole run.
+-- Why a side refuses the packet behind those that it handled, by its report: its configuration, the packets handled,
+-- its own packets, the exchanges that it recorded, and what its parts did over the whole run.
 use Rattle.std.specs.Prelude.{◌≡◌, ◌⊎◌, ◌<◌, ◌≤◌, ◌+◌, ◌-◌, ◌^◌, ◌%◌, ◌&&◌, nat_le, ℕ, zero, suc, max, Bool, true, false, if◌then◌else◌, List, [], ◌∷◌, ◌++◌, length, map, take, drop, slice_get, is_some, Option, Some, None, Ok, Err}
 use Rattle.ssh_wire.specs.Lines.{id_text}
 use Rattle.ssh_wire.specs.Sides.{other_side}
@@ -134,8 +134,8 @@ has_dropped BeforeKexinit n = false
 abbrev pub dropped_by : Guess → Names → ℕ
 dropped_by g n = if has_dropped g n then 1 else 0
 
--- In the first exchange, behind its KEXINIT and under strict key exchange, the packet stands where it may not, and is no
--- DISCONNECT.
+-- In the first exchange, behind its KEXINIT and under strict key exchange, the packet stands where it may not, and is
+-- no DISCONNECT.
 pub record IsOutOfOrder (v : Seen) (items : List Item) (i : Item) (place : ℕ) : Type 0 where
   pub stays : type_of i ≡ 1 → ⊥
   pub first : done_by v items ≡ 0
@@ -180,8 +180,8 @@ pub record Speaks (v : Seen) (items : List Item) (e : Exchange) (host signature 
 
 -- ---- what the parts of the side do
 
--- Over the whole run, under both sides' configurations: what is lawful and obliging, which counts of refusals rose, what the
--- types and the parts say, and how often each part had been asked before and after.
+-- Over the whole run, under both sides' configurations: what is lawful and obliging, which counts of refusals rose,
+-- what the types and the parts say, and how often each part had been asked before and after.
 pub record PartsDo : Type 1 where
   pub lawful : Type 0
   pub lawful_hosts : Type 0
@@ -264,8 +264,8 @@ PartDeniesNow p v items i ValueDue = (n : Names) × (names_by v items ≡ Some n
 PartDeniesNow p v items i ReplyDue = (n : Names) × (names_by v items ≡ Some n) × DeniesReply p v items i n
 PartDeniesNow p v items i NewkeysDue = ⊥
 
--- obliging host keys refuse a signature only where they don't accept it: of the reply's host, of the hash with a secret that
--- is agreed, and of the signature in its canonical form
+-- obliging host keys refuse a signature only where they don't accept it: of the reply's host, of the hash with a
+-- secret that is agreed, and of the signature in its canonical form
 pub record IsMissignedNow (p : PartsDo) (v : Seen) (items : List Item) (i : Item) : Type 0 where
   pub names : Names
   pub names_are : names_by v items ≡ Some names
@@ -369,8 +369,8 @@ RefusesNow p v items i errors.Memory = ⊥
 
 -- ---- what is taken
 
--- A handled packet is one that the rules of a side take, behind those before it: no row above holds of it that asks neither
--- the parts nor memory. `offers` is what the side's agreement offers.
+-- A handled packet is one that the rules of a side take, behind those before it: no row above holds of it that asks
+-- neither the parts nor memory. `offers` is what the side's agreement offers.
 abbrev pub ContentTaken : (offers : KexName → Type 0) → Seen → List Item → Item → Due → Type 0
 ContentTaken offers v items i KexinitDue = (n : Names) × KexinitReads v items i (Ok n) × offers n.kex
 ContentTaken offers v items i GroupDue = (g : DhGroup) × (i.payload ≡ group_message g) × IsInside v.config.gex g
@@ -424,8 +424,8 @@ refused_packet_at (AtPacket i) = i ∷ []
 abbrev pub judged_in : PartsDo → Seen → (handled : List Item) → Judged
 judged_in parts v handled = record { takes = HasFront handled; refuses = RefusesNow parts v }
 
--- Each step of the side was answered by its cause, each packet that it handled is one that is taken there, and each part was
--- asked once at most for each message of an exchange, the refused one included.
+-- Each step of the side was answered by its cause, each packet that it handled is one that is taken there, and each
+-- part was asked once at most for each message of an exchange, the refused one included.
 pub record IsAnsweredSide (parts : PartsDo) (side : Side) (config : Config) (steps : List AttackStep) (answers : List (Rattle.std.specs.Prelude.Result (Unit {0}) Error))
     (exchanges : List FinishedExchange) (own handled : List Item) (ending : Ending) : Type 0 where
   pub answered : AreAnswers (judged_in parts (seen_in side config (fed_to side steps) exchanges own) handled) side

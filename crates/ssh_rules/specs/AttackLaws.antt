@@ -8,8 +8,8 @@ use Rattle.ssh_rules.specs.Attacked.{AtSomePacket, Handed, IsAttackedSide}
 use Rattle.ssh_rules.specs.Parts.{Secrets}
 use Rattle.ssh_rules.specs.declared.link.SideReport.{SideReport}
 
--- Two sides of one configuration that were fed the same bytes, in whatever pieces, and recorded the same exchanges deliver
--- the same, where neither refused a packet that it could open.
+-- Two sides of one configuration that were fed the same bytes, in whatever pieces, and recorded the same exchanges
+-- deliver the same, where neither refused a packet that it could open.
 abbrev pub SameDelivered : {A H : Type 0} → (A → Setup → Type 0) → Secrets
     → (H → ServerHost → List ℕ → List ℕ → Bool) → (H → ServerHost → Bool) → Type 0
 SameDelivered {A} {H} lawful agrees accepts trusts =

@@ -297,7 +297,8 @@ AnswersBytes judged found (Ok u) items ending = (ending ≡ AllRead) × (found �
 AnswersBytes judged found (Err e) items ending =
     EndsAsAnswered (Some e) found ending × ((i : Item) → ending ≡ AtPacket i → judged.refuses items i e)
 
--- What a feed is answered, by all bytes that the side was fed up to it: the packets before the end are such as are taken.
+-- What a feed is answered, by all bytes that the side was fed up to it: the packets before the end are such as are
+-- taken.
 abbrev pub FedAnswer : Judged → Side → Config → List FinishedExchange → List ℕ → Result (Unit {0}) Error → Type 0
 FedAnswer judged side config exchanges fed answer =
     (items : List Item) × (ending : Ending)

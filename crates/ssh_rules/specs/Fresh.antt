@@ -1,5 +1,5 @@
--- Nothing that keeps packets apart is used twice within an epoch: no number (RFC 4344 section 3.1), no nonce, no counter
--- block.
+-- Nothing that keeps packets apart is used twice within an epoch: no number (RFC 4344 section 3.1), no nonce, no
+-- counter block.
 use Rattle.std.specs.Prelude.{◌≡◌, ◌≢◌, ℕ, zero, suc, ◌+◌, ◌/◌, ◌%◌, ◌^◌, ◌<◌, if◌then◌else◌, List, [], ◌∷◌, length, Option, Some, None}
 use Rattle.ssh_aes.specs.Modes.{Ctr, Cbc, counter_block}
 use Rattle.ssh_mac.specs.Tags.{is_encrypt_then_mac}

@@ -11,8 +11,8 @@ use Rattle.ssh_negotiate.specs.Reading.{KexinitFault, names_read}
 use Rattle.ssh_rules.specs.MessageTypes.{type_of, is_kex_type, order}
 use Rattle.ssh_kex.specs.Setting.{offers_of}
 
--- Where a guess stands (RFC 4253 section 7): before the KEXINIT of an exchange; behind it, where the next message of the
--- exchange is the guess; with none to come.
+-- Where a guess stands (RFC 4253 section 7): before the KEXINIT of an exchange; behind it, where the next message of
+-- the exchange is the guess; with none to come.
 pub data Guess : Type 0 where
   BeforeKexinit : Guess
   GuessDue : Guess
@@ -62,8 +62,8 @@ abbrev pub behind_first : ℕ → List ℕ → List ℕ
 behind_first g [] = []
 behind_first g (t ∷ types) = t ∷ g ∷ types
 
--- What a side has read in epoch 0 under strict key exchange, by whether it dropped a guess: the other's messages in order,
--- and with a guess one message more behind the KEXINIT.
+-- What a side has read in epoch 0 under strict key exchange, by whether it dropped a guess: the other's messages in
+-- order, and with a guess one message more behind the KEXINIT.
 abbrev pub LegalOrder : Side → (kind dropped : Bool) → List ℕ → Type 0
 LegalOrder side kind false types = types ≡ order (other_side side) kind
 LegalOrder side kind true types = (g : ℕ) × MayGuess side g × (types ≡ behind_first g (order (other_side side) kind))

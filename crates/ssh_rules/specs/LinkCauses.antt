@@ -126,8 +126,8 @@ pub record RefusesPlayed (t : Talkers) (denies : Denies) (untrusted : ServerHost
       (took ++ piece)
   pub refuses : RefusesPiece (t.says side) denies untrusted old piece error new
 
--- What is known of a refusal whatever the parts are: it is for no version line and for no violation of the strict order,
--- and host keys refuse only where their own count rose.
+-- What is known of a refusal whatever the parts are: it is for no version line and for no violation of the strict
+-- order, and host keys refuse only where their own count rose.
 abbrev pub IsCauseOfAny : Rises → Side → Error → Type 0
 IsCauseOfAny r side errors.Version = ⊥
 IsCauseOfAny r side errors.IO = ⊥
@@ -162,8 +162,8 @@ AnyRefusals {A} {H} {G} says denies untrusted rises =
 
 -- ---- lawful and obliging parts
 
--- Where the parts of both sides are lawful, each refusal of a piece of an honest peer's wire has its cause. The agreement
--- that is asked is the one at the start, after some calls.
+-- Where the parts of both sides are lawful, each refusal of a piece of an honest peer's wire has its cause. The
+-- agreement that is asked is the one at the start, after some calls.
 abbrev pub RefusalsHaveCauses : {A H G : Type 0} → (A → Setup → Type 0) → (H → Setup → Type 0) → (G → Setup → Type 0)
     → (A → KexName → Bool) → (A → A → Type 0) → (G → GexParams → DhGroup) → (Config → A → H → G → Says)
     → (A → A → H → H → G → G → Denies) → (H → H → ServerHost → Type 0)
@@ -179,8 +179,8 @@ RefusalsHaveCauses {A} {H} {G} lawful lawful_hosts lawful_groups offered keeps g
     → IsCauseOf (unobliged setup i v v' x x' y y') side (config_of setup) (offered (one_of side a b))
     (group j setup.client.gex) error
 
--- Where they are obliging, from the start to the answer, the configurations valid, and the chosen key exchange offered by
--- the side's agreement, memory was wanting. The parts that are asked are those at the start, after some calls.
+-- Where they are obliging, from the start to the answer, the configurations valid, and the chosen key exchange offered
+-- by the side's agreement, memory was wanting. The parts that are asked are those at the start, after some calls.
 abbrev pub NoneRefusedInLink : {A H G : Type 0} → (A → A → Setup → Type 0) → (signs judges : H → H → Setup → Type 0)
     → (G → G → Setup → Type 0)
     → (A → KexName → Bool) → (A → A → Type 0) → (H → H → Type 0) → (G → G → Type 0) → (Config → A → H → G → Says)

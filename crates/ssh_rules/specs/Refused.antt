@@ -102,9 +102,9 @@ PartsRefuseAlone {A} {H} {G} lawful lawful_hosts lawful_groups says denies =
     (setting side (config_of setup side) (id_text (config_of setup side).id) (one_of side w.client w.server).state)
     stage (next_number (one_of side w.client w.server).state.reading.number) item.payload error
 
--- Where the parts of both sides are obliging, from the start to the answer, which of host keys means that a client's judge
--- and a server's sign, and the reader's agreement offers the chosen name, nothing of an honest peer's message is refused but for want of memory. The parts that are asked are those at the
--- start, after some calls.
+-- Where the parts of both sides are obliging, from the start to the answer, which of host keys means that a client's
+-- judge and a server's sign, and the reader's agreement offers the chosen name, nothing of an honest peer's message is
+-- refused but for want of memory. The parts that are asked are those at the start, after some calls.
 abbrev pub NothingRefused : {A H G : Type 0} → (A → A → Setup → Type 0) → (signs judges : H → H → Setup → Type 0)
     → (G → G → Setup → Type 0)
     → (A → KexName → Bool) → (A → A → Type 0) → (H → H → Type 0) → (G → G → Type 0)

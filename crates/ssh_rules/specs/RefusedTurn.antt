@@ -43,8 +43,8 @@ pub record HostRefused (t : Talkers) (untrusted : ServerHost → Type 0) (w : Wo
   pub denied : untrusted host
   pub error_is : error ≡ errors.UnknownKey
 
--- A turn of the side leads up to what is refused: the next message that the other wrote, which is in order and of a kind
--- that is taken there, and which the side's stage or its host keys refuse.
+-- A turn of the side leads up to what is refused: the next message that the other wrote, which is in order and of a
+-- kind that is taken there, and which the side's stage or its host keys refuse.
 pub record RefusesBehind (t : Talkers) (denies : Denies) (untrusted : ServerHost → Type 0) (w : World) (side : Side)
     (error : Error) : Type 0 where
   pub piece : List ℕ
@@ -70,8 +70,9 @@ pub record RefusesInLink (t : Talkers) (denies : Denies) (untrusted : ServerHost
       (took ++ piece)
   pub refuses : RefusesPiece (t.says side) denies untrusted old piece error new
 
--- Where the agreements of both sides and the server's lookup are lawful, a message of an exchange is all that is refused of
--- an honest peer's wire, and want of memory: each packet is opened, and none is out of order or out of place.
+-- Where the agreements of both sides and the server's lookup are lawful, a message of an exchange is all that is
+-- refused of an honest peer's wire, and want of memory: each packet is opened, and none is out of order or out of
+-- place.
 abbrev pub OnlyMessagesRefused : {A H G : Type 0} → (A → Setup → Type 0) → (G → Setup → Type 0)
     → (Config → A → H → G → Says) → (A → A → H → H → G → G → Denies) → (H → H → ServerHost → Type 0) → Type 0
 OnlyMessagesRefused {A} {H} {G} lawful lawful_groups says denies untrusted =

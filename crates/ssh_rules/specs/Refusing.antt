@@ -99,8 +99,8 @@ pub record RefusesPiece (says : Says) (denies : Denies) (untrusted : ServerHost 
   pub refuses : RefusesInput says old piece cause new
   pub answers : AnswersCause says denies untrusted old.side old.config cause refuses.at error
 
--- The same, and how often the parts were asked for it: each once at most for each message of an exchange that was handled,
--- the refused one included.
+-- The same, and how often the parts were asked for it: each once at most for each message of an exchange that was
+-- handled, the refused one included.
 pub record RefusesPieceAsking (says : Says) (denies : Denies) (untrusted : ServerHost → Type 0) (old : Standing) (piece : List ℕ)
     (error : Error) (new : Standing) (calls calls' : PartCalls) : Type 0 where
   pub refused : RefusesPiece says denies untrusted old piece error new

@@ -137,9 +137,9 @@ pub record IsEarlyLink (says : Side → Says) (config : Side → Config) (side :
   pub to_peer : HasFront (sent_bytes side first_state.writing log) (read_bytes (other_side side) first_state.reading plog)
   pub none : recorded log ≡ []
 
--- Over an honest carrier a reader without a record, which awaits a message and owes none, never meets a violation of the
--- strict order, whatever the parts of both sides are: what comes next is in order, and an awaited KEXINIT is the first
--- packet.
+-- Over an honest carrier a reader without a record, which awaits a message and owes none, never meets a violation of
+-- the strict order, whatever the parts of both sides are: what comes next is in order, and an awaited KEXINIT is the
+-- first packet.
 abbrev pub NoViolation : {A H G : Type 0} → (Config → A → H → G → Says) → Type 0
 NoViolation {A} {H} {G} says =
     (setup : Setup) (a b : A) (h i : H) (g j : G) (side : Side) (log theirs : List Event) (st peer : SideState)

@@ -182,9 +182,9 @@ IsIdleBefore OfVersion config st = IsQuiet config st
 IsIdleBefore (OfFault fault) config st = IsQuiet config st
 IsIdleBefore (OfPacket i) config st = IsQuiet config st
 
--- A piece was refused: some events came before, up to the state in which what is refused stood next; then nothing more is
--- done. What was delivered stays, nothing is left of the input, and what the refused packet would write isn't written. Of
--- that state the exchanges that were recorded are all that is kept.
+-- A piece was refused: some events came before, up to the state in which what is refused stood next; then nothing more
+-- is done. What was delivered stays, nothing is left of the input, and what the refused packet would write isn't
+-- written. Of that state the exchanges that were recorded are all that is kept.
 pub record RefusesInput (says : Says) (old : Standing) (piece : List ℕ) (cause : RefusalCause)
     (new : Standing) : Type 0 where
   pub at : SideState

@@ -1,4 +1,5 @@
--- What the calls of a link leave: the same configurations, and parts that say of themselves as they were what they say now.
+-- What the calls of a link leave: the same configurations, and parts that say of themselves as they were what they say
+-- now.
 use Rattle.std.proofs.Common.{◌≡◌, ℕ, zero, suc, ◌+◌, ◌*◌, ◌<◌, ◌≤◌, ◌^◌, Bool, true, false, Option, List, [], ◌∷◌, ◌++◌, length, map, take, drop, append_assoc, Some, None, Result, Ok, Err, IfOk, OnOk, inl, inr, refl, sym, ap, ◌∙◌, subst, arith}
 use Rattle.std.proofs.lemmas.List.{take-append-drop}
 use Rattle.ssh_wire.specs.Lines.{id_text}

@@ -340,8 +340,8 @@ lawful_causes lawful obliging offered cm sm ag refusals lh sg jd accepts trusts 
   finds = λ q f. (f t lj).0;
 }
 
--- Where both sides' parts oblige, the lookup at least where it is asked, their configurations pass, their agreements offer
--- what is chosen, and each payload is good.
+-- Where both sides' parts oblige, the lookup at least where it is asked, their configurations pass, their agreements
+-- offer what is chosen, and each payload is good.
 pub obliging_complete : {A H G : Type 0} (lawful : A → Setup → Type 0) (obliging : A → A → Setup → Type 0) (offered : A → KexName → Bool) (client_makes : KexName → Option DhGroup → List ℕ → List ℕ → Type 0) (server_makes : KexName → Option DhGroup → List ℕ → Type 0) (agrees : KexName → Option DhGroup → List ℕ → List ℕ → List ℕ → Type 0) (refusals : A → ℕ)
     (lawful_hosts : H → Setup → Type 0) (signs judges : H → H → Setup → Type 0) (accepts : H → ServerHost → List ℕ → List ℕ → Bool) (trusts : H → ServerHost → Bool) (makes : Config → ServerHost → List ℕ → List ℕ → Type 0) (refused_sign refused_verify refused_check : H → ℕ)
     (lawful_groups : G → Setup → Type 0) (obliging_groups : G → G → Setup → Type 0) (group : G → GexParams → DhGroup) (refused_lookup : G → ℕ)

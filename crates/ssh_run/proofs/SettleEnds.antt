@@ -1,5 +1,5 @@
--- With lawful parts no settle comes to no end: each turn in which bytes wait leaves less to do, no side begins more exchanges
--- than were asked for, and where no byte waits both rest.
+-- With lawful parts no settle comes to no end: each turn in which bytes wait leaves less to do, no side begins more
+-- exchanges than were asked for, and where no byte waits both rest.
 use Rattle.std.proofs.Common.{◌≡◌, inl, inr, ℕ, zero, suc, ◌+◌, ◌*◌, ◌<◌, ◌≤◌, ◌^◌, Bool, true, false, not, List, [], ◌∷◌, length, refl, sym, ◌∙◌, ap, subst, arith, None, Some, if◌then◌else◌, length-append}
 use Rattle.std.proofs.lemmas.List.{length-take-le}
 use Rattle.ssh_wire.specs.Lines.{id_line, id_text}

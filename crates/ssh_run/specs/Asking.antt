@@ -26,7 +26,8 @@ pub record PieceBroke (says : Says) (old : CarriedEnd) (wire : List ℕ) (n : �
 abbrev pub PieceAsks : Says → CarriedEnd → List ℕ → ℕ → PartCalls → PartCalls → Type 0
 PieceAsks says old wire n calls calls' = (calls' ≡ calls) ⊎ PieceBroke says old wire n calls calls'
 
--- A turn in part: the server took all that waits for it or did not, and then each side may have taken a piece that broke off.
+-- A turn in part: the server took all that waits for it or did not, and then each side may have taken a piece that
+-- broke off.
 pub record PartAsks (client server : Says) (old : CarriedLink)
     (client_calls client_calls' server_calls server_calls' : PartCalls) : Type 0 where
   pub half : CarriedLink
@@ -83,8 +84,8 @@ abbrev pub CarriedAsks : (client_says server_says : Says) → (client server : C
 CarriedAsks client_says server_says client server steps c c' s s' = ((c' ≡ c) × (s' ≡ s))
     ⊎ NewLinkAsks client_says server_says client server steps c c' s s'
 
--- How often a run asks the parts of both sides: in each exchange a client's agreement and host keys twice, a server's and
--- its lookup once, the lookup only where a group exchange is chosen. A client's lookup is never asked.
+-- How often a run asks the parts of both sides: in each exchange a client's agreement and host keys twice, a server's
+-- and its lookup once, the lookup only where a group exchange is chosen. A client's lookup is never asked.
 pub record RunAsks (client server : Config) (steps : List Step)
     (client_calls client_calls' server_calls server_calls' : PartCalls) : Type 0 where
   pub client_agreement : client_calls'.agreement ≤ client_calls.agreement + 2 * bound_of steps

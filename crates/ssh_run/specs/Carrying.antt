@@ -20,7 +20,8 @@ abbrev pub text_of_id : SshId → List ℕ
 text_of_id (Standard text) = text
 text_of_id (Raw text) = text
 
--- One side: its transport, how many bytes of the other's output it took, what it delivered, how many payloads it submitted.
+-- One side: its transport, how many bytes of the other's output it took, what it delivered, how many payloads it
+-- submitted.
 pub record CarriedEnd : Type 0 where
   pub transport : Standing
   pub taken : ℕ

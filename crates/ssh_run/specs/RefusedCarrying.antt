@@ -110,8 +110,8 @@ pub record StaysRestless (l : CarriedLink) : Type 0 where
   pub to_server : length l.client.transport.output ≤ l.server.taken
   pub restless : IsRestless l.client ⊎ IsRestless l.server
 
--- Why a settle comes to no end behind so many turns: all that it has are taken and bytes wait, a side has begun too many
--- exchanges, or no byte waits and a side does not rest.
+-- Why a settle comes to no end behind so many turns: all that it has are taken and bytes wait, a side has begun too
+-- many exchanges, or no byte waits and a side does not rest.
 abbrev pub HasNoEnd : (bound times : ℕ) → CarriedLink → Type 0
 HasNoEnd bound times l =
     ((times ≡ settle_turns bound) × HasWaiting l) ⊎ (BeginTooMany bound l ⊎ StaysRestless l)

@@ -107,8 +107,8 @@ pub record IsAnyPartsCause (rises : Side → Rises) (config : Side → Config) (
   pub came : BringMessages side config (reached.before ++ step ∷ [])
   pub cause : IsCauseOfAny (rises side) side error
 
--- Why a run is refused where the parts of both sides are lawful: a configuration, the first payload that isn't good, what
--- the parts decide, or want of memory.
+-- Why a run is refused where the parts of both sides are lawful: a configuration, the first payload that isn't good,
+-- what the parts decide, or want of memory.
 abbrev pub IsRunCause : (Side → Rises) → (Side → Config) → (Side → KexName → Bool) → DhGroup → List Step → Error → Type 0
 IsRunCause rises config offered group steps error = (error ≡ errors.Memory)
     ⊎ (IsConfigFault (config Client) (config Server) error ⊎ (IsBadSubmit steps error

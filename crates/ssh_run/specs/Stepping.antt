@@ -6,8 +6,8 @@ use Rattle.ssh_rules.specs.declared.link.Mark.{Mark}
 use Rattle.ssh_rules.specs.declared.link.Step.{Step}
 use Rattle.ssh_run.specs.Carrying.{CarriedLink, FewBehind, StepsLink, both_marks, bound_behind, reported_end}
 
--- Both sides, how many exchanges may be begun, the steps that were carried out, a mark before the first and behind each, and
--- whether a step was refused.
+-- Both sides, how many exchanges may be begun, the steps that were carried out, a mark before the first and behind
+-- each, and whether a step was refused.
 pub record LinkState : Type 0 where
   pub carried : CarriedLink
   pub bound : ℕ

@@ -19,8 +19,8 @@ use ssh_wire::{Error, Payload, Side};
 use std::alloc::Global;
 use std::marker::Model;
 
-/// A client and a server over an honest carrier, the steps that were carried out, and a mark before the first and behind
-/// each.
+/// A client and a server over an honest carrier, the steps that were carried out, and a mark before the first and
+/// behind each.
 #[derive(Drop)]
 pub struct Link<'c> {
     carrier: Carrier<'c>,
@@ -45,8 +45,8 @@ impl<'c> Model for Link<'c> {
 }
 
 impl<'c> Link<'c> {
-    /// Both sides, each of which has sent its version line. InvalidConfig where a configuration is refused, the client's
-    /// first, before memory is taken. Memory.
+    /// Both sides, each of which has sent its version line. InvalidConfig where a configuration is refused, the
+    /// client's first, before memory is taken. Memory.
     pub fn new(alloc: Global, client: &'c Config, server: &'c Config) -> Result<Link<'c>, Error>
         ensures client { OnOk result (valid.config_fault client_side client.now ≡ None) }
         ensures server { OnOk result (valid.config_fault server_side server.now ≡ None) }

@@ -22,8 +22,8 @@ abbrev pub side_lines : Side → ClearSide → List ℕ
 side_lines side report = report_line side (codes "wire") (hex_word report.wire)
     ++ report_line side (codes "taken") (decimal report.taken) ++ delivered_lines side report.delivered
 
--- The room for what is told of a side, in bytes: two for each byte of its wire and of a payload, 64 for the words of the
--- wire and of a number, and 32 for those of a payload.
+-- The room for what is told of a side, in bytes: two for each byte of its wire and of a payload, 64 for the words of
+-- the wire and of a number, and 32 for those of a payload.
 abbrev pub report_room : List ℕ → List (List ℕ) → ℕ
 report_room wire delivered = 2 * length wire + 64 + sum (map (λ (payload : List ℕ). 2 * length payload + 32) delivered)
 

@@ -7,7 +7,8 @@ use Rattle.ssh_channels.specs.Muxes.{Channel, Mux, Packet}
 use Rattle.ssh_talks.specs.Talks.{Answer, As, NotYet, OtherEnd, Refused, for_channel, opening_of}
 use Rattle.ssh_talks.proofs.Packets.{Every}
 
--- A channel of the opening side. `a` is that side, `b` the other; `to_b` is on the way to the other, `to_a` on the way back.
+-- A channel of the opening side. `a` is that side, `b` the other; `to_b` is on the way to the other, `to_a` on the way
+-- back.
 pub record Opens (a b : Mux) (to_b to_a : List Packet) (answer : Answer) (n : ℕ) (c : Channel) : Type 0 where
   pub talk : Talk
   pub reached : Reached (opened a.window a.most b.window b.most) talk

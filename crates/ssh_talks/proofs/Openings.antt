@@ -237,7 +237,8 @@ skip_other p rest m far = sym (if_false (opens_as m p) (p.message ∷ opening_of
 still_same : (n m : ℕ) (answers : ℕ → Answer) (k : ℕ) → answers n ≡ NotYet → answers m ≡ As k → n ≡ m → ⊥
 still_same n m answers k e f g = (let z : NotYet ≡ As k = sym e ∙ (ap answers g ∙ f) in cc)
 
--- What becomes of the channels that side `a` opens, where side `b` answers the next opening, and has these channels then.
+-- What becomes of the channels that side `a` opens, where side `b` answers the next opening, and has these channels
+-- then.
 pub answer_own : (a b : Mux) (p sent : Packet) (rest to_a : List Packet) (answers : ℕ → Answer) (channels : List Channel) (answer : Answer) (e : End) (messages : List Message)
     → (h : Half a b (p ∷ rest) to_a answers) → p.to ≡ None → IsAnswer b p answer e messages sent
     → OtherEnd p.from (with_channels b channels) rest answer e []

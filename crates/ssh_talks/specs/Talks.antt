@@ -104,7 +104,8 @@ abbrev pub IsTalkOf : Side → MuxPair → ℕ → Channel → Answer → Type 0
 IsTalkOf side b n c answer =
     IsTalk (mux_of side b) (mux_of (other_side side) b) (way_to side b) (way_to (other_side side) b) n c answer
 
--- What a channel of a side is: a talk where the side opened it, and else the other end of one that the other side opened.
+-- What a channel of a side is: a talk where the side opened it, and else the other end of one that the other side
+-- opened.
 abbrev pub IsOfTalk : Side → MuxPair → ℕ → Channel → Bool → Type 0
 IsOfTalk side b n c true = (answer : Answer) × IsTalkOf side b n c answer
 IsOfTalk side b n c false =
@@ -115,8 +116,8 @@ abbrev pub ChannelsAreTalks : Type 0
 ChannelsAreTalks = (w m v k : ℕ) (mids : List MuxPair) (b : MuxPair) → HappensOn mids (both_new w m v k) b
     → (side : Side) (n : ℕ) (c : Channel) → slice_get (mux_of side b).channels n ≡ Some c → IsOfTalk side b n c c.started
 
--- What holds between two ends, of which `s` is one and `r` the other: what came is a front of what was written, and no more
--- bytes went out than the window allows.
+-- What holds between two ends, of which `s` is one and `r` the other: what came is a front of what was written, and no
+-- more bytes went out than the window allows.
 pub record FlowsWell (s r : End) : Type 0 where
   pub in_order : IsPrefixOf r.received s.written
   pub passed : s.gone ≤ s.granted

@@ -9,8 +9,8 @@ pub fn channels_are_talks()
     ensures { ChannelsAreTalks }
 {}
 
-/// On each channel, both ways, what came is a front of what was written, and no more bytes went out than the other side's
-/// window and the reads that it told of.
+/// On each channel, both ways, what came is a front of what was written, and no more bytes went out than the other
+/// side's window and the reads that it told of.
 #[tactic(auto, using(crate::proofs::Flowing::channels_flow))]
 pub fn channels_flow()
     ensures { ChannelsFlow }

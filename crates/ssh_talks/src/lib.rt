@@ -1,5 +1,5 @@
-//! All channels of two sides over an honest carrier: each is a talk of two ends, so what is proved of one channel holds of
-//! each of them.
+//! All channels of two sides over an honest carrier: each is a talk of two ends, so what is proved of one channel
+//! holds of each of them.
 #![tactic(auto)]
 
 mod laws;

@@ -48,8 +48,8 @@ IsSetting s = IsSettingOf s.client.now s.server.now s
 abbrev pub judged_under : Setting → Recording → JudgedRecord
 judged_under s r = record { client = s.client.now; server = s.server.now; names = s.names; recording = r }
 
--- What is kept of packets: of each its type, the length of its payload, and where it ends. The first begins so many bytes
--- behind the wire's front.
+-- What is kept of packets: of each its type, the length of its payload, and where it ends. The first begins so many
+-- bytes behind the wire's front.
 abbrev pub AreKept : Option Place → ℕ → List Item → List Packet → Type 0
 AreKept at start [] [] = Unit {0}
 AreKept at start [] (p ∷ kept) = ⊥

@@ -29,8 +29,8 @@ abbrev pub queued_by : Option (List ℕ) → Standing → Standing
 queued_by None t = t
 queued_by (Some payload) t = queued t payload
 
--- What a call that lends the next payload leaves, when the loan is over. The parts were asked so often before and so often
--- behind it.
+-- What a call that lends the next payload leaves, when the loan is over. The parts were asked so often before and so
+-- often behind it.
 pub record PollsAs (says : Says) (denies : Denies) (untrusted : ServerHost → Type 0) (calls calls' : PartCalls)
     (old : Standing) (result : Result (Option (Bor (List ℕ))) (Bor Error)) (new : Standing) : Type 0 where
   pub dead : old.failed ≡ true → IsRefusedWith result Disconnect × (new ≡ old)

@@ -47,8 +47,8 @@ pub record Reads (says : Says) (c c' : Connection) : Type 0 where
   pub input : IsInput events
   pub silent : HearsNone events
 
--- A packet was opened, and done with what it asks for by itself: its payload is lent. The keys of an exchange that it ends
--- aren't taken up yet.
+-- A packet was opened, and done with what it asks for by itself: its payload is lent. The keys of an exchange that it
+-- ends aren't taken up yet.
 pub record HandlesOne (says : Says) (c : Connection) (answer : Handled) (c' : Connection) : Type 0 where
   pub seqn : ℕ
   pub item : Item

@@ -34,7 +34,8 @@ after_read s room =
     if read_fails s then record { left = s.left; fails = s.fails; calls = next_count s.calls; faults = next_count s.faults }
     else record { left = drop (read_length s room) s.left; fails = s.fails; calls = next_count s.calls; faults = s.faults }
 
--- a sink: the bytes that it holds, for how many more there is room, the numbers of the calls that fail, and how many calls and faults there were
+-- a sink: the bytes that it holds, for how many more there is room, the numbers of the calls that fail, and how many
+-- calls and faults there were
 pub record MemoryHeld : Type 0 where
   pub held : List ℕ
   pub room : ℕ

@@ -1,5 +1,5 @@
--- How many bits and bytes the primes of the test groups have. Proofs alone: they stand here since an `impl` cites none of
--- `proofs/`.
+-- How many bits and bytes the primes of the test groups have. Proofs alone: they stand here since an `impl` cites none
+-- of `proofs/`.
 use Rattle.std.proofs.Common.{◌≡◌, ℕ, zero, suc, ◌+◌, ◌-◌, ◌*◌, ◌^◌, ◌%◌, ◌/◌, ◌<◌, ◌≤◌, ◌==◌, nat_le, if◌then◌else◌, Bool, true, false, List, [], ◌∷◌, ◌++◌, length, refl, sym, ◌∙◌, ap, subst, arith, length-append, ◌⊎◌, inl, inr}
 use Rattle.std.proofs.lemmas.Bool.Decides.{nat_tests}
 use Rattle.ssh_wire.specs.Forms.{magnitude}

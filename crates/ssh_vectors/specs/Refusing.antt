@@ -25,8 +25,8 @@ is_due refuse_at calls = calls + 1 == refuse_at
 abbrev pub refuses_next : {T : Type 0} → Refusing T → Bool
 refuses_next v = is_due v.refuse_at v.calls
 
--- what a call with this place among the trait's calls leaves of the counts: one call more, and where it was refused here
--- one refusal more at its place; the inner part wasn't asked then
+-- what a call with this place among the trait's calls leaves of the counts: one call more, and where it was refused
+-- here one refusal more at its place; the inner part wasn't asked then
 pub record CountsCall {T : Type 0} (place : ℕ) (old new : Refusing T) : Type 0 where
   pub calls : new.calls ≡ next_count old.calls
   pub refuse_at : new.refuse_at ≡ old.refuse_at

@@ -3,8 +3,8 @@ use Rattle.std.specs.Prelude.{Option, Some, None}
 use Rattle.ssh_wire.specs.declared.error.Error.{Error}
 use Rattle.ssh_wire.specs.declared.error.Error.TheVariants as errors
 
--- A side's first refusal, where there is one, is one of its reader: a wrong version line, or bytes of which no packet is made.
--- A size can be that of a packet which was read, so it isn't among them.
+-- A side's first refusal, where there is one, is one of its reader: a wrong version line, or bytes of which no packet
+-- is made. A size can be that of a packet which was read, so it isn't among them.
 abbrev pub IsByReader : Option Error → Type 0
 IsByReader None = Unit {0}
 IsByReader (Some errors.Version) = Unit {0}

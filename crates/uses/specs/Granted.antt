@@ -10,7 +10,8 @@ use Rattle.ssh_service.specs.declared.message.ServiceMessage.TheVariants.{Accept
 use Rattle.ssh_wire.specs.declared.side.Side.TheVariants.{Client, Server}
 use Rattle.uses.specs.declared.granted.Granted.{Granted}
 
--- After the first exchange the server tells its extensions and the client asks for the service. Then the server grants it.
+-- After the first exchange the server tells its extensions and the client asks for the service. Then the server grants
+-- it.
 abbrev pub granting_steps : List ℕ → List Extension → List Step
 granting_steps name extensions =
     Settle ∷ Submit Server (spelling (Info extensions)) ∷ Submit Client (spelling (Request name)) ∷ Settle

@@ -7,8 +7,8 @@ use Rattle.ssh_rules.specs.Standing.{Standing, TakesInput}
 abbrev pub queued_all : Standing → List (List ℕ) → Standing
 queued_all t payloads = record t { delivered = t.delivered ++ payloads }
 
--- These bytes were taken, and these payloads lent, none of which is queued: with them queued, the transport is what feeding
--- it the bytes makes of it.
+-- These bytes were taken, and these payloads lent, none of which is queued: with them queued, the transport is what
+-- feeding it the bytes makes of it.
 abbrev pub FedLent : Says → Standing → List ℕ → List (List ℕ) → Standing → Type 0
 FedLent says old bytes lent new = TakesInput says old bytes (queued_all new lent) × (new.delivered ≡ old.delivered)
 

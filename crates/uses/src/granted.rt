@@ -74,7 +74,8 @@ pub fn ask_for_service<A: Agreement, H: HostKeys, G: GroupLookup, R: Rng>(
     Ok(Granted { answers, told })
 }
 
-/// A machine that offers the service of this name alone. SshEncoding where the text isn't the name of a service; Memory.
+/// A machine that offers the service of this name alone. SshEncoding where the text isn't the name of a service;
+/// Memory.
 fn offering(alloc: Global, name: &str) -> Result<Services, Error>
     ensures offered { IfOk result (λ services. services.offered ≡ name.now ∷ []) }
     ensures stands { IfOk result (λ services. StandsFor services []) }

@@ -1,4 +1,5 @@
--- A channel between two sides over an honest carrier stays one, and what is read at an end is a front of what was written.
+-- A channel between two sides over an honest carrier stays one, and what is read at an end is a front of what was
+-- written.
 use Rattle.std.proofs.Common.{◌≡◌, ℕ, zero, suc, ◌+◌, ◌-◌, ◌<◌, ◌≤◌, min, Bool, true, false, ◌&&◌, ◌||◌, if◌then◌else◌, List, [], ◌∷◌, ◌++◌, length, take, drop, map, get_or, slice_get, slice_set, Option, Some, None, Result, Ok, Err, ◌⊎◌, inl, inr, IfErr, ◌^◌, refl, sym, ap, ◌∙◌, subst, append_assoc, append-nil, length-append, arith}
 use Rattle.std.proofs.lemmas.Bool.{and_parts, leb-true}
 use Rattle.std.proofs.lemmas.List.{drop_more, take-append-drop, take_more}
@@ -252,7 +253,8 @@ AreWithin client server = AreSettings client.window client.largest server.window
 one_packet : (p q : Packet) → (let x : Result Packet PacketFault = Ok p in x) ≡ Ok q → p ≡ q
 one_packet p q e = cc
 
--- what holds of a side, of what is on the way to it and of what is on the way from it, keeps holding where a packet comes that isn't refused
+-- what holds of a side, of what is on the way to it and of what is on the way from it, keeps holding where a packet
+-- comes that isn't refused
 abbrev pub IsKept : (Mux → List Packet → List Packet → Type 0) → Type 0
 IsKept P = (p : Packet) (old new : Mux) (rest back packets : List Packet) → packet_fault_to p.to p.message old ≡ None → Takes p old packets new → P old (p ∷ rest) back → P new rest (back ++ packets)
 
@@ -643,7 +645,8 @@ front_whole got unread received written e f many =
     let n : length got ≡ length written = (let a = ap length e in let b = length-append got unread in let c = ap length f.1 in let d = length-append received f.0 in omega (arith, a, b, c, d, many)) in
     whole got (unread ++ f.0) written (sym (append_assoc got unread f.0) ∙ (ap (λ l. l ++ f.0) (sym e) ∙ f.1)) n
 
--- The channel with this number that one side granted is the other end of that which it is joined with, so both flow well.
+-- The channel with this number that one side granted is the other end of that which it is joined with, so both flow
+-- well.
 record BothFlow (s r : End) : Type 0 where
   pub to : FlowsWell s r
   pub back : FlowsWell r s

@@ -1,5 +1,5 @@
--- All that can be opened of some bytes: of any bytes there is such a list, and a refused packet stands in it behind those
--- that were handled.
+-- All that can be opened of some bytes: of any bytes there is such a list, and a refused packet stands in it behind
+-- those that were handled.
 use Rattle.std.proofs.Common.{◌≡◌, ℕ, zero, suc, ◌≤◌, List, [], ◌∷◌, ◌++◌, length, drop, map, refl, sym, ◌∙◌, ap, subst, arith, Option, Some, None, Bool, true, false, append-nil, append_assoc, length-append}
 use Rattle.ssh_packet.specs.Front.{Front, Unfinished, Refused, Whole, front_of}
 use Rattle.ssh_packet.specs.Sealing.{Item, next_number}

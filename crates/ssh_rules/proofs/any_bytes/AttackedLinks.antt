@@ -132,8 +132,8 @@ attacked_link ct st agrees cl sl accepts trusts client server steps answers c s 
 
 -- ---- two runs
 
--- Two sides of one configuration that were fed the same bytes, in whatever pieces, recorded the same exchanges, and were
--- refused for no packet or by the reader alone, delivered the same.
+-- Two sides of one configuration that were fed the same bytes, in whatever pieces, recorded the same exchanges, and
+-- were refused for no packet or by the reader alone, delivered the same.
 handled_all : (side : Side) (config : Config) (xs : List Rattle.ssh_kex.specs.declared.exchange.FinishedExchange.FinishedExchange) (bytes : List ℕ) (items : List Item) (ending : Rattle.ssh_rules.specs.Handled.Ending) → Rattle.ssh_rules.specs.Handled.Handled side config xs bytes items ending → ((i : Item) → ending ≡ Rattle.ssh_rules.specs.Handled.AtPacket i → ⊥) → (rest : List ℕ) × Rattle.ssh_packet.specs.Stream.EntriesBy (Rattle.ssh_rules.specs.Guess.ends_epoch side config) (Rattle.std.specs.Prelude.map (Rattle.ssh_kex.specs.Exchange.outgoing (Rattle.ssh_wire.specs.Sides.other_side side)) xs) bytes items rest
 handled_all side config xs bytes items Rattle.ssh_rules.specs.Handled.AllRead h not = (h.rest, subst (λ l. Rattle.ssh_packet.specs.Stream.EntriesBy (Rattle.ssh_rules.specs.Guess.ends_epoch side config) (Rattle.std.specs.Prelude.map (Rattle.ssh_kex.specs.Exchange.outgoing (Rattle.ssh_wire.specs.Sides.other_side side)) xs) bytes l h.rest) (sym h.ending_is.0) h.entries)
 handled_all side config xs bytes items (Rattle.ssh_rules.specs.Handled.AtFault f) h not = (h.rest, subst (λ l. Rattle.ssh_packet.specs.Stream.EntriesBy (Rattle.ssh_rules.specs.Guess.ends_epoch side config) (Rattle.std.specs.Prelude.map (Rattle.ssh_kex.specs.Exchange.outgoing (Rattle.ssh_wire.specs.Sides.other_side side)) xs) bytes l h.rest) (sym h.ending_is.0) h.entries)

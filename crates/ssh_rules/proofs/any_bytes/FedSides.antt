@@ -1,5 +1,5 @@
--- An attacked side: how its transport stands behind the bytes, payloads and rekeys that it was handed so far, and what its
--- report then says.
+-- An attacked side: how its transport stands behind the bytes, payloads and rekeys that it was handed so far, and what
+-- its report then says.
 use Rattle.std.proofs.Common.{◌≡◌, ℕ, List, [], ◌∷◌, ◌++◌, refl, sym, ◌∙◌, ap, subst, arith, Bool, true, false, Option, None, append-nil, append_assoc}
 use Rattle.ssh_packet.specs.Front.{Fault, Unfinished, Refused, Whole, front_of}
 use Rattle.ssh_packet.specs.Sealing.{Item}

@@ -226,8 +226,8 @@ and_no a b e = ap (λ x. x && not b) e
 pub stays : (side : Side) (config : Config) (before : List Item) (at : Spot) (openings : List Opening) (i : Item) → ends_epoch side config before i ≡ false → place_by (ends_epoch side config before i) (place_of at openings) i ≡ Some (place_of (spot_after at i) openings)
 stays side config before at openings i e = ap (λ b. place_by b (place_of at openings) i) e
 
--- The packets that a side handled are read off their bytes, with the test that leaves dropped guesses out; and those that
--- it kept are those without dropped guesses.
+-- The packets that a side handled are read off their bytes, with the test that leaves dropped guesses out; and those
+-- that it kept are those without dropped guesses.
 pub read_by_guesses : (says : Says) (side : Side) (config : Config) (own_id : List ℕ) (es : List Event) (before : List Item) (st st' : SideState) → ReadsAlike side config → GuessAt st.stands (guess_behind side config BeforeKexinit before) → Steps says side config own_id st es st' → ReadsOn side config before es st × (without_guesses side config (guess_behind side config BeforeKexinit before) (handled es) ≡ kept_in es)
 read_by_guesses says side config own_id [] before st st' al at h = (refl, refl)
 read_by_guesses says side config own_id (IdHeard id ∷ es) before st st' al at h =

@@ -199,8 +199,8 @@ few_sent t side log h r =
     let f = few_payloads (wrote log) in
     omega (arith, s, l, f)
 
--- What a loop keeps is the headline: each moment is what both logs make of it, each step does what such a step does, and
--- its turns lead on.
+-- What a loop keeps is the headline: each moment is what both logs make of it, each step does what such a step does,
+-- and its turns lead on.
 pub link_is : (says : Side → Says) (config : Side → Config) (client_makes : ClientPairs) (server_makes : ServerValues) (agrees : Secrets) (steps : List link.Step) (snapshots : List Snapshot)
     → ((side : Side) → config_fault side (config side) ≡ None) → ((side : Side) → HasSizes (config side)) → TellsParts (says Client) (says Server) client_makes server_makes agrees → OneSecret (says Client) (says Server) → FindsCanonical (says Server)
     → DoesSteps (talkers says config) (kind_chosen config) steps (first_snapshot (talkers says config)) snapshots → TurnsLeadOn (talkers says config) steps (first_snapshot (talkers says config)) snapshots

@@ -1,4 +1,5 @@
--- In an honest link a side's wire is as the headline has it: all blocks are of the kind that both configurations choose.
+-- In an honest link a side's wire is as the headline has it: all blocks are of the kind that both configurations
+-- choose.
 use Rattle.std.proofs.Common.{◌≡◌, ℕ, List, [], ◌∷◌, ◌++◌, length, take, refl, sym, ◌∙◌, ap, subst, Option, Some, None, Bool, Ok, Err, Result, append_assoc}
 use Rattle.ssh_packet.specs.Sealing.{Item}
 use Rattle.ssh_wire.specs.Lines.{id_line, id_text}

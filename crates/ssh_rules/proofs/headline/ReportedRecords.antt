@@ -23,7 +23,8 @@ use Rattle.ssh_rules.proofs.side.Prompt.{full_made}
 use Rattle.ssh_rules.proofs.pair.Settled.{below_get}
 use Rattle.ssh_rules.proofs.side.OneMessage.{spoken}
 
--- What a side whose own block has ended knows of the exchange: from all of the other's block, or from all but its NEWKEYS.
+-- What a side whose own block has ended knows of the exchange: from all of the other's block, or from all but its
+-- NEWKEYS.
 pub record Knows (says : Says) (side : Side) (config : Config) (own_id : List ℕ) (heard : Option (List ℕ)) (before : List FinishedExchange) (own read : List (List ℕ)) : Type 0 where
   pub theirs : List (List ℕ)
   pub exchange : Exchange
@@ -101,7 +102,8 @@ last_made : (side : Side) (says : Says) (s : Setting) (own theirs : List (List �
 last_made Client says s own theirs e x h m = let f = length_messages Client (spoken e m.host m.signature) e.gex _ refl in (f.0, f.1 ∙ sym m.own_is)
 last_made Server says s own theirs e x h m = let f = length_messages Server (spoken e m.shown.blob m.signature) e.gex _ refl in (f.0, f.1 ∙ sym m.own_is)
 
--- What the other read of an own block is a front of it; where its own block is the one that was read here, it has all of it.
+-- What the other read of an own block is a front of it; where its own block is the one that was read here, it has all
+-- of it.
 pub same_theirs : (side other : Side) (says other_says : Says) (s p : Setting) (own read theirs : List (List ℕ)) (d e : Exchange) (x y : FinishedExchange) (g h : Option ServerHost) (front : List (List ℕ))
     → MadeBy side says s own read d x g → MadeBy other other_says p read theirs e y h → HasFront own front → (theirs ≡ front) ⊎ (theirs ≡ front ++ newkeys ∷ []) → theirs ≡ own
 same_theirs side other says other_says s p own read theirs d e x y g h front m n f q =

@@ -1,5 +1,5 @@
--- Why an exchange was begun in a step: the side has a reason of its own behind the step, or it read the other's KEXINIT, and
--- the other began the exchange in an earlier step, or in this one for a reason of its own.
+-- Why an exchange was begun in a step: the side has a reason of its own behind the step, or it read the other's
+-- KEXINIT, and the other began the exchange in an earlier step, or in this one for a reason of its own.
 use Rattle.std.proofs.Common.{◌≡◌, ℕ, zero, suc, ◌<◌, ◌≤◌, List, [], ◌∷◌, ◌++◌, slice_get, sym, ap, subst, arith, Some, ◌⊎◌, inl, inr, append_assoc, append-nil}
 use Rattle.ssh_wire.specs.declared.side.Side.{Side}
 use Rattle.ssh_wire.specs.declared.side.Side.TheVariants.{Client, Server}

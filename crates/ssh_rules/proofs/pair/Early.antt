@@ -1,5 +1,5 @@
--- Before a side has recorded anything its order tests let pass what a stage awaits of an honest peer: as many packets were
--- read as messages, and no guess is marked.
+-- Before a side has recorded anything its order tests let pass what a stage awaits of an honest peer: as many packets
+-- were read as messages, and no guess is marked.
 use Rattle.std.proofs.Common.{◌≡◌, ℕ, ◌+◌, ◌≤◌, List, [], ◌∷◌, ◌++◌, length, refl, sym, ◌∙◌, ap, subst, arith, Option, Some, None, Bool, true, false, if◌then◌else◌, inl, inr, length-append}
 use Rattle.ssh_packet.specs.Sealing.{Item, next_number}
 use Rattle.ssh_wire.specs.declared.side.Side.{Side}

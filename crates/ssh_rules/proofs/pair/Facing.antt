@@ -1,5 +1,5 @@
--- In a link the next message of an exchange faces the stage that awaits it: both sides are in one exchange, after the same
--- records, and what the writer had read is a front of what the reader wrote.
+-- In a link the next message of an exchange faces the stage that awaits it: both sides are in one exchange, after the
+-- same records, and what the writer had read is a front of what the reader wrote.
 use Rattle.std.proofs.Common.{◌≡◌, ℕ, suc, ◌<◌, ◌^◌, List, [], ◌∷◌, ◌++◌, length, slice_get, refl, sym, ◌∙◌, ap, subst, arith, Bool, true, false, Some, None, Ok, inl, inr, append_assoc, if◌then◌else◌, length-append}
 use Rattle.ssh_packet.specs.Sealing.{Item}
 use Rattle.ssh_wire.specs.Lines.{id_text}

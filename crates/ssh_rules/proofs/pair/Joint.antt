@@ -106,7 +106,8 @@ honest_carrier made one cw cr sw sr cx sx csent cfed crest ssent sfed srest c s 
       to_client = prefix_from_same (epochs_ended cr) cr sw (one_way made Client Server refl (epochs_ended cr) cw cr sw sr cx sx csent cfed crest ssent sfed srest c s to_c (agree_from_points Server _ cx sx (λ j p q l hp hq. all j p q hp hq))) (omega arith);
     }
 
--- In the first epoch, whatever the two sides record and whatever their parts are: what was read is what the other wrote.
+-- In the first epoch, whatever the two sides record and whatever their parts are: what was read is what the other
+-- wrote.
 pub first_same : (rx wx : List Opening) (rr ww : List Item) (rfed rrest wsent : List ℕ) → Reads (Some (first_place rx)) rr rfed rrest → Reads (Some (first_place wx)) ww wsent [] → HasFront wsent rfed → epochs_ended rr ≡ 0 → HasFront ww rr
 first_same rx wx rr ww rfed rrest wsent r w front none =
     prefix_from_same zero rr ww (read_same (Some 0) (Some (first_place rx)) (Some (first_place wx)) rr ww rfed rrest wsent front.0 (record { sealing = refl; number = refl; openings = tt }) r w front.1) (omega (arith, none))

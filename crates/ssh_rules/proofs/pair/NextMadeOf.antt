@@ -1,4 +1,5 @@
--- What the next message of an honest peer was made of: by the stage that awaits it, and the stage in which it was written.
+-- What the next message of an honest peer was made of: by the stage that awaits it, and the stage in which it was
+-- written.
 use Rattle.std.proofs.Common.{◌≡◌, ℕ, ◌<◌, ◌^◌, List, [], ◌∷◌, ◌++◌, length, refl, sym, ◌∙◌, ap, subst, arith, Option, Some, None, true, false, inl, inr, length-append, lit<, Ok}
 use Rattle.std.specs.Prelude.{is_some, IfSome}
 use Rattle.ssh_packet.specs.Stream.{message_type}

@@ -1,5 +1,5 @@
--- In a link the packet that stands whole at the front of what a side hasn't handled is the next that the other wrote, and
--- no fault stands there.
+-- In a link the packet that stands whole at the front of what a side hasn't handled is the next that the other wrote,
+-- and no fault stands there.
 use Rattle.std.proofs.Common.{◌≡◌, ℕ, List, [], ◌∷◌, ◌++◌, map, slice_get, refl, sym, ◌∙◌, ap, subst, Option, Some, None, ◌⊎◌, inl, inr}
 use Rattle.std.proofs.lemmas.List.{append_cancel_left}
 use Rattle.ssh_packet.proofs.Lemmas.{front_stays_refused, front_stays_whole, front_whole, reads_more, reads_split}

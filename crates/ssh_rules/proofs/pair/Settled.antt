@@ -22,7 +22,8 @@ use Rattle.ssh_rules.proofs.side.Prompt.{prompt_inside, full_made, both_whole}
 abbrev pub whole : Bool → ℕ
 whole kind = if kind then 4 else 3
 
--- A side that owes nothing: its exchanges so far are whole, and of the open one as many messages are written as are due.
+-- A side that owes nothing: its exchanges so far are whole, and of the open one as many messages are written as are
+-- due.
 pub record Quiet (side : Side) (kind : Bool) (n : ℕ) (w r : List Item) : Type 0 where
   pub own : (k : ℕ) → k < n → length (exchange_block k w) ≡ whole kind
   pub theirs : (k : ℕ) → k < n → length (exchange_block k r) ≡ whole kind

@@ -1,5 +1,5 @@
--- A reader that has recorded nothing never meets a violation of the strict order over an honest carrier, whatever the parts
--- of both sides are: what it reads is the front of what the other wrote, and that is in order.
+-- A reader that has recorded nothing never meets a violation of the strict order over an honest carrier, whatever the
+-- parts of both sides are: what it reads is the front of what the other wrote, and that is in order.
 use Rattle.std.proofs.Common.{◌≡◌, ℕ, ◌+◌, List, [], ◌∷◌, ◌++◌, length, map, refl, sym, ◌∙◌, ap, subst, arith, Bool, true, false, ◌⊎◌, inl, inr, append_assoc}
 use Rattle.ssh_packet.specs.Sealing.{Item, next_number}
 use Rattle.ssh_wire.specs.Lines.{id_text}
@@ -207,8 +207,8 @@ next_early says config side log plog st pst j more l e = next where
   next : NextIs o (config o) (kind_chosen config) 0 (trace_of no_trace log).theirs j
   next = subst (λ n. NextIs o (config o) (kind_chosen config) n (trace_of no_trace log).theirs j) at_start (subst (λ t. NextIs o (config o) (kind_chosen config) (length c.mid.records) t j) same by.1)
 
--- No violation: at a reader that has recorded nothing and owes nothing the next packet passes the order test, and a KEXINIT
--- that it awaits is the first packet.
+-- No violation: at a reader that has recorded nothing and owes nothing the next packet passes the order test, and a
+-- KEXINIT that it awaits is the first packet.
 pub no_violation : (says : Side → Says) (config : Side → Config) (side : Side) (log plog : List Event) (st pst : SideState) (stage : Stage) (j : Item) (more : List Item) → IsEarlyLink says config side log plog st pst → st.owed ≡ [] → st.stands ≡ Inside stage → wrote plog ≡ handled log ++ j ∷ more → InOrder side st j × ((k : List ℕ) → stage ≡ Created k → next_number st.reading.number ≡ 1)
 no_violation says config side log plog st pst stage j more l o s e = (order, first) where
   own : List ℕ

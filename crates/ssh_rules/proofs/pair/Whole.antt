@@ -187,8 +187,8 @@ pub record Later (t : Talkers) (side : Side) (log more : List Event) (h h' : Lin
   pub now : RunsInLink t side log h
   pub later : RunsInLink t side (log ++ more) h'
 
--- Of a side at a moment: the packets that lie whole in the bytes that it took, under the exchanges that the other has in the
--- end, are those that it handled.
+-- Of a side at a moment: the packets that lie whole in the bytes that it took, under the exchanges that the other has
+-- in the end, are those that it handled.
 pub whole_is_handled : (t : Talkers) (side : Side) (log more plog : List Event) (h h' peer : LinkEnd) → AreFit t → Later t side log more h h' → RunsInLink t (other_side side) plog peer → HasFront h'.sent peer.fed → HasFront peer.sent h'.fed → front_of h.state.reading.sealing h.state.reading.number h.unfinished ≡ Unfinished → Entries (map (outgoing (other_side side)) (recorded plog)) h.fed (handled log) h.unfinished
 whole_is_handled t side log more plog h h' peer fit l p a b part =
     let step = in_step_to t side (log ++ more) plog h' peer fit l.later p a b in

@@ -1,4 +1,5 @@
--- How often a refused piece of an honest peer's wire asks a side's parts, in a link that lets so many exchanges be begun.
+-- How often a refused piece of an honest peer's wire asks a side's parts, in a link that lets so many exchanges be
+-- begun.
 use Rattle.std.proofs.Common.{◌≡◌, inl, inr, ℕ, ◌+◌, ◌-◌, ◌*◌, ◌≤◌, Bool, true, false, if◌then◌else◌, ◌==◌, List, [], ◌∷◌, ◌++◌, length, slice_get, Option, Some, None, suc, refl, sym, ◌∙◌, ap, subst, arith, append-nil, append_assoc}
 use Rattle.std.proofs.Math.Nat.{mul-add}
 use Rattle.std.proofs.lemmas.List.Sums.{fold_push}
@@ -195,8 +196,8 @@ calls_outside writer config st i (Taking stage inside r) out kex = absurd (let q
 
 -- ---- where a refusal stands
 
--- no more exchanges are begun there than may be, and where a message of one is refused outside, there is room for one more;
--- all are of one kind
+-- no more exchanges are begun there than may be, and where a message of one is refused outside, there is room for one
+-- more; all are of one kind
 pub record FewAt (kind : Bool) (bound : ℕ) (cause : RefusalCause) (at : SideState) : Type 0 where
   pub few : begun at ≤ bound
   pub kinds : IsOfKind kind at
@@ -348,7 +349,8 @@ none_chosen st h =
     by None e = refl
     by (Some n) e = ap (λ (b : Bool). if b then 1 else 0) e
 
--- each part of a side was asked no more often than so many exchanges ask it, and the lookup where they are group exchanges
+-- each part of a side was asked no more often than so many exchanges ask it, and the lookup where they are group
+-- exchanges
 pub record AskedFew (side : Side) (kind : Bool) (bound : ℕ) (n n' : PartCalls) : Type 0 where
   pub agreement_later : n.agreement ≤ n'.agreement
   pub agreement : n'.agreement ≤ n.agreement + calls_of side * bound

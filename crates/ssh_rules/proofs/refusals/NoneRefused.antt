@@ -1,5 +1,5 @@
--- What a link refuses of the messages of its exchanges: what the parts decide where they are lawful, and nothing but for
--- want of memory where they are obliging.
+-- What a link refuses of the messages of its exchanges: what the parts decide where they are lawful, and nothing but
+-- for want of memory where they are obliging.
 use Rattle.std.proofs.Common.{ap, arith, length, inl, inr, ◌≡◌, ℕ, ◌++◌, List, [], ◌∷◌, refl, sym, ◌∙◌, subst, true, false, Some, None, Ok, slice_get}
 use Rattle.ssh_packet.specs.Sealing.{Item, next_number}
 use Rattle.ssh_wire.specs.Lines.{id_text}

@@ -153,8 +153,8 @@ not_late s (AwaitsRequest o) seqn payload w h = h
 not_late s (AwaitsValue o gex) seqn payload w h = h
 not_late s (AwaitsNewkeys exchange made host) seqn payload w h = h
 
--- Of a message that a stage awaits, in the form that an honest peer gives it, each refusal is one that the parts decide, or
--- want of memory.
+-- Of a message that a stage awaits, in the form that an honest peer gives it, each refusal is one that the parts
+-- decide, or want of memory.
 pub only_parts_refuse : (says : Says) (denies : Denies) (s : Setting) (stage : Stage) (seqn : ℕ) (payload : List ℕ) (writer : Side) (peer : Config) (e : Error) → HasSizes peer → IsReadable writer peer stage payload → GroupsShort writer peer stage payload → ReadsWell s stage seqn payload → RefusesMessage says denies s stage seqn payload e → PartsRefuse says denies s stage seqn payload e
 only_parts_refuse says denies s stage seqn payload writer peer errors.KexInit sizes r g w (inl h) = absurd (h.1.type_is (readable_type writer peer stage payload r))
 only_parts_refuse says denies s stage seqn payload writer peer errors.KexInit sizes r g w (inr h) = h.1
@@ -239,8 +239,8 @@ reads_well config side own_id m st (AwaitsRequest o) seqn payload c s e f r = tt
 reads_well config side own_id m st (AwaitsValue o gex) seqn payload c s e f r = tt
 reads_well config side own_id m st (AwaitsNewkeys exchange made host) seqn payload c s e f r = tt
 
--- Where two valid configurations choose names, no message that a stage awaits of the other side is refused but for the parts
--- or for want of memory.
+-- Where two valid configurations choose names, no message that a stage awaits of the other side is refused but for the
+-- parts or for want of memory.
 pub refused_by_parts : (says : Says) (denies : Denies) (config : Side → Config) (side : Side) (own_id : List ℕ) (m : Names) (st : SideState) (stage : Stage) (payload : List ℕ) (e : Error) → IsWithin (offers_of Client (config Client)) → IsWithin (offers_of Server (config Server)) → HasSizes (config (other_side side)) → chosen_by (config Client) (config Server) ≡ Ok m → length payload ≤ longest_payload → IsReadable (other_side side) (config (other_side side)) stage payload
     → ((k : List ℕ) → stage ≡ Created k → st.records ≡ [] → next_number st.reading.number ≡ 1)
     → RefusesMessage says denies (setting side (config side) own_id st) stage (next_number st.reading.number) payload e → PartsRefuse says denies (setting side (config side) own_id st) stage (next_number st.reading.number) payload e

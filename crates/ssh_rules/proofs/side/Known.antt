@@ -1,4 +1,5 @@
--- The kind of each exchange is that of the names which its first message read gives: so of any run, whatever it was fed.
+-- The kind of each exchange is that of the names which its first message read gives: so of any run, whatever it was
+-- fed.
 use Rattle.std.proofs.Common.{if◌then◌else◌, ◌≡◌, ℕ, List, [], ◌∷◌, ◌++◌, length, refl, sym, ◌∙◌, ap, subst, Option, Some, None, Bool, true, false, inl, inr}
 use Rattle.std.specs.Prelude.{Ok}
 use Rattle.ssh_wire.specs.declared.side.Side.{Side}

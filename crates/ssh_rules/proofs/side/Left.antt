@@ -143,8 +143,8 @@ left_steps says side config own_id bound (e ∷ es) st st' h b =
     let rest = left_steps says side config own_id bound es h.0 st' h.2 b in
     omega (arith, one, rest, wrote_cons e es, submitted_cons e es)
 
--- A side that takes all that waits for it lowers the measure of a settle, whatever it writes, by one at least where bytes
--- waited.
+-- A side that takes all that waits for it lowers the measure of a settle, whatever it writes, by one at least where
+-- bytes waited.
 abbrev pub settle_measure : (client_left server_left client_waits server_waits : ℕ) → ℕ
 settle_measure cl sl cw sw = 3 * (cl + sl) + cw + sw
 

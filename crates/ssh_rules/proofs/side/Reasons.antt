@@ -13,7 +13,8 @@ use Rattle.ssh_rules.specs.Log.{asked}
 abbrev pub NonNil : {A : Type 0} → List A → Type 0
 NonNil xs = 0 < length xs
 
--- a cause of exchange k, counted from 0: the side was asked, a limit was reached in the epoch before, or the other began it
+-- a cause of exchange k, counted from 0: the side was asked, a limit was reached in the epoch before, or the other
+-- began it
 abbrev pub Reason : Config → List Cause → List Item → List Item → ℕ → Type 0
 Reason config causes written read k =
     (slice_get causes k ≡ Some Asked)

@@ -1,4 +1,5 @@
--- Where the machine of an exchange says that numbers begin again behind an own NEWKEYS, the record that it made is strict.
+-- Where the machine of an exchange says that numbers begin again behind an own NEWKEYS, the record that it made is
+-- strict.
 use Rattle.std.proofs.Common.{◌≡◌, ℕ, List, ◌++◌, [], ◌∷◌, refl, sym, ◌∙◌, ap, Bool, true, false, ◌||◌, if◌then◌else◌, Option}
 use Rattle.ssh_wire.specs.declared.side.Side.{Side}
 use Rattle.ssh_wire.specs.declared.side.Side.TheVariants.{Client, Server}

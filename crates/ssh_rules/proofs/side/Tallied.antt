@@ -1,4 +1,5 @@
--- A side's state counts what stands in its packets: begun exchanges are KEXINITs, and bytes are those of the last epoch.
+-- A side's state counts what stands in its packets: begun exchanges are KEXINITs, and bytes are those of the last
+-- epoch.
 use Rattle.std.proofs.Common.{◌≡◌, ℕ, suc, ◌+◌, ◌≤◌, List, [], ◌∷◌, ◌++◌, length, refl, sym, ◌∙◌, ap, subst, arith, Option, Some, None, Bool, true, false, ◌==◌, ◌⊎◌, inl, inr, length-append, append-nil, nat_le, ◌&&◌}
 use Rattle.std.specs.Prelude.{IsSome}
 use Rattle.std.proofs.lemmas.Bool.Decides.{nat_tests}

@@ -1,4 +1,5 @@
--- The exchanges of a link, turn by turn: no more than one, the rekeys that were asked for, and the payloads on both wires.
+-- The exchanges of a link, turn by turn: no more than one, the rekeys that were asked for, and the payloads on both
+-- wires.
 use Rattle.std.proofs.Common.{◌≡◌, ℕ, zero, suc, ◌+◌, ◌<◌, ◌≤◌, List, [], ◌∷◌, ◌++◌, length, refl, sym, ◌∙◌, ap, subst, arith, Bool, true, false, ◌⊎◌, inl, inr, if◌then◌else◌, nat_le, ◌&&◌, ◌||◌}
 use Rattle.std.proofs.lemmas.Bool.Decides.{nat_tests}
 use Rattle.ssh_packet.specs.Sealing.{Item}

@@ -1,5 +1,5 @@
--- A settle ends before its turns do: no more exchanges are begun than were asked for, each turn in which bytes wait leaves
--- less to do, and where none wait both sides rest.
+-- A settle ends before its turns do: no more exchanges are begun than were asked for, each turn in which bytes wait
+-- leaves less to do, and where none wait both sides rest.
 use Rattle.std.proofs.Common.{◌≡◌, ℕ, ◌+◌, ◌-◌, ◌*◌, ◌≤◌, List, [], ◌∷◌, ◌++◌, length, min, refl, sym, ◌∙◌, ap, subst, arith, Bool, Option, Some, None, if◌then◌else◌, length-append}
 use Rattle.ssh_wire.specs.declared.side.Side.{Side}
 use Rattle.ssh_wire.specs.declared.side.Side.TheVariants.{Client, Server}

@@ -20,7 +20,7 @@ few_to_come (Inside (AwaitsNewkeys exchange made host)) = omega arith
 pub left_room : (bound : ℕ) (st : SideState) → begun st ≤ bound → st.owed ≡ [] → left bound st ≤ 5 * bound + length st.held
 left_room bound st few owes = (let c = few_to_come st.stands in let o : length st.owed ≡ 0 = ap length owes in omega (arith, few, c, o))
 
--- A settle begins with a measure of at most 32 for each exchange that may be begun, where each payload that was submitted
--- lets two be begun: each turn lowers it by one at least, so it has no more turns.
+-- A settle begins with a measure of at most 32 for each exchange that may be begun, where each payload that was
+-- submitted lets two be begun: each turn lowers it by one at least, so it has no more turns.
 pub settle_room : (bound submits : ℕ) (c s : SideState) → begun c ≤ bound → begun s ≤ bound → c.owed ≡ [] → s.owed ≡ [] → length c.held + length s.held ≤ submits → 1 + 2 * submits ≤ bound → settle_measure (left bound c) (left bound s) 1 1 ≤ 32 * bound
 settle_room bound submits c s cf sf co so held room = (let a = left_room bound c cf co in let b = left_room bound s sf so in omega (arith, a, b, held, room))
