@@ -8,8 +8,7 @@ use Rattle.ssh_wire.specs.declared.side.Side.TheVariants.{Client, Server}
 use Rattle.ssh_packet.specs.Sealing.{Item}
 use Rattle.ssh_packet.specs.Stream.{is_newkeys}
 use Rattle.ssh_kex.specs.declared.config.Config.{Config}
-use Rattle.ssh_rules.proofs.pair.Carries.{payloads_join}
-use Rattle.ssh_rules.proofs.side.Blocks.{block_above, block_at, block_behind, block_below, block_other, ends_snoc_newkeys, ends_snoc_plain}
+use Rattle.ssh_rules.proofs.Lemmas.{payloads_join, block_above, block_at, block_behind, block_below, block_other, ends_snoc_newkeys, ends_snoc_plain}
 use Rattle.ssh_rules.specs.MessageTypes.{is_kex_type, is_payload_type, order, type_of}
 use Rattle.ssh_rules.specs.Wire.{HasForm, InBlocks, carried_payloads, epochs_ended, exchange_block}
 use Rattle.ssh_blocks.specs.Judging.{LeadsTo, due_behind}

@@ -4,9 +4,7 @@ use Rattle.std.specs.Prelude.{nat_lt}
 use Rattle.ssh_wire.specs.Fields.{◌>>=◌, answer_of, u32_at}
 use Rattle.ssh_wire.specs.Forms.{magnitude, mpint, string, u32be, unsigned}
 use Rattle.ssh_wire.specs.declared.error.Error.{Error}
-use Rattle.ssh_wire.proofs.FieldLaws.{same_pair}
-use Rattle.ssh_wire.proofs.Lemmas.{u32_again}
-use Rattle.ssh_wire.proofs.Magnitudes.{magnitude_front, magnitude_same}
+use Rattle.ssh_wire.proofs.Lemmas.{u32_again, same_pair, magnitude_front, magnitude_same}
 use Rattle.ssh_kex.specs.Fields.{sizes_front}
 use Rattle.ssh_kex.specs.Messages.{sizes_text}
 use Rattle.ssh_kex.specs.declared.group.GexParams.{GexParams}

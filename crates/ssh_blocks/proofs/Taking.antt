@@ -7,7 +7,7 @@ use Rattle.ssh_wire.specs.declared.side.Side.{Side}
 use Rattle.ssh_packet.specs.Sealing.{Item}
 use Rattle.ssh_packet.specs.Stream.{message_type}
 use Rattle.ssh_kex.specs.declared.config.Config.{Config}
-use Rattle.ssh_rules.proofs.side.Blocks.{block_at}
+use Rattle.ssh_rules.proofs.Lemmas.{block_at}
 use Rattle.ssh_rules.specs.Fills.{messages}
 use Rattle.ssh_rules.specs.Headline.{submitted_by}
 use Rattle.ssh_rules.specs.MessageTypes.{is_kex_type, is_payload_type, order, type_of}

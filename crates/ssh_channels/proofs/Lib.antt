@@ -11,3 +11,4 @@ pub mod Asking
 pub mod Pumping
 pub mod Example
 pub mod Muxing
+pub mod Lemmas

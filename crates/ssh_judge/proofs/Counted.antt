@@ -11,11 +11,7 @@ use Rattle.ssh_rules.specs.MessageTypes.{type_of, is_kex_type, is_payload_type, 
 use Rattle.ssh_rules.specs.Wire.{InBlocks, carried_payloads, epochs_ended, exchange_block}
 use Rattle.ssh_rules.specs.Marks.{kexinits}
 use Rattle.ssh_rules.specs.Run.{epoch_bytes}
-use Rattle.ssh_rules.proofs.pair.Carries.{payloads_join}
-use Rattle.ssh_rules.proofs.pair.Whole.{get_front}
-use Rattle.ssh_rules.proofs.side.Blocks.{block_at, block_behind, block_other, both, ends_false, ends_snoc_newkeys, ends_snoc_plain, ends_true}
-use Rattle.ssh_rules.proofs.side.Epochs.{bytes_in, epoch_at, epoch_next}
-use Rattle.ssh_rules.proofs.side.Tally.{bytes_ended, bytes_grown, kexinits_none, kexinits_one}
+use Rattle.ssh_rules.proofs.Lemmas.{payloads_join, get_front, block_at, block_behind, block_other, both, ends_false, ends_snoc_newkeys, ends_snoc_plain, ends_true, bytes_in, epoch_at, epoch_next, bytes_ended, bytes_grown, kexinits_none, kexinits_one}
 use Rattle.ssh_record.proofs.Lemmas.{get_last}
 use Rattle.ssh_transcript.specs.declared.packet.Packet.{Packet}
 use Rattle.ssh_judge.specs.Tallies.{BeginsExchange, Counts, CountsMessage, CountsPacket, CountsPayload, EndsEpoch, GoesOn, IsSeenAs, MayFollow}

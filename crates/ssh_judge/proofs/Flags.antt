@@ -14,7 +14,7 @@ use Rattle.ssh_rules.specs.Marks.{Half, kexinits}
 use Rattle.ssh_rules.specs.Run.{Moment, OwnCause, WrittenAt, epoch_bytes, own_of, theirs_of}
 use Rattle.ssh_rules.specs.declared.link.Step.{Step}
 use Rattle.ssh_rules.specs.declared.link.Step.TheVariants.{Submit, Deliver, Rekey, Settle}
-use Rattle.ssh_rules.proofs.pair.Whole.{get_front}
+use Rattle.ssh_rules.proofs.Lemmas.{get_front}
 use Rattle.ssh_record.specs.Growing.{CausesAt}
 use Rattle.ssh_record.proofs.Lemmas.{get_last, get_more}
 use Rattle.ssh_judge.specs.Effects.{asks_side}

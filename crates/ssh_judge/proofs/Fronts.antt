@@ -13,7 +13,7 @@ use Rattle.ssh_kex.specs.Exchange.{outgoing}
 use Rattle.ssh_rules.specs.MessageTypes.{order}
 use Rattle.ssh_rules.specs.Wire.{InBlocks, LiesWhole, epochs_ended, exchange_block}
 use Rattle.ssh_rules.specs.Marks.{Half, SentBy, kexinits}
-use Rattle.ssh_rules.proofs.side.Blocks.{block_above}
+use Rattle.ssh_rules.proofs.Lemmas.{block_above}
 use Rattle.ssh_record.proofs.Lemmas.{StandsAt, cursor_whole, end_of_nothing, none_yet}
 use Rattle.ssh_transcript.specs.Reading.{AreKept}
 use Rattle.ssh_transcript.specs.declared.packet.Packet.{Packet}

@@ -4,8 +4,7 @@ use Rattle.ssh_aes.specs.Gcm.{gcm_text, gcm_tag}
 use Rattle.ssh_aes.specs.Modes.{Running, masked_text}
 use Rattle.ssh_aes.proofs.Lemmas.{gcm_well, runs_well}
 use Rattle.ssh_mac.specs.Tags.{MacOf, is_encrypt_then_mac, tag_of}
-use Rattle.ssh_packet.proofs.Lemmas.{length_framed}
-use Rattle.ssh_packet.proofs.Shapes.{length_take4}
+use Rattle.ssh_packet.proofs.Lemmas.{length_framed, length_take4}
 use Rattle.ssh_packet.specs.Sealing.{Item, Sealing, Clear, Block, Gcm, framed_text, sealed_packet, text_with_tag}
 use Rattle.ssh_packet.specs.Stream.{Place, packet_at}
 

@@ -10,14 +10,12 @@ use Rattle.ssh_packet.specs.Stream.{first_place}
 use Rattle.ssh_kex.specs.Exchange.{outgoing}
 use Rattle.ssh_kex.specs.Messages.{is_gex}
 use Rattle.ssh_kex.specs.declared.exchange.FinishedExchange.{FinishedExchange}
-use Rattle.ssh_rules.proofs.pair.Carries.{payloads_join}
+use Rattle.ssh_rules.proofs.Lemmas.{payloads_join}
 use Rattle.ssh_rules.specs.Headline.{submitted_by}
 use Rattle.ssh_rules.specs.Run.{IsMoment, Moment}
 use Rattle.ssh_rules.specs.Wire.{HasFront, LiesWhole, carried_payloads}
 use Rattle.ssh_rules.specs.declared.link.Mark.{Mark}
-use Rattle.ssh_record.proofs.LinkAccepted.{effects_length}
-use Rattle.ssh_record.proofs.Readings.{front_join}
-use Rattle.ssh_record.proofs.RunFronts.{front_drop, moment_at, reads_within}
+use Rattle.ssh_record.proofs.Lemmas.{effects_length, front_join, front_drop, moment_at, reads_within}
 use Rattle.ssh_record.specs.Answers.{AreDelivered}
 use Rattle.ssh_record.specs.Packets.{IsGoodWire}
 use Rattle.ssh_record.specs.Recordings.{JudgedRecord, config_in, wire_in}

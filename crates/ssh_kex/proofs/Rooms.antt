@@ -6,8 +6,7 @@ use Rattle.ssh_aes.specs.Modes.{Running, masked_text}
 use Rattle.ssh_aes.proofs.Lemmas.{gcm_well, runs_well}
 use Rattle.ssh_mac.proofs.Lemmas.{tags_have_length}
 use Rattle.ssh_mac.specs.Tags.{MacOf, is_encrypt_then_mac, tag_length, tag_of}
-use Rattle.ssh_packet.proofs.Lemmas.{length_framed, padding_fills}
-use Rattle.ssh_packet.proofs.Shapes.{length_take4}
+use Rattle.ssh_packet.proofs.Lemmas.{length_framed, padding_fills, length_take4}
 use Rattle.ssh_packet.specs.Sealing.{Item, Sealing, Clear, Block, Gcm, framed_text, item_of, moved_on, packet_length, padding_length, sealed_packet, tag_size, text_with_tag}
 use Rattle.ssh_packet.specs.Writing.{Writer, room_for}
 use Rattle.ssh_wire.specs.declared.error.Error.{Error}

@@ -2,7 +2,7 @@
 use Rattle.std.proofs.Common.{◌≡◌, ℕ, false, true, List, Option, Some, None, Ok, refl, subst}
 use Rattle.ssh_program.specs.Programs.{HasOneStatus, IsReading}
 use Rattle.ssh_program.specs.Statuses.{report_written}
-use Rattle.ssh_program.proofs.OneStatus.{one_of, one_to_none, one_to_script}
+use Rattle.ssh_program.proofs.Lemmas.{one_of, one_to_none, one_to_script}
 use Rattle.ssh_run.specs.ClearRun.{first_refused}
 use Rattle.ssh_script.specs.Generated.{generated_plan}
 use Rattle.ssh_script.specs.Plans.{Plan}

@@ -2,7 +2,7 @@
 use Rattle.std.proofs.Common.{◌≡◌, ℕ, Bool, true, false, List, [], Option, Some, None, OnSome, IfSome, Result, Ok, Err, refl, sym, subst}
 use Rattle.ssh_wire.specs.Outside.{ReachesEnd}
 use Rattle.ssh_program.specs.Programs.{AnswersBy, AnswersLeft, AnswersWords, IsAnswer, IsReading, is_too_long}
-use Rattle.ssh_program.proofs.OneStatus.{one_of}
+use Rattle.ssh_program.proofs.Lemmas.{one_of}
 use Rattle.ssh_lines.specs.declared.script.ScriptFault.{ScriptFault}
 use Rattle.ssh_lines.specs.OverLong.{over_long}
 use Rattle.ssh_link.specs.Alike.{link_too_long, too_long}

@@ -5,8 +5,7 @@ use Rattle.std.proofs.lemmas.Nat.{mod_below}
 use Rattle.rand_core.specs.Stream.{Stream, fill_bytes}
 use Rattle.ssh_wire.specs.Fields.{is_shortest}
 use Rattle.ssh_wire.specs.Forms.{magnitude, number, unsigned}
-use Rattle.ssh_wire.proofs.Lemmas.{magnitude_front, mpint_number}
-use Rattle.ssh_wire.proofs.Magnitudes.{unsigned_shortest}
+use Rattle.ssh_wire.proofs.Lemmas.{magnitude_front, mpint_number, unsigned_shortest}
 use Rattle.ssh_power.specs.Moduli.{modulus_fault}
 use Rattle.ssh_power.specs.Numbers.{power_modulo}
 use Rattle.ssh_power.proofs.Lemmas.{fault_none, number_magnitude}

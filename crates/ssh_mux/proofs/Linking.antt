@@ -23,9 +23,7 @@ use Rattle.ssh_rules.specs.declared.link.Step.{Step}
 use Rattle.ssh_transport.proofs.Lemmas.{Weaker, agreement_after, groups_after, hosts_after}
 use Rattle.ssh_run.specs.Carrying.{CarriedLink, FewBehind, IsCarried, IsNewLink, StepsLink, StepsLinks, both_marks, bound_after, last_link, text_of_id}
 use Rattle.ssh_run.specs.Stepping.{LinkState, TakesStep, first_link_state, report_so_far}
-use Rattle.ssh_run.proofs.CarriedLinks.{carried_is_link}
-use Rattle.ssh_run.proofs.WholeIds.{whole_id}
-use Rattle.ssh_run.proofs.LinkSoFar.{KeepConfigs, RunsSoFar, all_run, bound_next, later_weaker, none_run, of_sides, runs_more}
+use Rattle.ssh_run.proofs.Lemmas.{carried_is_link, whole_id, KeepConfigs, RunsSoFar, all_run, bound_next, later_weaker, none_run, of_sides, runs_more}
 use Rattle.ssh_mux.specs.Linking.{TakesEach, TakesSteps}
 use Rattle.ssh_mux.specs.Running.{PairOnLink, TellsRun}
 use Rattle.ssh_mux.specs.declared.fault.RunFault.{RunFault}

@@ -3,7 +3,7 @@ use Rattle.std.proofs.Common.{◌≡◌, inl, inr, ◌∙◌, ℕ, Bool, true, f
 use Rattle.ssh_wire.specs.Outside.{ReachesEnd}
 use Rattle.ssh_program.specs.Programs.{AnswersLeft, AnswersWords, HasOneStatus, IsAnswer, IsWritten, is_too_long, status_told}
 use Rattle.ssh_program.specs.Statuses.{report_written, run_refused, script_faulty, sink_failed, source_failed, want_of_memory}
-use Rattle.ssh_program.proofs.OneStatus.{one_to_script}
+use Rattle.ssh_program.proofs.Lemmas.{one_to_script}
 use Rattle.ssh_lines.specs.declared.script.ScriptFault.{ScriptFault}
 use Rattle.ssh_mux.specs.Alike.{too_long}
 use Rattle.ssh_mux.specs.Pairs.{are_within}

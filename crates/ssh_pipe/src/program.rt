@@ -18,10 +18,10 @@ use crate::talking::talk;
 use rand_chacha::ChaCha20Rng;
 use ssh_kex::{Config, Handed, Parts};
 use ssh_modp::{FieldAgreement, ModpGroups, RsaHosts};
-use ssh_program::{NO_COMMAND, SCRIPT_FAULTY, StdSource, WANT_OF_MEMORY, Word};
+use ssh_program::{NO_COMMAND, SCRIPT_FAULTY, StdSource, WANT_OF_MEMORY, Word, words_of};
 use ssh_transport::Transport;
 use ssh_wire::{Blob, Error, Side, Sink, Source};
-use std::alloc::{AllocError, Global};
+use std::alloc::Global;
 use std::env::Args;
 use std::fs::File;
 use std::io;
@@ -52,27 +52,6 @@ pub fn exit_code<R: Files + RandomSource, S: Source, K: Sink, N: Sink>(
         Ok(words) => ExitCode::from(run(rt, alloc, words.as_slice(), source, sink, notes)),
         Err(_) => ExitCode::from(WANT_OF_MEMORY),
     }
-}
-
-/// The words behind the program's name; none where an argument isn't UTF-8.
-fn words_of(alloc: Global, arguments: io::Result<Args<Global>>) -> Result<Vec<Word>, AllocError> {
-    match arguments {
-        Ok(mut arguments) => {
-            arguments.next();
-            words_in(alloc, arguments)
-        }
-        Err(error) if error.kind() == io::ErrorKind::OutOfMemory => Err(AllocError),
-        Err(_) => Ok(Vec::new(alloc)),
-    }
-}
-
-/// Each argument as a word.
-fn words_in(alloc: Global, arguments: Args<Global>) -> Result<Vec<Word>, AllocError> {
-    let mut words = Vec::new(alloc);
-    for argument in arguments {
-        words.push(Word::new(argument))?;
-    }
-    Ok(words)
 }
 
 /// Runs the command that has these words, and gives the exit status.

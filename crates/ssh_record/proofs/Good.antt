@@ -10,8 +10,7 @@ use Rattle.ssh_wire.specs.declared.side.Side.{Side}
 use Rattle.ssh_kex.specs.declared.config.Config.{Config}
 use Rattle.ssh_kex.specs.declared.exchange.FinishedExchange.{FinishedExchange}
 use Rattle.ssh_kex.specs.Exchange.{outgoing}
-use Rattle.ssh_rules.proofs.pair.Carries.{payloads_join}
-use Rattle.ssh_rules.proofs.side.Fronts.{block_grows}
+use Rattle.ssh_rules.proofs.Lemmas.{payloads_join, block_grows}
 use Rattle.ssh_rules.specs.MessageTypes.{order}
 use Rattle.ssh_rules.specs.Wire.{HasFront, HasForm, ArePadded, InBlocks, IsWire, exchange_block, carried_payloads}
 use Rattle.ssh_record.specs.Recordings.{JudgedRecord, config_in, wire_in}

@@ -8,7 +8,7 @@ use Rattle.ssh_wire.specs.declared.side.Side.{Side}
 use Rattle.ssh_kex.specs.Exchange.{outgoing}
 use Rattle.ssh_kex.specs.declared.config.Config.{Config}
 use Rattle.ssh_kex.specs.declared.exchange.FinishedExchange.{FinishedExchange}
-use Rattle.ssh_rules.proofs.side.Blocks.{block_above, block_behind, block_below, ends_snoc_newkeys, ends_snoc_plain}
+use Rattle.ssh_rules.proofs.Lemmas.{block_above, block_behind, block_below, ends_snoc_newkeys, ends_snoc_plain}
 use Rattle.ssh_rules.specs.MessageTypes.{order}
 use Rattle.ssh_rules.specs.Wire.{ArePadded, HasForm, HasFront, InBlocks, IsWire, carried_payloads, epochs_ended, exchange_block}
 

@@ -2,7 +2,7 @@
 use Rattle.std.proofs.Common.{◌≡◌, ◌⊎◌, inl, inr, ℕ, zero, suc, ◌+◌, ◌<◌, List, [], ◌∷◌, ◌++◌, length, map, slice_get, refl, sym, ◌∙◌, ap, subst, arith, Option, Some, None, Bool, false, length-append}
 use Rattle.ssh_wire.specs.declared.side.Side.{Side}
 use Rattle.ssh_wire.specs.declared.side.Side.TheVariants.{Client, Server}
-use Rattle.ssh_rules.proofs.pair.Whole.{get_front}
+use Rattle.ssh_rules.proofs.Lemmas.{get_front}
 use Rattle.ssh_rules.specs.Marks.{Half, kexinits}
 use Rattle.ssh_rules.specs.Run.{AllMoments, Effect, Effects, HaveCauses, IsMoment, IsRun, Moment, OwnCause, WrittenAt, finished_at_rekey, mark_of, own_of, theirs_of}
 use Rattle.ssh_rules.specs.declared.link.Mark.{Mark}

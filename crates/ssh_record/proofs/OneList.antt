@@ -14,7 +14,7 @@ use Rattle.ssh_kex.specs.declared.config.Config.{Config}
 use Rattle.ssh_kex.specs.declared.exchange.Exchange.{Exchange}
 use Rattle.ssh_kex.specs.declared.exchange.FinishedExchange.{FinishedExchange}
 use Rattle.ssh_kex.specs.declared.exchange.GexChosen.{GexChosen}
-use Rattle.ssh_rules.proofs.side.OneMessage.{client_by, server_by, SameTalk, talk_one}
+use Rattle.ssh_rules.proofs.Lemmas.{client_by, server_by, SameTalk, talk_one}
 use Rattle.ssh_record.specs.Exchanges.{AreExchanges, BlocksHold, HasBlocks, IsNext, ReadsWire, block_messages, client_front, kept_of_values, server_front}
 use Rattle.ssh_record.specs.Recordings.{JudgedRecord}
 use Rattle.ssh_record.proofs.Readings.{entries_one}

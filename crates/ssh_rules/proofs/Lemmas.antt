@@ -3,7 +3,7 @@
 pub use Rattle.ssh_rules.proofs.pair.SameRecords.{makes_one_record}
 pub use Rattle.ssh_rules.proofs.side.Resets.{resets_is}
 pub use Rattle.ssh_rules.proofs.side.Ran.{steps_join, sent_join, read_join, recorded_is}
-pub use Rattle.ssh_rules.proofs.pair.Whole.{handled_more, written_more, recorded_more, whole_is_handled, written_so_far}
+pub use Rattle.ssh_rules.proofs.pair.Whole.{handled_more, written_more, recorded_more, whole_is_handled, written_so_far, get_front}
 pub use Rattle.ssh_rules.proofs.turns.LinkBounded.{causes_more, HaveLimits}
 pub use Rattle.ssh_rules.proofs.marks.Moved.{submitted_more, delivered_more, turn_sent, turn_submitted, on_time}
 pub use Rattle.ssh_rules.proofs.side.Payloads.{delivers, submits}
@@ -59,3 +59,9 @@ pub use Rattle.ssh_rules.proofs.side.Kept.{asking_kept, kept_line, piece_asking_
 pub use Rattle.ssh_rules.proofs.any_bytes.AttackTrace.{Lifts, end_lifted, one_more, trace_lifted}
 pub use Rattle.ssh_rules.proofs.any_bytes.AttackParts.{attack_report}
 pub use Rattle.ssh_rules.proofs.any_bytes.AttackedLinks.{answers_weaker, first_end}
+pub use Rattle.ssh_rules.proofs.pair.Carries.{payloads_join}
+pub use Rattle.ssh_rules.proofs.side.Blocks.{block_above, block_at, block_behind, block_below, block_other, both, ends_false, ends_snoc_newkeys, ends_snoc_plain, ends_true}
+pub use Rattle.ssh_rules.proofs.side.Epochs.{bytes_in, epoch_at, epoch_next}
+pub use Rattle.ssh_rules.proofs.side.Fronts.{block_grows}
+pub use Rattle.ssh_rules.proofs.side.OneMessage.{SameTalk, client_by, server_by, talk_one}
+pub use Rattle.ssh_rules.proofs.side.Tally.{bytes_ended, bytes_grown, kexinits_none, kexinits_one}

@@ -17,3 +17,4 @@ pub mod Asking
 pub mod Brought
 pub mod Hears
 pub mod AskedRuns
+pub mod Lemmas

@@ -10,8 +10,7 @@ use Rattle.ssh_channels.specs.Ends.{IsTooMuch}
 use Rattle.ssh_channels.specs.Conversation.{Talk, opened}
 use Rattle.ssh_channels.specs.Laws.{AreSettings, Reached}
 use Rattle.ssh_channels.specs.Muxes.{Asks, Channel, Mux, On, Packet, Request, Start, TakesAt}
-use Rattle.ssh_channels.proofs.Ending.{all_comes}
-use Rattle.ssh_channels.proofs.Joint.{comes_in_order, fixed, keeps_windows, nothing_refused}
+use Rattle.ssh_channels.proofs.Lemmas.{all_comes, comes_in_order, fixed, keeps_windows, nothing_refused}
 use Rattle.ssh_talks.specs.Talks.{Asked, Came, CameAll, ChannelsCome, ChannelsFlow, FlowsWell, Happens, HappensOn, MuxPair, NoPacketRefused, both_new, for_channel, with_mux}
 use Rattle.ssh_talks.proofs.Packets.{if_false}
 use Rattle.ssh_talks.proofs.Halves.{answering, one_some}

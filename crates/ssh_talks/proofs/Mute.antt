@@ -8,9 +8,7 @@ use Rattle.ssh_channels.specs.Ends.{ArePieces, Call, CallClose, CallEof, Calls, 
 use Rattle.ssh_channels.specs.Conversation.{Moves, OpenerCalls, OpenerHears, OtherCalls, OtherHears, Talk, opened}
 use Rattle.ssh_channels.specs.Laws.{Goes, Reached}
 use Rattle.ssh_channels.specs.Muxes.{Packet, told_number}
-use Rattle.ssh_channels.proofs.Sending.{Each, behind_none, each_more, sent_is}
-use Rattle.ssh_channels.proofs.Ways.{Way, due}
-use Rattle.ssh_channels.proofs.Joint.{Joint, call_heard, joint, joint_first, joint_next}
+use Rattle.ssh_channels.proofs.Lemmas.{Each, behind_none, each_more, sent_is, Way, due, Joint, call_heard, joint, joint_first, joint_next}
 use Rattle.ssh_talks.proofs.Packets.{IsLater}
 
 -- ---- phases

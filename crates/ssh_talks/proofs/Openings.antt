@@ -8,7 +8,7 @@ use Rattle.ssh_channels.specs.declared.end.End.{End}
 use Rattle.ssh_channels.specs.Ends.{Receives, fresh}
 use Rattle.ssh_channels.specs.Conversation.{OtherHears, Talk, opened}
 use Rattle.ssh_channels.specs.Muxes.{Channel, Mux, Packet, addressed}
-use Rattle.ssh_channels.proofs.Sending.{Each, behind_none}
+use Rattle.ssh_channels.proofs.Lemmas.{Each, behind_none}
 use Rattle.ssh_talks.specs.Talks.{Answer, As, NotYet, OtherEnd, Refused, for_channel, is_opening, is_to, opening_of, opens_as}
 use Rattle.ssh_talks.proofs.Packets.{Every, every_more, every_weaker, every_with, for_behind, for_more, get_either, get_near, get_new, if_false, if_true, is_same, many_new, not_same, one_or_two, opening_behind, opening_more}
 use Rattle.ssh_talks.proofs.Halves.{Half, IsAt, IsOpen, IsOpening, IsThere, Opens, TellsNumber, answering, apart, one_some, stays, with_channels}

@@ -4,7 +4,7 @@ use Rattle.std.proofs.lemmas.Bool.{eq-eqb}
 use Rattle.std.proofs.lemmas.Bool.Decides.{eqb_tells}
 use Rattle.ssh_channels.specs.Phases.{Message, Open, Confirmation, Failure, Adjust, Data, Eof, Close}
 use Rattle.ssh_channels.specs.Muxes.{Packet, addressed}
-use Rattle.ssh_channels.proofs.Sending.{Each}
+use Rattle.ssh_channels.proofs.Lemmas.{Each}
 use Rattle.ssh_talks.specs.Talks.{for_channel, is_opening, is_to, opening_of, opens_as}
 
 -- ---- tests

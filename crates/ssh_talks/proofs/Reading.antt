@@ -14,10 +14,7 @@ use Rattle.ssh_channels.specs.Formats.{Fits, PacketFault, packet_of, packet_text
 use Rattle.ssh_channels.specs.Conversation.{Talk, opened}
 use Rattle.ssh_channels.specs.Laws.{AreSettings, Reached}
 use Rattle.ssh_channels.specs.Muxes.{Asks, Channel, Mux, On, Packet, Request, Start, TakesAt, addressed, most_channels, told_number}
-use Rattle.ssh_channels.proofs.FormatLaws.{read_again}
-use Rattle.ssh_channels.proofs.Joint.{fixed, nothing_refused, received_gone}
-use Rattle.ssh_channels.proofs.Sending.{IsTelling}
-use Rattle.ssh_channels.proofs.Ways.{Way, told_by}
+use Rattle.ssh_channels.proofs.Lemmas.{read_again, fixed, nothing_refused, received_gone, IsTelling, Way, told_by}
 use Rattle.ssh_talks.specs.Talks.{Answer, As, Asked, Came, Happens, HappensOn, MuxPair, NoPayloadRefused, PassesPayload, both_new, for_channel, mux_of, way_to, with_mux}
 use Rattle.ssh_talks.proofs.Packets.{Every, every_more, many_new, many_set}
 use Rattle.ssh_talks.proofs.Halves.{Half, IsAt, IsOpen, Opens, answering}

@@ -5,7 +5,7 @@ use Rattle.ssh_channels.specs.Phases.{Message, Confirmation, has_told}
 use Rattle.ssh_channels.specs.Conversation.{Talk, opened}
 use Rattle.ssh_channels.specs.Laws.{Reached}
 use Rattle.ssh_channels.specs.Muxes.{Channel, Mux, Packet, addressed}
-use Rattle.ssh_channels.proofs.Sending.{Each}
+use Rattle.ssh_channels.proofs.Lemmas.{Each}
 use Rattle.ssh_talks.specs.Talks.{Answer, As, NotYet, OtherEnd, Refused, for_channel}
 use Rattle.ssh_talks.proofs.Packets.{Every, IsFor, IsLater, all_for, every_behind, every_more, every_weaker, for_behind, for_front, for_later, get_set, get_set_other, many_set, not_same, one_or_two, opening_behind, opening_front, sent_message}
 use Rattle.ssh_talks.proofs.Halves.{Half, IsAt, IsOpening, IsThere, Opens, TellsNumber, answering, apart, one_some, same_answer, stays, two_answers, with_channels}

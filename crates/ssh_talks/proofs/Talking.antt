@@ -10,8 +10,7 @@ use Rattle.ssh_channels.specs.declared.end.End.{End}
 use Rattle.ssh_channels.specs.Ends.{Call, Calls, Receives, fresh}
 use Rattle.ssh_channels.specs.Conversation.{OpenerCalls, OpenerHears, OtherCalls, OtherHears, Talk, opened}
 use Rattle.ssh_channels.specs.Muxes.{Asks, Channel, Mux, On, Packet, Request, Start, Takes, TakesAt, addressed, told_number}
-use Rattle.ssh_channels.proofs.Ways.{Way, due}
-use Rattle.ssh_channels.proofs.Joint.{Joint, call_heard}
+use Rattle.ssh_channels.proofs.Lemmas.{Way, due, Joint, call_heard}
 use Rattle.ssh_talks.specs.Talks.{Answer, As, Asked, Came, ChannelsAreTalks, Happens, HappensOn, IsOfTalk, IsTalk, MuxPair, NotYet, OtherEnd, Refused, both_new, for_channel, mux_of, opening_of, way_to, with_mux}
 use Rattle.ssh_talks.proofs.Packets.{get_either, get_near, get_new, if_true, is_same, many_new}
 use Rattle.ssh_talks.proofs.Halves.{Half, IsAt, IsOpen, Opens, answering, one_some, with_channels}

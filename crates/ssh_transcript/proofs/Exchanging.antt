@@ -15,8 +15,7 @@ use Rattle.ssh_kex.specs.declared.exchange.FinishedExchange.{FinishedExchange}
 use Rattle.ssh_rules.specs.Headline.{first_hash, keys_for}
 use Rattle.ssh_rules.specs.MessageTypes.{is_kex_type, order, type_of}
 use Rattle.ssh_rules.specs.Wire.{epochs_ended}
-use Rattle.ssh_record.proofs.Growing.{get_more}
-use Rattle.ssh_record.proofs.OneList.{reads_one}
+use Rattle.ssh_record.proofs.Lemmas.{get_more, reads_one}
 use Rattle.ssh_record.specs.Answers.{HaveSecrets, LacksSecret}
 use Rattle.ssh_record.specs.Exchanges.{AreNext, BlocksHold, HasBlocks, IsNext, IsWholeBlock, ReadsWire, block_items, block_messages, epoch_items, from_exchange, kept_of_values}
 use Rattle.std.specs.Option.{IfSome}

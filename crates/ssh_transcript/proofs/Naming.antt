@@ -12,7 +12,7 @@ use Rattle.ssh_kex.specs.declared.config.Config.{Config}
 use Rattle.ssh_rules.specs.Headline.{chosen_by}
 use Rattle.ssh_negotiate.specs.Tables.{shape_of}
 use Rattle.ssh_rules.specs.Valid.{config_fault, first_config_fault}
-use Rattle.ssh_transport.proofs.Kexes.{never_skips}
+use Rattle.ssh_transport.proofs.Lemmas.{never_skips}
 use Rattle.ssh_transcript.specs.Choosing.{ChooseNone, IsKexinitOf, IsSettingOf, TakesNames}
 use Rattle.ssh_transcript.specs.declared.setting.Setting.{Setting}
 

@@ -11,11 +11,10 @@ use Rattle.ssh_wire.specs.declared.side.Side.{Side}
 use Rattle.ssh_kex.specs.Exchange.{outgoing}
 use Rattle.ssh_kex.specs.Messages.{is_gex}
 use Rattle.ssh_kex.specs.declared.exchange.FinishedExchange.{FinishedExchange}
-use Rattle.ssh_rules.proofs.Lemmas.{fault_ends, part_ends}
-use Rattle.ssh_rules.proofs.side.Blocks.{ends_snoc_newkeys, ends_snoc_plain}
+use Rattle.ssh_rules.proofs.Lemmas.{fault_ends, part_ends, ends_snoc_newkeys, ends_snoc_plain}
 use Rattle.ssh_rules.specs.MessageTypes.{type_of}
 use Rattle.ssh_rules.specs.Wire.{ArePadded, epochs_ended}
-use Rattle.ssh_record.proofs.Readings.{reads_less}
+use Rattle.ssh_record.proofs.Lemmas.{reads_less}
 use Rattle.ssh_record.specs.Exchanges.{epoch_items}
 use Rattle.ssh_record.specs.Packets.{host_recorded}
 use Rattle.ssh_record.specs.Recordings.{JudgedRecord, config_in, wire_in}

@@ -8,7 +8,7 @@ use Rattle.ssh_wire.specs.Lines.{id_line}
 use Rattle.ssh_wire.specs.declared.side.Side.{Side}
 use Rattle.ssh_kex.specs.declared.exchange.FinishedExchange.{FinishedExchange}
 use Rattle.ssh_rules.specs.Wire.{ArePadded}
-use Rattle.ssh_record.proofs.Readings.{reads_fronts, reads_less}
+use Rattle.ssh_record.proofs.Lemmas.{reads_fronts, reads_less}
 use Rattle.ssh_record.specs.Packets.{AreGoodPackets, EndsGood, IsBadBehind, IsWireOf}
 use Rattle.ssh_record.specs.Recordings.{JudgedRecord, config_in, wire_in}
 use Rattle.ssh_transcript.specs.Reading.{AreGoodSoFar, AreJudged, FitsIn, HasEnded, IsFed, IsFirstBad, IsKeptWire, IsOver, IsRead, first_of}

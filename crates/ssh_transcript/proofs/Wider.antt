@@ -7,7 +7,7 @@ use Rattle.ssh_wire.specs.Lines.{id_line}
 use Rattle.ssh_wire.specs.declared.side.Side.{Side}
 use Rattle.ssh_kex.specs.declared.exchange.FinishedExchange.{FinishedExchange}
 use Rattle.ssh_rules.specs.Wire.{ArePadded}
-use Rattle.ssh_record.proofs.Readings.{AreWider, Begins, Wider, begins_outgoing, padded_wider, reads_wider}
+use Rattle.ssh_record.proofs.Lemmas.{AreWider, Begins, Wider, begins_outgoing, padded_wider, reads_wider}
 use Rattle.ssh_record.specs.Recordings.{JudgedRecord, config_in}
 use Rattle.ssh_blocks.specs.declared.judge.PacketJudge.{PacketJudge}
 use Rattle.ssh_transcript.specs.Reading.{AreJudged, AreKept, HasRead, first_of}

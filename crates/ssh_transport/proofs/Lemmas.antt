@@ -5,3 +5,4 @@ pub use Rattle.ssh_transport.proofs.Parts.{agreement_same, agreement_after, host
 pub use Rattle.ssh_transport.proofs.Weaker.{Weaker, kept_weaker, steps_weaker}
 pub use Rattle.ssh_transport.proofs.Denying.{Denying, asking_still, input_still, kept_denying, kept_untrusting, piece_still, rekeyed_still, submitted_still}
 pub use Rattle.ssh_transport.proofs.Taking.{input_more, silent_more}
+pub use Rattle.ssh_transport.proofs.Kexes.{never_skips}

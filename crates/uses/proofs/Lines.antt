@@ -5,9 +5,7 @@ use Rattle.ssh_wire.specs.Lines as lines
 use Rattle.ssh_wire.specs.Lines.{IdFound, IdLine, Line, OtherLine, TooLong, Unfinished, found_behind, id_of, is_id_text, line_end, line_of, line_text, line_to, longest_line}
 use Rattle.ssh_wire.specs.Reading.{IdReading, Waiting, Heard, Failed, reading_left, still_allowed}
 use Rattle.ssh_wire.specs.declared.side.Side.{Side}
-use Rattle.ssh_wire.proofs.Cuts.{behind_not, decided_stays}
-use Rattle.ssh_wire.proofs.LineByLine.{end_of_id, end_of_other, id_of_line, left_other, left_unfinished, next}
-use Rattle.ssh_wire.proofs.LineLaws.{line_end-stays, line_end-within}
+use Rattle.ssh_wire.proofs.Lemmas.{behind_not, decided_stays, end_of_id, end_of_other, id_of_line, left_other, left_unfinished, next, line_end-stays, line_end-within}
 use Rattle.ssh_rules.specs.Machine.{Event}
 use Rattle.ssh_rules.specs.Standing.{HearsFrom, ReadsLineFrom, lets_pass, line_with, waiting_with}
 use Rattle.ssh_transport.proofs.Lemmas.{silent_more}

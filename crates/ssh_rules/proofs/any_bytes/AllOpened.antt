@@ -8,7 +8,7 @@ use Rattle.ssh_packet.proofs.Lemmas.{front_sound, length_sealed}
 use Rattle.ssh_wire.specs.Forms.{AreBytes}
 use Rattle.ssh_wire.specs.Sides.{other_side}
 use Rattle.ssh_wire.specs.declared.side.Side.{Side}
-use Rattle.ssh_wire.proofs.FieldLaws.{AreBytes-drop}
+use Rattle.ssh_wire.proofs.Lemmas.{AreBytes-drop}
 use Rattle.ssh_kex.specs.Exchange.{outgoing}
 use Rattle.ssh_kex.specs.Setting.{Says}
 use Rattle.ssh_kex.specs.declared.config.Config.{Config}

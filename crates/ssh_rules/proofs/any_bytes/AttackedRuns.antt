@@ -1,7 +1,7 @@
 -- An attacked run of one side, step by step: how it stands at the end, and why each step was answered so.
 use Rattle.std.proofs.Common.{◌≡◌, ℕ, ◌+◌, List, [], ◌∷◌, ◌++◌, length, refl, sym, ◌∙◌, ap, subst, arith, Bool, true, false, not, Option, Some, None, if◌then◌else◌, ◌&&◌, append-nil, append_assoc, length-append}
 use Rattle.std.specs.Prelude.{Result, Ok, Err}
-use Rattle.ssh_aes.proofs.Inverses.{AreOctets-append}
+use Rattle.ssh_aes.proofs.Lemmas.{AreOctets-append}
 use Rattle.ssh_packet.specs.Sealing.{Item}
 use Rattle.ssh_packet.specs.Stream.{message_type}
 use Rattle.ssh_wire.specs.Forms.{AreBytes}

@@ -11,9 +11,7 @@ use Rattle.ssh_wire.specs.declared.read_id.IdProgress.{IdProgress}
 use Rattle.ssh_wire.specs.declared.read_id.IdProgress.TheVariants as progress
 use Rattle.ssh_wire.specs.declared.side.Side.{Side}
 use Rattle.ssh_wire.specs.declared.side.Side.TheVariants.{Client, Server}
-use Rattle.ssh_wire.proofs.Cuts.{decided_stays, from_left, beyond}
-use Rattle.ssh_wire.proofs.LineByLine.{next, id_of_line, end_of_other, end_of_id, left_other, left_unfinished}
-use Rattle.ssh_wire.proofs.LineLaws.{line_end-within}
+use Rattle.ssh_wire.proofs.Lemmas.{decided_stays, from_left, beyond, next, id_of_line, end_of_other, end_of_id, left_other, left_unfinished, line_end-within}
 use Rattle.ssh_rules.specs.Handled.{heard_in, id_text_in, packets_in}
 use Rattle.ssh_kex.specs.Setting.{Says}
 use Rattle.ssh_kex.specs.declared.config.Config.{Config}

@@ -9,7 +9,7 @@ use Rattle.ssh_wire.specs.declared.error.Error.{Error}
 use Rattle.ssh_wire.specs.declared.error.Error.TheVariants as errors
 use Rattle.ssh_wire.specs.declared.side.Side.{Side}
 use Rattle.ssh_wire.specs.declared.side.Side.TheVariants.{Client, Server}
-use Rattle.ssh_wire.proofs.FieldLaws.{AreBytes-drop}
+use Rattle.ssh_wire.proofs.Lemmas.{AreBytes-drop}
 use Rattle.ssh_wire.specs.Forms.{AreBytes}
 use Rattle.ssh_kex.specs.Refusals.{Denies, RefusesMessage}
 use Rattle.ssh_kex.specs.Setting.{Says, Setting}

@@ -1,7 +1,7 @@
 use Rattle.std.proofs.Common.{◌≡◌}
 use Rattle.ssh_script.specs.RunScript.{all_named}
 use Rattle.ssh_lines.specs.Lines.{pieces}
-use Rattle.ssh_lines.proofs.LinesLeft.{size_left}
+use Rattle.ssh_lines.proofs.Lemmas.{size_left}
 use Rattle.ssh_script.proofs.Judging.{onto_names, names_left}
 use Rattle.ssh_script.proofs.name_lists.all_named.Given as goal
 

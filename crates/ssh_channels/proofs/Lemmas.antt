@@ -1,0 +1,7 @@
+-- What crates above cite: one direction of a channel, what it keeps at each move, what is sent, how it comes to its
+-- end, and that written messages are read again. Declares nothing.
+pub use Rattle.ssh_channels.proofs.Ways.{Way, due, told_by}
+pub use Rattle.ssh_channels.proofs.Joint.{Joint, fixed, joint, joint_first, joint_next, call_heard, received_gone, keeps_windows, comes_in_order, nothing_refused}
+pub use Rattle.ssh_channels.proofs.Sending.{Each, IsTelling, behind_none, each_more, sent_is}
+pub use Rattle.ssh_channels.proofs.FormatLaws.{read_again}
+pub use Rattle.ssh_channels.proofs.Ending.{all_comes}
