@@ -79,7 +79,7 @@ choice_text text (Err fault) = None
 abbrev pub OneChoice : {A B : Type 0} → (A → List ℕ) → (B → List ℕ) → Type 0
 OneChoice {A} {B} client_text server_text = (kind : AlgorithmKind) (client : List A) (server : List B) →
     choice_text client_text (select client_text Client kind client (map server_text server))
-        ≡ choice_text server_text (select server_text Server kind server (map client_text client))
+    ≡ choice_text server_text (select server_text Server kind server (map client_text client))
 
 -- no guess is marked as dropped, and what was strict stays strict
 pub record KeepsFlags (still : Bool) (n : Names) : Type 0 where
