@@ -5,15 +5,13 @@
 # Where valgrind is installed, it also prints how many instructions ssh_aes runs for each byte of 1 MiB, less
 # what a run of no message takes. Needs rt (once, to build crates/speed_aes), openssl and python3.
 set -eu
-case ${1:-} in
-'') ;;
---help) sed -n '2,/^[^#]/s/^# \{0,1\}//p' "$0"; exit ;;
-*) echo "$0 takes no words: $*" >&2; exit 2 ;;
-esac
-cd "$(dirname "$0")/.."
-[ -x crates/speed_aes/out/speed_aes ] || (cd crates/speed_aes && rt run -- ctr 1 >/dev/null 2>&1)
+# shellcheck source=bench/begin.sh
+. "$(dirname "$0")/begin.sh"
+build speed_aes
 python3 - crates/speed_aes/out/speed_aes <<'PYTHON'
-import os, re, shutil, subprocess, sys, time
+import os, re, subprocess, sys, time
+
+from measuring import instructions, shown
 
 program = sys.argv[1]
 plain = dict(os.environ, OPENSSL_ia32cap="~0x200000200000000")
@@ -39,20 +37,13 @@ def openssl(mode):
     return 1000 * float(re.search(r"([0-9.]+)k\s*$", written).group(1))
 
 
-def collected(mode, count):
-    words = ["valgrind", "--tool=callgrind", "--callgrind-out-file=/dev/null", program, mode, str(count)]
-    written = subprocess.run(words, capture_output=True, text=True, check=True).stderr
-    return int(re.search(r"Collected : (\d+)", written).group(1))
-
-
-def instructions(mode):
+def each(mode):
     """Instructions for each byte of 1 MiB, less what a run of no message takes."""
-    if shutil.which("valgrind") is None:
-        return "-"
-    return f"{(collected(mode, 32) - collected(mode, 0)) / (32 * 32768):.1f}"
+    counted, none = (instructions([program, mode, count]) for count in (32, 0))
+    return None if counted is None else (counted - none) / (32 * 32768)
 
 
 print(f"{'mode':6}{'ssh_aes':>16}{'openssl':>16}   bytes per second{'':6}instructions a byte")
 for mode in ("ctr", "cbc", "gcm"):
-    print(f"{mode:6}{speed(mode):16,.0f}{openssl(mode):16,.0f}{instructions(mode):>44}")
+    print(f"{mode:6}{speed(mode):16,.0f}{openssl(mode):16,.0f}{shown(each(mode)):>44}")
 PYTHON

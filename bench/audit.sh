@@ -8,17 +8,13 @@
 # measured by the same script with configurations that have no names in common. Needs rt (once, to build crates/sshlink,
 # crates/sshaudit and crates/speed_packets) and python3.
 set -eu
-case ${1:-} in
-'') ;;
---help) sed -n '2,/^[^#]/s/^# \{0,1\}//p' "$0"; exit ;;
-*) echo "$0 takes no words: $*" >&2; exit 2 ;;
-esac
-cd "$(dirname "$0")/.."
-for program in sshlink sshaudit speed_packets; do
-  [ -x "crates/$program/out/$program" ] || (cd "crates/$program" && rt run >/dev/null 2>&1)
-done
+# shellcheck source=bench/begin.sh
+. "$(dirname "$0")/begin.sh"
+build sshlink sshaudit speed_packets
 python3 - crates/sshlink/out/sshlink crates/sshaudit/out/sshaudit crates/speed_packets/out/speed_packets <<'PYTHON'
-import os, pathlib, shutil, subprocess, sys, tempfile
+import pathlib, subprocess, sys, tempfile
+
+from measuring import instructions, least, shown
 
 sshlink, sshaudit, packets = sys.argv[1:]
 LENGTH = 32768
@@ -41,29 +37,11 @@ def record(room, kind, count):
 
 
 def measured(made):
-    """Seconds, and the peak of memory in bytes; the least of three audits, each of which has to answer yes."""
-    best = None
-    for _ in range(3):
-        with made.open() as given, tempfile.TemporaryFile() as written:
-            child = subprocess.Popen([sshaudit, "audit"], stdin=given, stdout=written)
-            _, status, usage = os.wait4(child.pid, 0)
-            seconds = usage.ru_utime + usage.ru_stime
-            written.seek(0)
-            if status or written.read(4) != b"yes\n":
-                sys.exit("the record isn't accepted")
-        if best is None or seconds < best[0]:
-            best = seconds, usage.ru_maxrss * 1024
-    return best
-
-
-def instructions(words, given=None):
-    """How many are carried out, counted by valgrind; nothing where it isn't there."""
-    if not shutil.which("valgrind"):
-        return None
-    call = ["valgrind", "--tool=callgrind", "--callgrind-out-file=/dev/null", *map(str, words)]
-    with open(given or os.devnull) as source:
-        counted = subprocess.run(call, stdin=source, capture_output=True, text=True).stderr
-    return int(next(line for line in counted.splitlines() if "Collected" in line).split()[-1])
+    """Seconds, and the peak of memory in bytes. The audit has to answer yes."""
+    written, seconds, peak = least([sshaudit, "audit"], made)
+    if not written.startswith(b"yes\n"):
+        sys.exit("the record isn't accepted")
+    return seconds, peak
 
 
 def reading(made, kind):
@@ -80,10 +58,6 @@ def opening(kind):
     """Instructions for a byte of payload to open packets: what opening and sealing takes over sealing alone."""
     counts = [instructions([packets, *kind, how, LENGTH, 32]) for how in ("open", "seal")]
     return None if None in counts else (counts[0] - counts[1]) / (LENGTH * 32)
-
-
-def shown(number, form=".1f"):
-    return "-" if number is None else format(number, form)
 
 
 print(f"{'cipher and MAC':48}{'wire bytes':>11}{'seconds':>9}{'ns a byte':>10}{'growth':>8}{'peak a byte':>12}{'instructions':>13}{'reading':>9}{'opening':>9}{'rest':>7}")

@@ -7,17 +7,13 @@
 # Scripts and reports are hexadecimal digits, and reading and writing these is in the numbers. Needs rt (once, to build
 # crates/sshlink and crates/sshmux) and python3.
 set -eu
-case ${1:-} in
-'') ;;
---help) sed -n '2,/^[^#]/s/^# \{0,1\}//p' "$0"; exit ;;
-*) echo "$0 takes no words: $*" >&2; exit 2 ;;
-esac
-cd "$(dirname "$0")/.."
-for program in sshlink sshmux; do
-  [ -x "crates/$program/out/$program" ] || (cd "crates/$program" && rt run >/dev/null 2>&1)
-done
+# shellcheck source=bench/begin.sh
+. "$(dirname "$0")/begin.sh"
+build sshlink sshmux
 python3 - crates/sshlink/out/sshlink crates/sshmux/out/sshmux <<'PYTHON'
-import os, pathlib, shutil, subprocess, sys, tempfile
+import pathlib, sys, tempfile
+
+from measuring import instructions, least, shown
 
 sshlink, sshmux = sys.argv[1:]
 LARGEST = 32768
@@ -49,35 +45,6 @@ def link_script(file, total):
     file.write_text("\n".join([*[f"submit client {payload}"] * (total // LARGEST), "settle", ""]))
 
 
-def measured(words, script):
-    """Seconds, and the peak of memory in bytes: the least of three runs."""
-    best = None
-    for _ in range(3):
-        with script.open() as given:
-            child = subprocess.Popen(words, stdin=given, stdout=subprocess.DEVNULL)
-            _, status, usage = os.wait4(child.pid, 0)
-            seconds = usage.ru_utime + usage.ru_stime
-        if status:
-            sys.exit(f"{words} ended with {status}")
-        if best is None or seconds < best[0]:
-            best = seconds, usage.ru_maxrss * 1024
-    return best
-
-
-def instructions(words, script):
-    """How many are carried out, counted by valgrind; nothing where it isn't there."""
-    if not shutil.which("valgrind"):
-        return None
-    call = ["valgrind", "--tool=callgrind", "--callgrind-out-file=/dev/null", *words]
-    with script.open() as given:
-        counted = subprocess.run(call, stdin=given, stdout=subprocess.DEVNULL, stderr=subprocess.PIPE, text=True).stderr
-    return int(next(line for line in counted.splitlines() if "Collected" in line).split()[-1])
-
-
-def shown(number, form=".1f"):
-    return "-" if number is None else format(number, form)
-
-
 print(f"{'channels':>8}{'window':>9}{'bytes':>10}{'seconds':>9}{'ns a byte':>10}{'growth':>8}{'peak a byte':>12}{'instructions':>13}{'link':>7}{'rest':>7}")
 with tempfile.TemporaryDirectory() as room:
     script = pathlib.Path(room) / "script"
@@ -89,7 +56,7 @@ with tempfile.TemporaryDirectory() as room:
             before = None
             for total in (MEGABYTE, 4 * MEGABYTE, 16 * MEGABYTE):
                 written = channels_script(script, total, channels, window)
-                seconds, peak = measured([sshmux, "channels"], script)
+                _, seconds, peak = least([sshmux, "channels"], script)
                 counted = instructions([sshmux, "channels"], script) if total == MEGABYTE else None
                 each = None if counted is None else counted / written
                 rest = None if each is None or link is None else each - link

@@ -1,17 +1,15 @@
 #!/usr/bin/env bash
 # Usage: bench/clear.sh
 # Makes scripts of 1, 4, 16 and 64 MB (the last just under the limit of 67108864 bytes), runs `sshlink clear`
-# on each, and prints bytes, seconds, peak memory and what each is for a byte of script. Needs python3.
+# on each, and prints bytes, seconds of processor time, peak memory and what each is for a byte of script. Needs python3.
 set -eu
-case ${1:-} in
-'') ;;
---help) sed -n '2,/^[^#]/s/^# \{0,1\}//p' "$0"; exit ;;
-*) echo "$0 takes no words: $*" >&2; exit 2 ;;
-esac
-cd "$(dirname "$0")/.."
+# shellcheck source=bench/begin.sh
+. "$(dirname "$0")/begin.sh"
 [ -x crates/sshlink/out/sshlink ] || ./sshlink --prove
 python3 - crates/sshlink/out/sshlink <<'PYTHON'
-import os, random, sys, tempfile, time
+import random, sys, tempfile
+
+from measuring import least
 
 MEGABYTE = 1 << 20
 
@@ -31,26 +29,11 @@ def lines(size):
     yield "#" * (left - 1) + "\n" if left else ""
 
 
-def measured(program, script):
-    """Seconds, and the peak of memory in bytes."""
-    with open(script) as source, open(os.devnull, "w") as sink:
-        start = time.monotonic()
-        child = os.fork()
-        if child == 0:
-            os.dup2(source.fileno(), 0)
-            os.dup2(sink.fileno(), 1)
-            os.execv(program, [program, "clear"])
-        _, status, usage = os.wait4(child, 0)
-        if status:
-            sys.exit(f"status {status}")
-        return time.monotonic() - start, usage.ru_maxrss * 1024
-
-
 print(f"{'bytes':>10} {'seconds':>8} {'ns a byte':>10} {'peak bytes':>11} {'peak a byte':>12}")
 for size in [MEGABYTE, 4 * MEGABYTE, 16 * MEGABYTE, 64 * MEGABYTE - 1]:
     with tempfile.NamedTemporaryFile("w") as script:
         script.writelines(lines(size))
         script.flush()
-        seconds, peak = min(measured(sys.argv[1], script.name) for _ in range(3))
+        _, seconds, peak = least([sys.argv[1], "clear"], script.name)
     print(f"{size:>10} {seconds:>8.3f} {seconds / size * 1e9:>10.1f} {peak:>11} {peak / size:>12.2f}")
 PYTHON

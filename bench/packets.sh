@@ -7,15 +7,13 @@
 # and opening run for each byte of 1 MiB, less what a run of no packet takes. Needs rt (once, to build
 # crates/speed_packets), openssl and python3.
 set -eu
-case ${1:-} in
-'') ;;
---help) sed -n '2,/^[^#]/s/^# \{0,1\}//p' "$0"; exit ;;
-*) echo "$0 takes no words: $*" >&2; exit 2 ;;
-esac
-cd "$(dirname "$0")/.."
-[ -x crates/speed_packets/out/speed_packets ] || (cd crates/speed_packets && rt run >/dev/null 2>&1)
+# shellcheck source=bench/begin.sh
+. "$(dirname "$0")/begin.sh"
+build speed_packets
 python3 - crates/speed_packets/out/speed_packets <<'PYTHON'
-import functools, os, re, shutil, subprocess, sys, time
+import functools, os, re, subprocess, sys, time
+
+from measuring import instructions, shown
 
 program = sys.argv[1]
 plain = dict(os.environ, OPENSSL_ia32cap="~0x200000200000000")
@@ -67,22 +65,13 @@ def openssl(kind, length):
     return f"{1 / total:,.0f}"
 
 
-def collected(kind, how, length, count):
-    words = ["valgrind", "--tool=callgrind", "--callgrind-out-file=/dev/null"]
-    words += [program, *kind, how, str(length), str(count)]
-    written = subprocess.run(words, capture_output=True, text=True, check=True).stderr
-    return int(re.search(r"Collected : (\d+)", written).group(1))
-
-
-def instructions(kind, length):
+def each(kind, length):
     """Instructions for each byte of 1 MiB, sealed and opened."""
-    if shutil.which("valgrind") is None:
-        return "-", "-"
     count = 2**20 // length
-    none = collected(kind, "seal", length, 0)
-    sealing = collected(kind, "seal", length, count)
-    both = collected(kind, "open", length, count)
-    return f"{(sealing - none) / 2**20:.1f}", f"{(both - sealing) / 2**20:.1f}"
+    none, sealing, both = (
+        instructions([program, *kind, *words]) for words in (("seal", length, 0), ("seal", length, count), ("open", length, count))
+    )
+    return (None, None) if none is None else ((sealing - none) / 2**20, (both - sealing) / 2**20)
 
 
 print(f"{'':52}{'bytes per second':>46}{'instructions a byte':>22}")
@@ -90,9 +79,9 @@ print(f"{'cipher and MAC':46}{'bytes':>6}{'sealed':>16}{'opened':>16}{'openssl':
 for kind in kinds:
     for length in (64, 32768):
         sealed, opened = speeds(kind, length)
-        run = instructions(kind, length)
+        run = each(kind, length)
         print(
             f"{' '.join(kind):46}{length:6}{sealed:16,.0f}{opened:16,.0f}{openssl(kind, length):>14}"
-            f"{run[0]:>11}{run[1]:>11}"
+            f"{shown(run[0]):>11}{shown(run[1]):>11}"
         )
 PYTHON

@@ -4,13 +4,9 @@
 # BN_mod_exp, and by Python's pow. Prints the milliseconds of processor time that one power takes, making the modulus
 # included. Needs rt (once, to build crates/speed_power), OpenSSL's library and python3.
 set -eu
-case ${1:-} in
-'') ;;
---help) sed -n '2,/^[^#]/s/^# \{0,1\}//p' "$0"; exit ;;
-*) echo "$0 takes no words: $*" >&2; exit 2 ;;
-esac
-cd "$(dirname "$0")/.."
-[ -x crates/speed_power/out/speed_power ] || (cd crates/speed_power && rt run -- 128 1 >/dev/null 2>&1)
+# shellcheck source=bench/begin.sh
+. "$(dirname "$0")/begin.sh"
+build speed_power
 python3 - crates/speed_power/out/speed_power <<'PYTHON'
 import ctypes, ctypes.util, resource, subprocess, sys, time
 

@@ -3,12 +3,8 @@
 # Runs examples/clear.txt 200 times by ./sshlink and 200 times by the program itself, and prints the milliseconds of a call
 # of each. Needs the proved program (./sshlink --prove).
 set -eu
-case ${1:-} in
-'') ;;
---help) sed -n '2,/^[^#]/s/^# \{0,1\}//p' "$0"; exit ;;
-*) echo "$0 takes no words: $*" >&2; exit 2 ;;
-esac
-cd "$(dirname "$0")/.."
+# shellcheck source=bench/begin.sh
+. "$(dirname "$0")/begin.sh"
 program=crates/sshlink/out/sshlink
 [ -x "$program" ] || ./sshlink --prove
 
