@@ -11,4 +11,5 @@ pub mod Asking
 pub mod Pumping
 pub mod Example
 pub mod Muxing
+pub mod Receiving
 pub mod Lemmas

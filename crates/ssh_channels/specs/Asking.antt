@@ -142,3 +142,19 @@ pub record TakesPacket (p : Packet) (old new : MuxState) : Type 0 where
 -- a payload that isn't refused
 abbrev pub TakesPayload : List ℕ → (old new : MuxState) → Type 0
 TakesPayload payload old new = (p : Packet) × (packet_of payload ≡ Ok p) × TakesPacket p old new
+
+-- payloads that came, in their order
+abbrev pub ReceivesAll : List (List ℕ) → (old new : MuxState) → Type 0
+ReceivesAll [] old new = new ≡ old
+ReceivesAll (payload ∷ payloads) old new = (mid : MuxState) × TakesPayload payload old mid × ReceivesAll payloads mid new
+
+-- A side receives some payloads, and refuses the next one.
+pub record RefusesOneOf (payloads : List (List ℕ)) (old : MuxState) (fault : MuxFault) : Type 0 where
+  pub done : List (List ℕ)
+  pub payload : List ℕ
+  pub rest : List (List ℕ)
+  pub mid : MuxState
+  pub all : payloads ≡ done ++ payload ∷ rest
+  pub takes : ReceivesAll done old mid
+  pub new : MuxState
+  pub refused : IsRefused (payload_fault payload mid.side) fault (new ≡ mid)

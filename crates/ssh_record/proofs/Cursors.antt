@@ -1,7 +1,7 @@
 -- How many packets of a good wire lie whole in its first bytes: what a cursor counts.
 use Rattle.std.proofs.Common.{◌≡◌, ℕ, zero, suc, ◌-◌, ◌<◌, ◌≤◌, List, [], ◌∷◌, ◌++◌, length, take, drop, map, refl, sym, ◌∙◌, ap, subst, arith, append_assoc, length-append, Option, Some, None}
 use Rattle.std.proofs.Math.Seq.{drop-append_seam}
-use Rattle.std.proofs.lemmas.List.{take-append-drop}
+use Rattle.std.proofs.lemmas.List.{drop_all, take-append-drop}
 use Rattle.ssh_packet.proofs.Lemmas.{one_packet, length_sealed}
 use Rattle.ssh_packet.specs.Sealing.{Item, IsAdmissible}
 use Rattle.ssh_packet.specs.Stream.{Place, first_place, Reads, IsEnd, place_after, place_behind, packet_at}
@@ -80,12 +80,6 @@ cursor_whole side config xs wire packets items c n e h l s =
     (r.0, record { reads = subst (λ b. Reads (Some (first_place (map (outgoing side) xs))) (take c items) b r.0) (sym (drop_line (id_line config.id) packets wire n e l)) r.1; no_more = r.2 })
 
 -- before the id line is whole nothing is
-drop_all : (k : ℕ) (xs : List ℕ) → length xs ≤ k → drop k xs ≡ []
-drop_all zero [] l = refl
-drop_all zero (x ∷ xs) l = absurd (omega (arith, l))
-drop_all (suc k) [] l = refl
-drop_all (suc k) (x ∷ xs) l = drop_all k xs (omega (arith, l))
-
 none_at : (p : Place) (i : Item) (more : List ℕ) → [] ≡ packet_at p i ++ more → ⊥
 none_at p i more e = omega (arith, ap length e, length-append (packet_at p i) more, length_sealed p.sealing p.number i)
 

@@ -1,5 +1,5 @@
 -- A channel is opened, and the opening is answered: what this does to the channels of both sides.
-use Rattle.std.proofs.Common.{◌≡◌, ℕ, ◌<◌, ◌≤◌, ◌==◌, ◌&&◌, Bool, true, false, if◌then◌else◌, List, [], ◌∷◌, ◌++◌, length, slice_get, Option, Some, None, ◌⊎◌, inl, inr, refl, sym, ap, ◌∙◌, subst, arith}
+use Rattle.std.proofs.Common.{◌≡◌, ℕ, ◌<◌, ◌≤◌, ◌==◌, ◌&&◌, Bool, true, false, if◌then◌else◌, List, [], ◌∷◌, ◌++◌, length, slice_get, Option, Some, None, ◌⊎◌, inl, inr, refl, sym, ap, ◌∙◌, subst, arith, append-nil}
 use Rattle.std.proofs.lemmas.Option.{slice_get_within}
 use Rattle.ssh_channels.specs.Phases.{Message, Open, Confirmation, Failure, Adjust, Data, Eof, Close, behind, has_told}
 use Rattle.ssh_channels.specs.declared.end.Phase.{Phase}
@@ -13,10 +13,6 @@ use Rattle.ssh_talks.specs.Talks.{Answer, As, NotYet, OtherEnd, Refused, for_cha
 use Rattle.ssh_talks.proofs.Packets.{Every, every_more, every_weaker, every_with, for_behind, for_more, get_either, get_near, get_new, if_false, if_true, is_same, many_new, not_same, one_or_two, opening_behind, opening_more}
 use Rattle.ssh_talks.proofs.Halves.{Half, IsAt, IsOpen, IsOpening, IsThere, Opens, TellsNumber, answering, apart, one_some, stays, with_channels}
 use Rattle.ssh_talks.proofs.Mute.{joint_is, reached_more, unheard_by}
-
-append_none : {A : Type 0} (xs : List A) → xs ++ [] ≡ xs
-append_none [] = refl
-append_none (x ∷ xs) = ap (λ l. x ∷ l) (append_none xs)
 
 -- ---- what is on the way to a number that no channel has
 
@@ -72,8 +68,8 @@ start_own a b to_b to_a answers h = record {
     | inl was ↦
         let far : length a.channels ≡ m → ⊥ = (λ e. let l = slice_get_within a.channels m x was in omega (arith, e, l)) in
         stays a b to_b to_a (to_b ++ opening ∷ []) to_a (a.channels ++ started_channel a ∷ []) b.channels (answers m) m x (h.each m x was started)
-        refl (opening_more m to_b (opening ∷ []) ∙ (ap (λ l. opening_of m to_b ++ l) (if_false (length a.channels == m) (opening.message ∷ []) [] (not_same (length a.channels) m far)) ∙ append_none (opening_of m to_b)))
-        (λ k f. (refl, for_more k to_b (opening ∷ []) ∙ append_none (for_channel k to_b)))
+        refl (opening_more m to_b (opening ∷ []) ∙ (ap (λ l. opening_of m to_b ++ l) (if_false (length a.channels == m) (opening.message ∷ []) [] (not_same (length a.channels) m far)) ∙ append-nil (opening_of m to_b)))
+        (λ k f. (refl, for_more k to_b (opening ∷ []) ∙ append-nil (for_channel k to_b)))
     | inr e ↦
         let n : ℕ = length a.channels in
         let not_yet : answers n ≡ NotYet = h.later n (omega arith) in
@@ -110,7 +106,7 @@ start_cross a b to_b to_a answers h = record {
   each = λ m x there started.
       let o = h.each m x there started in
       stays a b to_b to_a to_b (to_a ++ opening ∷ []) a.channels (b.channels ++ started_channel b ∷ []) (answers m) m x o
-      (for_more m to_a (opening ∷ []) ∙ append_none (for_channel m to_a)) refl
+      (for_more m to_a (opening ∷ []) ∙ append-nil (for_channel m to_a)) refl
       (λ k f. let u = answering m k b to_b (answers m) o.talk o.other_is f in (get_near b.channels k u.0 (started_channel b) u.1 ∙ sym u.1, refl));
   later = h.later;
   accepted = λ k d there kind. elim (get_either b.channels (started_channel b) k d there) [

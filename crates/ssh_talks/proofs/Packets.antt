@@ -1,5 +1,5 @@
 -- Lists of packets: whom they are for, and lists of channels of which one is another.
-use Rattle.std.proofs.Common.{◌≡◌, ℕ, zero, suc, ◌==◌, ◌&&◌, Bool, true, false, if◌then◌else◌, List, [], ◌∷◌, ◌++◌, length, map, slice_get, slice_set, Some, None, ◌⊎◌, inl, inr, refl, sym, ap, ◌∙◌}
+use Rattle.std.proofs.Common.{◌≡◌, ℕ, zero, suc, ◌==◌, ◌&&◌, Bool, true, false, if◌then◌else◌, List, [], ◌∷◌, ◌++◌, length, map, slice_get, slice_set, Some, None, ◌⊎◌, inl, inr, refl, sym, ap, ◌∙◌, append-nil}
 use Rattle.std.proofs.lemmas.Bool.{eq-eqb}
 use Rattle.std.proofs.lemmas.Bool.Decides.{eqb_tells}
 use Rattle.ssh_channels.specs.Phases.{Message, Open, Confirmation, Failure, Adjust, Data, Eof, Close}
@@ -128,22 +128,18 @@ for_own own peer (m ∷ ms) h =
     if_true (is_to peer (addressed own peer m).to) ((addressed own peer m).message ∷ for_channel peer (map (addressed own peer) ms)) (for_channel peer (map (addressed own peer) ms)) (ap (is_to peer) (sent_to own peer m h.0) ∙ is_same peer peer refl)
     ∙ (ap (λ x. x ∷ for_channel peer (map (addressed own peer) ms)) (sent_message own peer m) ∙ ap (λ l. m ∷ l) (for_own own peer ms h.1))
 
-append_none : {A : Type 0} (xs : List A) → xs ++ [] ≡ xs
-append_none [] = refl
-append_none (x ∷ xs) = ap (λ l. x ∷ l) (append_none xs)
-
 pub for_none : (n m : ℕ) (packets : List Packet) → Every (IsFor n) packets → (n == m) ≡ false → for_channel m packets ≡ []
-for_none n m packets h e = ap (for_channel m) (sym (append_none packets)) ∙ for_front n m packets [] h e
+for_none n m packets h e = ap (for_channel m) (sym (append-nil packets)) ∙ for_front n m packets [] h e
 
 pub opening_none : (n m : ℕ) (packets : List Packet) → Every (IsFor n) packets → opening_of m packets ≡ []
-opening_none n m packets h = ap (opening_of m) (sym (append_none packets)) ∙ opening_front n m packets [] h
+opening_none n m packets h = ap (opening_of m) (sym (append-nil packets)) ∙ opening_front n m packets [] h
 
 -- behind what is on the way, they change nothing for another channel, and open none
 pub for_behind : (n m : ℕ) (way packets : List Packet) → Every (IsFor n) packets → (n == m) ≡ false → for_channel m (way ++ packets) ≡ for_channel m way
-for_behind n m way packets h e = for_more m way packets ∙ (ap (λ l. for_channel m way ++ l) (for_none n m packets h e) ∙ append_none (for_channel m way))
+for_behind n m way packets h e = for_more m way packets ∙ (ap (λ l. for_channel m way ++ l) (for_none n m packets h e) ∙ append-nil (for_channel m way))
 
 pub opening_behind : (n m : ℕ) (way packets : List Packet) → Every (IsFor n) packets → opening_of m (way ++ packets) ≡ opening_of m way
-opening_behind n m way packets h = opening_more m way packets ∙ (ap (λ l. opening_of m way ++ l) (opening_none n m packets h) ∙ append_none (opening_of m way))
+opening_behind n m way packets h = opening_more m way packets ∙ (ap (λ l. opening_of m way ++ l) (opening_none n m packets h) ∙ append-nil (opening_of m way))
 
 pub for_later : (own peer : ℕ) (way : List Packet) (ms : List Message) → Each IsLater ms → for_channel peer (way ++ map (addressed own peer) ms) ≡ for_channel peer way ++ ms
 for_later own peer way ms h = for_more peer way (map (addressed own peer) ms) ∙ ap (λ l. for_channel peer way ++ l) (for_own own peer ms h)

@@ -1,5 +1,5 @@
 -- A channel that is there goes on: what this does to the channels that its side opened, and to those of the other side.
-use Rattle.std.proofs.Common.{◌≡◌, ℕ, ◌<◌, ◌≤◌, Bool, true, false, List, [], ◌∷◌, ◌++◌, length, map, slice_get, slice_set, Some, None, ◌⊎◌, inl, inr, refl, sym, ap, ◌∙◌, subst}
+use Rattle.std.proofs.Common.{◌≡◌, ℕ, ◌<◌, ◌≤◌, Bool, true, false, List, [], ◌∷◌, ◌++◌, length, map, slice_get, slice_set, Some, None, ◌⊎◌, inl, inr, refl, sym, ap, ◌∙◌, subst, append-nil}
 use Rattle.std.proofs.lemmas.Option.{slice_get_within}
 use Rattle.ssh_channels.specs.Phases.{Message, Confirmation, has_told}
 use Rattle.ssh_channels.specs.Conversation.{Talk, opened}
@@ -78,19 +78,15 @@ pub record GoesOn (a b : Mux) (to_b to_a' : List Packet) (answer : Answer) (n : 
   pub known : (messages ≡ []) ⊎ (answer ≡ As peer)
   pub peer_is : (k : ℕ) → answer ≡ As k → (has_told c'.end.heard ≡ false) ⊎ (c'.peer ≡ k)
 
-append_none : {A : Type 0} (xs : List A) → xs ++ [] ≡ xs
-append_none [] = refl
-append_none (x ∷ xs) = ap (λ l. x ∷ l) (append_none xs)
-
 -- the other end, to which these messages go
 other_gets : (n : ℕ) (b : Mux) (to_b : List Packet) (answer : Answer) (old new : Talk) (own peer : ℕ) (messages : List Message) → OtherEnd n b to_b answer old.other old.to_other
     → new.other ≡ old.other → new.to_other ≡ old.to_other ++ messages → Each IsLater messages → (messages ≡ []) ⊎ (answer ≡ As peer)
     → OtherEnd n b (to_b ++ map (addressed own peer) messages) answer new.other new.to_other
 other_gets n b to_b NotYet old new own peer messages h e f l (inl none) =
-    (e ∙ h.0, f ∙ (ap (λ x. old.to_other ++ x) none ∙ (append_none old.to_other ∙ (h.1 ∙ sym (opening_behind peer n to_b (map (addressed own peer) messages) (all_for own peer messages l))))))
+    (e ∙ h.0, f ∙ (ap (λ x. old.to_other ++ x) none ∙ (append-nil old.to_other ∙ (h.1 ∙ sym (opening_behind peer n to_b (map (addressed own peer) messages) (all_for own peer messages l))))))
 other_gets n b to_b NotYet old new own peer messages h e f l (inr k) = absurd (let z : NotYet ≡ As peer = k in cc)
 other_gets n b to_b (As j) old new own peer messages h e f l (inl none) =
-    ((h.0.0, h.0.1, h.0.2, h.0.3, e ∙ h.0.4), f ∙ (ap (λ x. old.to_other ++ x) none ∙ (append_none old.to_other ∙ (h.1 ∙ sym (ap (λ x. for_channel j (to_b ++ map (addressed own peer) x)) none ∙ ap (for_channel j) (append_none to_b))))))
+    ((h.0.0, h.0.1, h.0.2, h.0.3, e ∙ h.0.4), f ∙ (ap (λ x. old.to_other ++ x) none ∙ (append-nil old.to_other ∙ (h.1 ∙ sym (ap (λ x. for_channel j (to_b ++ map (addressed own peer) x)) none ∙ ap (for_channel j) (append-nil to_b))))))
 other_gets n b to_b (As j) old new own peer messages h e f l (inr k) =
     let same : j ≡ peer = same_answer j peer k in (
       (h.0.0, h.0.1, h.0.2, h.0.3, e ∙ h.0.4),
@@ -104,7 +100,7 @@ answered_still old new e h = ap (λ x. has_told x.said) e ∙ h
 
 -- where nothing goes to a number, or what goes there is for another channel, nothing changes for this one
 untouched : (own peer k : ℕ) (way : List Packet) (messages : List Message) → Each IsLater messages → (messages ≡ []) ⊎ (peer ≡ k → ⊥) → for_channel k (way ++ map (addressed own peer) messages) ≡ for_channel k way
-untouched own peer k way messages l (inl none) = ap (λ x. for_channel k (way ++ map (addressed own peer) x)) none ∙ ap (for_channel k) (append_none way)
+untouched own peer k way messages l (inl none) = ap (λ x. for_channel k (way ++ map (addressed own peer) x)) none ∙ ap (for_channel k) (append-nil way)
 untouched own peer k way messages l (inr far) = for_behind peer k way (map (addressed own peer) messages) (all_for own peer messages l) (not_same peer k far)
 
 pub own_step : (a b : Mux) (to_b rest front : List Packet) (answers : ℕ → Answer) (n peer : ℕ) (c c' : Channel) (messages : List Message) → (h : Half a b to_b (front ++ rest) answers)

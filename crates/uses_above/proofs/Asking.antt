@@ -6,7 +6,7 @@ use Rattle.std.proofs.lemmas.List.{drop_more, take-append-drop, take_more}
 use Rattle.ssh_wire.specs.Sides.{other_side}
 use Rattle.ssh_wire.specs.declared.side.Side.{Side}
 use Rattle.ssh_wire.specs.declared.side.Side.TheVariants.{Client, Server}
-use Rattle.ssh_channels.specs.Asking.{Answers, IsReadFrom, IsRefused, MuxState, TakesPayload, fault_in, call_fault_at, message_fault_at, packet_fault_to, request_fault, payload_fault, payload_fault_in}
+use Rattle.ssh_channels.specs.Asking.{Answers, IsReadFrom, IsRefused, MuxState, TakesPayload, fault_in, call_fault_at, message_fault_at, packet_fault_to, request_fault, payload_fault, payload_fault_in, ReceivesAll, RefusesOneOf}
 use Rattle.ssh_channels.specs.Ends.{Read, Receives, Sends, Write, after_close, after_eof, all_gone, can_send, close_messages, closes_now, data_messages, ends_now, eof_messages, fresh, is_open, taken, tells}
 use Rattle.ssh_channels.specs.Formats.{PacketFault, packet_of, packet_text}
 use Rattle.ssh_channels.specs.Laws.{AreSettings, IsPrefixOf}
@@ -21,7 +21,7 @@ use Rattle.ssh_channels.specs.declared.fault.MuxFault.TheVariants.{Ended as ende
 use Rattle.ssh_talks.specs.Talks.{Asked, Came, CameAll, ChannelsCome, ChannelsFlow, IsQuietPair, FlowsWell, Happens, HappensOn, MuxPair, NoPayloadRefused, both_new, mux_of, way_to, with_mux}
 use Rattle.uses_above.specs.declared.asked.AskFault.{AskFault}
 use Rattle.uses_above.specs.declared.asked.AskFault.TheVariants.{Channel as channel_fault, Config}
-use Rattle.uses_above.specs.Asked.{AreAll, Breaks, IsChannel, IsFlow, IsMoment, IsOpenSide, Joins, Place, Settles, StandsAt, StaysOpen, TakesAll, brings, emptied, flows, never, place_at}
+use Rattle.uses_above.specs.Asked.{AreAll, IsChannel, IsFlow, IsMoment, IsOpenSide, Joins, Place, Settles, StandsAt, StaysOpen, brings, emptied, flows, never, place_at}
 
 -- ---- lists
 
@@ -81,33 +81,6 @@ record Begins {A B : Type 0} (f : A → B) (l : List A) (x : B) (xs : List B) : 
 begins : {A B : Type 0} (f : A → B) (l : List A) (x : B) (xs : List B) → map f l ≡ x ∷ xs → Begins f l x xs
 begins f [] x xs e = absurd (let z : [] ≡ x ∷ xs = e in cc)
 begins f (y ∷ l) x xs e = record { head = y; tail = l; is = refl; head_is = (let z : f y ∷ map f l ≡ x ∷ xs = e in cc); tail_is = (let z : f y ∷ map f l ≡ x ∷ xs = e in cc) }
-
--- ---- payloads that are delivered, one after the other
-
-takes_more : (payloads : List (List ℕ)) (payload : List ℕ) (old mid new : MuxState) → TakesAll payloads old mid → TakesPayload payload mid new → TakesAll (payloads ++ payload ∷ []) old new
-takes_more [] payload old mid new e h = (new, subst (λ m. TakesPayload payload m new) e h, refl)
-takes_more (p ∷ payloads) payload old mid new h k = (h.0, h.1, takes_more payloads payload h.0 mid new h.2 k)
-
-pub next_takes : (all : List (List ℕ)) (i : ℕ) (payload item : List ℕ) (old mid new : MuxState) → i < length all → item ≡ get_or all i item → payload ≡ item
-    → TakesAll (take i all) old mid → TakesPayload payload mid new → TakesAll (take (i + 1) all) old new
-next_takes all i payload item old mid new h is p t k =
-    subst (λ l. TakesAll l old new) (ap (λ x. take i all ++ x ∷ []) (p ∙ is) ∙ sym (take_more all i item h)) (takes_more (take i all) payload old mid new t k)
-
-pub breaks : (all : List (List ℕ)) (i : ℕ) (payload item : List ℕ) (fault : MuxFault) (old mid new : MuxState) → i < length all → item ≡ get_or all i item → payload ≡ item
-    → TakesAll (take i all) old mid → IsRefused (payload_fault payload mid.side) fault (new ≡ mid) → Breaks all old fault
-breaks all i payload item fault old mid new h is p t r = record {
-  done = take i all;
-  payload = payload;
-  rest = drop (i + 1) all;
-  mid = mid;
-  all = sym (take-append-drop i all) ∙ ap (λ l. take i all ++ l) (drop_more all i item h ∙ ap (λ x. x ∷ drop (i + 1) all) (sym (p ∙ is)));
-  takes = t;
-  new = new;
-  refused = r;
-}
-
-pub breaks_so : {A : Type 0} (r : Result A MuxFault) (all payloads : List (List ℕ)) (old : MuxState) (fault : MuxFault) → r ≡ Err fault → all ≡ payloads → Breaks all old fault → IfErr r (λ f. Breaks payloads old f)
-breaks_so r all payloads old fault e is h = subst (λ x. IfErr x (λ f. Breaks payloads old f)) (sym e) (subst (λ l. Breaks l old fault) is h)
 
 -- ---- what an end keeps
 
@@ -293,7 +266,7 @@ comes law client server are side P kept payload rest old new other m taken holds
     }
 
 come_all : NoPayloadRefused → (client server : MuxConfig) → AreWithin client server → (side : Side) (P : Mux → List Packet → List Packet → Type 0) → IsKept P → (payloads rest : List (List ℕ)) (old new : MuxState) (other : Mux)
-    → (m : IsMoment client server side old.side other (payloads ++ rest) old.made) → TakesAll payloads old new → P old.side (way_to side m.pair) (way_to (other_side side) m.pair) → HasCome client server side P new other rest
+    → (m : IsMoment client server side old.side other (payloads ++ rest) old.made) → ReceivesAll payloads old new → P old.side (way_to side m.pair) (way_to (other_side side) m.pair) → HasCome client server side P new other rest
 come_all law client server are side P kept [] rest old new other m e holds =
     let here : HasCome client server side P old other rest = record { moment = m; keeps = holds } in
     subst (λ (s : MuxState). HasCome client server side P s other rest) (sym e) here
@@ -517,7 +490,7 @@ no_packets (p ∷ l) e = absurd (let z : packet_text p ∷ map (λ q. packet_tex
 
 -- what the other side made comes to a side
 flow_takes : NoPayloadRefused → (client server : MuxConfig) → AreWithin client server → (side : Side) (own other new : MuxState) (x y : Place) (f g h : Message → Bool) → Leads f h → Weaker g h
-    → IsFlow client server side own other x y f g → TakesAll other.made own new → IsFlow client server side new (emptied other) x y never h
+    → IsFlow client server side own other x y f g → ReceivesAll other.made own new → IsFlow client server side new (emptied other) x y never h
 flow_takes law client server are side own other new x y f g h leads weaker k takes =
     let c = k.channel in
     let all : IsMoment client server side own.side other.side (other.made ++ []) own.made = record { mids = c.moment.mids; pair = c.moment.pair; happens = c.moment.happens; own_is = c.moment.own_is; other_is = c.moment.other_is; to_own_is = c.moment.to_own_is ∙ sym (append-nil other.made); to_other_is = c.moment.to_other_is } in
@@ -899,7 +872,7 @@ emptied_so d c e f = (let a = ap (λ x. let y : MuxState = record { side = x; ma
 
 pub flow_opened : NoPayloadRefused → (client server : MuxConfig) → AreWithin client server → 1 ≤ client.window → 1 ≤ server.window → (request : List ℕ) (number : ℕ) (a b c d s t : MuxState)
     → a.side ≡ record { window = client.window; most = client.largest; channels = [] } → a.made ≡ [] → s.side ≡ record { window = server.window; most = server.largest; channels = [] } → s.made ≡ []
-    → Answers Start a b → number ≡ length a.side.channels → Answers (On number (Write request)) b c → d.side ≡ c.side → d.made ≡ [] → TakesAll c.made s t
+    → Answers Start a b → number ≡ length a.side.channels → Answers (On number (Write request)) b c → d.side ≡ c.side → d.made ≡ [] → ReceivesAll c.made s t
     → IsFlow client server Client d t (place_at number request []) (place_at 0 [] []) flows flows
 flow_opened law client server are client_window server_window request number a b c d s t a_is a_made s_is s_made start number_is write d_side d_made taken =
     let first : IsMoment client server Client a.side s.side s.made a.made = record { mids = []; pair = both_new client.window client.largest server.window server.largest; happens = refl; own_is = sym a_is; other_is = sym s_is; to_own_is = sym s_made; to_other_is = sym a_made } in
@@ -965,7 +938,7 @@ flow_whole law client server side n written read m back got writer reader k many
 
 -- no payload is refused that comes
 moment_breaks : NoPayloadRefused → (client server : MuxConfig) → AreWithin client server → (side : Side) (own : MuxState) (other : Mux) (payloads : List (List ℕ)) (fault : MuxFault)
-    → IsMoment client server side own.side other payloads own.made → Breaks payloads own fault → fault ≡ Memory
+    → IsMoment client server side own.side other payloads own.made → RefusesOneOf payloads own fault → fault ≡ Memory
 moment_breaks law client server are side own other payloads fault m b =
     let there : IsMoment client server side own.side other (b.done ++ b.payload ∷ b.rest) own.made = record { mids = m.mids; pair = m.pair; happens = m.happens; own_is = m.own_is; other_is = m.other_is; to_own_is = m.to_own_is ∙ b.all; to_other_is = m.to_other_is } in
     let come = come_all law client server are side (λ mux to_it from_it. Unit {0}) (λ p old new rest back packets none takes h. tt) b.done (b.payload ∷ b.rest) own b.mid other there b.takes tt in
@@ -978,37 +951,37 @@ pub if_memory : {A : Type 0} (r : Result A MuxFault) (fault : MuxFault) → r �
 if_memory r fault e h = subst (λ x. IfErr x (λ f. f ≡ Memory)) (sym e) h
 
 pub first_breaks : NoPayloadRefused → (client server : MuxConfig) → AreWithin client server → (side : Side) (writer reader : MuxState) (x y : Place) (fault : MuxFault)
-    → IsFlow client server side writer reader x y flows flows → Breaks reader.made writer fault → fault ≡ Memory
+    → IsFlow client server side writer reader x y flows flows → RefusesOneOf reader.made writer fault → fault ≡ Memory
 first_breaks law client server are side writer reader x y fault k b = moment_breaks law client server are side writer reader.side reader.made fault k.channel.moment b
 
 pub second_breaks : NoPayloadRefused → (client server : MuxConfig) → AreWithin client server → (side : Side) (writer reader asked : MuxState) (x y : Place) (fault : MuxFault)
-    → IsFlow client server side writer reader x y flows flows → TakesAll reader.made writer asked → Breaks asked.made (emptied reader) fault → fault ≡ Memory
+    → IsFlow client server side writer reader x y flows flows → ReceivesAll reader.made writer asked → RefusesOneOf asked.made (emptied reader) fault → fault ≡ Memory
 second_breaks law client server are side writer reader asked x y fault k h b =
     let a = flow_takes law client server are side writer reader asked x y flows flows flows flow_on (λ m e. e) k h in
     moment_breaks law client server are (other_side side) (emptied reader) asked.side asked.made fault (flow_turned client server side asked (emptied reader) x y never flows a).channel.moment b
 
 pub third_breaks : NoPayloadRefused → (client server : MuxConfig) → AreWithin client server → (side : Side) (writer reader asked answered : MuxState) (x y : Place) (fault : MuxFault)
-    → IsFlow client server side writer reader x y flows flows → TakesAll reader.made writer asked → TakesAll asked.made (emptied reader) answered → Breaks answered.made (emptied asked) fault → fault ≡ Memory
+    → IsFlow client server side writer reader x y flows flows → ReceivesAll reader.made writer asked → ReceivesAll asked.made (emptied reader) answered → RefusesOneOf answered.made (emptied asked) fault → fault ≡ Memory
 third_breaks law client server are side writer reader asked answered x y fault k h i b =
     let a = flow_takes law client server are side writer reader asked x y flows flows flows flow_on (λ m e. e) k h in
     let c = flow_takes law client server are (other_side side) (emptied reader) asked answered y x flows never brings flow_leads (never_so brings) (flow_turned client server side asked (emptied reader) x y never flows a) i in
     moment_breaks law client server are side (emptied asked) answered.side answered.made fault (flow_back client server side (emptied asked) answered x y brings never c).channel.moment b
 
 pub second_refused : NoPayloadRefused → (client server : MuxConfig) → AreWithin client server → (side : Side) (writer reader asked emptied_reader : MuxState) (x y : Place) (fault : MuxFault)
-    → IsFlow client server side writer reader x y flows flows → TakesAll reader.made writer asked → emptied_reader.side ≡ reader.side → emptied_reader.made ≡ [] → Breaks asked.made emptied_reader fault → fault ≡ Memory
+    → IsFlow client server side writer reader x y flows flows → ReceivesAll reader.made writer asked → emptied_reader.side ≡ reader.side → emptied_reader.made ≡ [] → RefusesOneOf asked.made emptied_reader fault → fault ≡ Memory
 second_refused law client server are side writer reader asked emptied_reader x y fault k h same none b =
-    second_breaks law client server are side writer reader asked x y fault k h (subst (λ s. Breaks asked.made s fault) (emptied_so emptied_reader reader same none) b)
+    second_breaks law client server are side writer reader asked x y fault k h (subst (λ s. RefusesOneOf asked.made s fault) (emptied_so emptied_reader reader same none) b)
 
 pub third_refused : NoPayloadRefused → (client server : MuxConfig) → AreWithin client server → (side : Side) (writer reader asked emptied_reader answered emptied_writer : MuxState) (x y : Place) (fault : MuxFault)
-    → IsFlow client server side writer reader x y flows flows → TakesAll reader.made writer asked → emptied_reader.side ≡ reader.side → emptied_reader.made ≡ [] → TakesAll asked.made emptied_reader answered
-    → emptied_writer.side ≡ asked.side → emptied_writer.made ≡ [] → Breaks answered.made emptied_writer fault → fault ≡ Memory
+    → IsFlow client server side writer reader x y flows flows → ReceivesAll reader.made writer asked → emptied_reader.side ≡ reader.side → emptied_reader.made ≡ [] → ReceivesAll asked.made emptied_reader answered
+    → emptied_writer.side ≡ asked.side → emptied_writer.made ≡ [] → RefusesOneOf answered.made emptied_writer fault → fault ≡ Memory
 third_refused law client server are side writer reader asked emptied_reader answered emptied_writer x y fault k h same none i same_writer none_writer b =
-    third_breaks law client server are side writer reader asked answered x y fault k h (subst (λ s. TakesAll asked.made s answered) (emptied_so emptied_reader reader same none) i)
-    (subst (λ s. Breaks answered.made s fault) (emptied_so emptied_writer asked same_writer none_writer) b)
+    third_breaks law client server are side writer reader asked answered x y fault k h (subst (λ s. ReceivesAll asked.made s answered) (emptied_so emptied_reader reader same none) i)
+    (subst (λ s. RefusesOneOf answered.made s fault) (emptied_so emptied_writer asked same_writer none_writer) b)
 
 pub third_all : {A : Type 0} → NoPayloadRefused → (client server : MuxConfig) → AreWithin client server → (side : Side) (writer reader asked emptied_reader answered emptied_writer : MuxState) (x y : Place) (r : Result A MuxFault)
-    → IsFlow client server side writer reader x y flows flows → TakesAll reader.made writer asked → emptied_reader.side ≡ reader.side → emptied_reader.made ≡ [] → TakesAll asked.made emptied_reader answered
-    → emptied_writer.side ≡ asked.side → emptied_writer.made ≡ [] → IfErr r (λ f. Breaks answered.made emptied_writer f) → IfErr r (λ f. f ≡ Memory)
+    → IsFlow client server side writer reader x y flows flows → ReceivesAll reader.made writer asked → emptied_reader.side ≡ reader.side → emptied_reader.made ≡ [] → ReceivesAll asked.made emptied_reader answered
+    → emptied_writer.side ≡ asked.side → emptied_writer.made ≡ [] → IfErr r (λ f. RefusesOneOf answered.made emptied_writer f) → IfErr r (λ f. f ≡ Memory)
 third_all law client server are side writer reader asked emptied_reader answered emptied_writer x y (Ok a) k h same none i same_writer none_writer b = tt
 third_all law client server are side writer reader asked emptied_reader answered emptied_writer x y (Err f) k h same none i same_writer none_writer b =
     third_refused law client server are side writer reader asked emptied_reader answered emptied_writer x y f k h same none i same_writer none_writer b
@@ -1065,7 +1038,7 @@ first_write_refused client window bytes number a b fault U a_is start number_is 
 
 pub opening_breaks : NoPayloadRefused → (client server : MuxConfig) → AreWithin client server → (request : List ℕ) (number : ℕ) (a b c s : MuxState) (fault : MuxFault)
     → a.side ≡ record { window = client.window; most = client.largest; channels = [] } → a.made ≡ [] → s.side ≡ record { window = server.window; most = server.largest; channels = [] } → s.made ≡ []
-    → Answers Start a b → Answers (On number (Write request)) b c → Breaks c.made s fault → fault ≡ Memory
+    → Answers Start a b → Answers (On number (Write request)) b c → RefusesOneOf c.made s fault → fault ≡ Memory
 opening_breaks law client server are request number a b c s fault a_is a_made s_is s_made start write h =
     let first : IsMoment client server Client a.side s.side s.made a.made = record { mids = []; pair = both_new client.window client.largest server.window server.largest; happens = refl; own_is = sym a_is; other_is = sym s_is; to_own_is = sym s_made; to_other_is = sym a_made } in
     let one = asks client server Client Start a b s.side s.made first start in

@@ -2,31 +2,14 @@
 use Rattle.std.specs.Prelude.{◌≡◌, ℕ, ◌≤◌, Bool, true, false, List, [], ◌∷◌, ◌++◌, length, map, slice_get, Some, ◌⊎◌}
 use Rattle.ssh_wire.specs.Sides.{other_side}
 use Rattle.ssh_wire.specs.declared.side.Side.{Side}
-use Rattle.ssh_channels.specs.Asking.{IsRefused, MuxState, TakesPayload, payload_fault}
+use Rattle.ssh_channels.specs.Asking.{MuxState, ReceivesAll}
 use Rattle.ssh_channels.specs.Formats.{packet_text}
 use Rattle.ssh_channels.specs.Muxes.{Channel, Mux, Packet}
 use Rattle.ssh_channels.specs.Laws.{AreSettings}
 use Rattle.ssh_channels.specs.Phases.{Message, Open, Confirmation, Failure, Adjust, Data, Eof, Close, is_refused}
 use Rattle.ssh_channels.specs.declared.config.MuxConfig.{MuxConfig}
 use Rattle.ssh_channels.specs.declared.end.End.{End}
-use Rattle.ssh_channels.specs.declared.fault.MuxFault.{MuxFault}
 use Rattle.ssh_talks.specs.Talks.{HappensOn, MuxPair, both_new, mux_of, way_to}
-
--- a side receives payloads, one after the other
-abbrev pub TakesAll : List (List ℕ) → (old new : MuxState) → Type 0
-TakesAll [] old new = new ≡ old
-TakesAll (payload ∷ payloads) old new = (mid : MuxState) × TakesPayload payload old mid × TakesAll payloads mid new
-
--- it receives some of them, and refuses the next one
-pub record Breaks (payloads : List (List ℕ)) (old : MuxState) (fault : MuxFault) : Type 0 where
-  pub done : List (List ℕ)
-  pub payload : List ℕ
-  pub rest : List (List ℕ)
-  pub mid : MuxState
-  pub all : payloads ≡ done ++ payload ∷ rest
-  pub takes : TakesAll done old mid
-  pub new : MuxState
-  pub refused : IsRefused (payload_fault payload mid.side) fault (new ≡ mid)
 
 -- a side whose messages were taken
 abbrev pub emptied : MuxState → MuxState
@@ -36,9 +19,9 @@ emptied s = record { side = s.side; made = [] }
 pub record Settles (writer reader new_writer new_reader : MuxState) : Type 0 where
   pub asked : MuxState
   pub answered : MuxState
-  pub to_writer : TakesAll reader.made writer asked
-  pub to_reader : TakesAll asked.made (emptied reader) answered
-  pub back : TakesAll answered.made (emptied asked) new_writer
+  pub to_writer : ReceivesAll reader.made writer asked
+  pub to_reader : ReceivesAll asked.made (emptied reader) answered
+  pub back : ReceivesAll answered.made (emptied asked) new_writer
   pub reader_is : new_reader ≡ emptied answered
 
 -- Both sides are those of a moment that requests and packets lead to, with these texts on the way to each.

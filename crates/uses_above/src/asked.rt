@@ -2,12 +2,13 @@
 
 ghost use Rattle.std.specs.Prelude.{◌≡◌, ◌≤◌, ◌&&◌, ◌⊎◌, [], false, length, Err, IfErr, IfOk, OnOk, List, ℕ};
 ghost use Rattle.ssh_wire.specs.declared.side.Side.{Side};
+ghost use Rattle.ssh_channels.specs.Asking.{ReceivesAll, RefusesOneOf};
 ghost use Rattle.ssh_channels.specs.Laws.{AreSettings};
 ghost use Rattle.ssh_channels.specs.Muxes.{is_within};
 ghost use Rattle.ssh_channels.specs.declared.config.MuxConfig.{MuxConfig as config_of};
 ghost use Rattle.ssh_channels.specs.declared.fault.MuxFault.TheVariants.{Memory};
 ghost use Rattle.uses_above.specs.declared.asked.AskFault.TheVariants.{Channel, Config};
-ghost use Rattle.uses_above.specs.Asked.{Breaks, IsFlow, IsRead, Place, Settles, TakesAll, flows, place_at};
+ghost use Rattle.uses_above.specs.Asked.{IsFlow, IsRead, Place, Settles, flows, place_at};
 
 use ssh_channels::{Mux, MuxConfig, MuxFault};
 use ssh_talks::{channels_come, channels_flow, no_payload_refused};
@@ -130,10 +131,10 @@ fn settle(writer: &mut Mux, reader: &mut Mux) -> Result<(), MuxFault>
 
 /// Delivers what a side made to the other side: each message once, in their order.
 fn deliver(from: &mut Mux, to: &mut Mux) -> Result<(), MuxFault>
-    ensures ok { OnOk result (TakesAll from.old.made to.old to.new) }
+    ensures ok { OnOk result (ReceivesAll from.old.made to.old to.new) }
     ensures side { from.new.side ≡ from.old.side }
     ensures made { from.new.made ≡ [] }
-    ensures refused { IfErr result (λ f. Breaks from.old.made to.old f) }
+    ensures refused { IfErr result (λ f. RefusesOneOf from.old.made to.old f) }
 {
     let made = from.take_output();
     for payload in made.as_slice() {
