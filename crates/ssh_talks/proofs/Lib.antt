@@ -6,4 +6,5 @@ pub mod Openings
 pub mod Talking
 pub mod Flowing
 pub mod Reading
+pub mod Making
 pub mod Lemmas

@@ -220,7 +220,7 @@ came_own a b to_b rest p n c messages e j to at r s =
           (is_answerer a b to_b (p ∷ rest) (j.answers n) n (told_number p c.peer p.message) c messages o k.known);
     }
 
-not_silent : (t : Talk) → Joint t → has_told t.other.said ≡ true → t.other.heard ≡ Silent → ⊥
+pub not_silent : (t : Talk) → Joint t → has_told t.other.said ≡ true → t.other.heard ≡ Silent → ⊥
 not_silent t j told h = (let z : true ≡ false = sym told ∙ ap has_told (j.answering h) in cc)
 
 came_other : (a b : Mux) (to_b rest : List Packet) (p : Packet) (n : ℕ) (c : Channel) (messages : List Message) (e : End) → Joined a b to_b (p ∷ rest) → p.to ≡ Some n → slice_get a.channels n ≡ Some c → Receives p.message c.end messages e → c.started ≡ false
@@ -263,7 +263,7 @@ came_other a b to_b rest p n c messages e j to at r s =
 -- ---- a packet that opens a channel
 
 -- what accepting answers
-accepted_as : (b : Mux) (p : Packet) (e : End) (messages : List Message) → IsOpen p.message → Receives p.message (fresh b.window b.most Silent) messages e → e.said ≡ Talking
+pub accepted_as : (b : Mux) (p : Packet) (e : End) (messages : List Message) → IsOpen p.message → Receives p.message (fresh b.window b.most Silent) messages e → e.said ≡ Talking
     → messages ≡ Confirmation b.window b.most ∷ []
 accepted_as b p e messages o r said = on p.message o r
   where

@@ -1,5 +1,6 @@
 //! Laws of many channels, for every order of calls and deliveries.
 
+ghost use Rattle.ssh_talks.specs.Making.{AskingAdds, HearingLowers};
 ghost use Rattle.ssh_talks.specs.Talks.{ChannelsAreTalks, ChannelsCome, ChannelsFlow, NoPacketRefused, NoPayloadRefused};
 
 /// Each channel that a side opened is a talk of two ends that may have come of its opening, whatever else happens on
@@ -31,4 +32,16 @@ pub fn channels_come()
 /// Each payload that comes is read as the packet that was written, and none is refused.
 pub fn no_payload_refused()
     ensures { NoPayloadRefused }
+{}
+
+/// A side that hears the next packet can send as many messages less as it makes, over all channels at once. So two
+/// sides that only hear come to an end.
+pub fn hearing_lowers()
+    ensures { HearingLowers }
+{}
+
+/// A request adds to what both sides can still send no more than the bytes that it writes, and at most eight messages
+/// where it starts a channel.
+pub fn asking_adds()
+    ensures { AskingAdds }
 {}

@@ -5,5 +5,6 @@
 mod laws;
 
 pub use crate::laws::{
-    channels_are_talks, channels_come, channels_flow, no_packet_refused, no_payload_refused,
+    asking_adds, channels_are_talks, channels_come, channels_flow, hearing_lowers,
+    no_packet_refused, no_payload_refused,
 };
