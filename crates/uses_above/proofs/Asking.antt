@@ -1,8 +1,8 @@
 -- A channel between two sides over an honest carrier stays one, and what is read at an end is a front of what was
 -- written.
-use Rattle.std.proofs.Common.{◌≡◌, ℕ, zero, suc, ◌+◌, ◌-◌, ◌<◌, ◌≤◌, min, Bool, true, false, ◌&&◌, ◌||◌, if◌then◌else◌, List, [], ◌∷◌, ◌++◌, length, take, drop, map, get_or, slice_get, slice_set, Option, Some, None, Result, Ok, Err, ◌⊎◌, inl, inr, IfErr, ◌^◌, refl, sym, ap, ◌∙◌, subst, append_assoc, append-nil, length-append, arith}
+use Rattle.std.proofs.Common.{◌≡◌, ℕ, zero, suc, ◌+◌, ◌-◌, ◌<◌, ◌≤◌, min, Bool, true, false, ◌&&◌, ◌||◌, if◌then◌else◌, List, [], ◌∷◌, ◌++◌, length, take, drop, map, slice_get, slice_set, Option, Some, None, Result, Ok, Err, ◌⊎◌, inl, inr, IfErr, ◌^◌, refl, sym, ap, ◌∙◌, subst, append_assoc, append-nil, length-append, arith}
 use Rattle.std.proofs.lemmas.Bool.{and_parts, leb-true}
-use Rattle.std.proofs.lemmas.List.{drop_more, take-append-drop, take_more}
+use Rattle.std.proofs.lemmas.List.{take-append-drop}
 use Rattle.ssh_wire.specs.Sides.{other_side}
 use Rattle.ssh_wire.specs.declared.side.Side.{Side}
 use Rattle.ssh_wire.specs.declared.side.Side.TheVariants.{Client, Server}
@@ -929,6 +929,13 @@ flow_opened law client server are client_window server_window request number a b
 pub window_some : (c : MuxConfig) → is_within c.window c.largest ≡ true → 1 ≤ c.window
 window_some c h = leb-true 1 c.window (and_parts _ _ h).0
 
+-- the other side writes an answer behind what it read
+pub answer_written : (client server : MuxConfig) (number : ℕ) (request answer got : List ℕ) (asking asked new : MuxState)
+    → IsFlow client server Client asking asked (place_at number request []) (place_at 0 [] got) flows flows → Answers (On 0 (Write answer)) asked new
+    → IsFlow client server Server new asking (place_at 0 answer got) (place_at number request []) flows flows
+answer_written client server number request answer got asking asked new k h =
+    flow_written client server Server 0 [] got answer asked new asking (place_at number request []) (flow_turned client server Client asking asked (place_at number request []) (place_at 0 [] got) flows flows k) h
+
 -- what was read is all that was written
 pub flow_whole : ChannelsFlow → (client server : MuxConfig) (side : Side) (n : ℕ) (written read : List ℕ) (m : ℕ) (back got : List ℕ) (writer reader : MuxState)
     → IsFlow client server side writer reader (place_at n written read) (place_at m back got) flows flows → length written ≤ length got → got ≡ written
@@ -1007,34 +1014,6 @@ write_refused m bytes place old fault U s e o h =
 pub flow_write_refused : (client server : MuxConfig) (side : Side) (n : ℕ) (written read bytes : List ℕ) (own other : MuxState) (y : Place) (fault : MuxFault) (U : Type 0)
     → IsFlow client server side own other (place_at n written read) y flows flows → IsRefused (request_fault (On n (Write bytes)) own.side) fault U → fault ≡ Memory
 flow_write_refused client server side n written read bytes own other y fault U k h = write_refused n bytes (place_at n written read) own fault U k.channel.own_end refl k.own_open h
-
-pub start_refused : (config : MuxConfig) (a : MuxState) (fault : MuxFault) (U : Type 0) → a.side ≡ record { window = config.window; most = config.largest; channels = [] } → IsRefused (request_fault Start a.side) fault U → fault ≡ Memory
-start_refused config a fault U e h = subst (λ (m : Mux). IsRefused (request_fault Start m) fault U) e h
-
--- a side that asked for its first channel
-record IsStarted (mux : Mux) (number : ℕ) : Type 0 where
-  pub stands : StandsAt mux (place_at number [] [])
-  pub opens : IsOpenSide mux
-
-started : (client : MuxConfig) → 1 ≤ client.window → (number : ℕ) (a b : MuxState) → a.side ≡ record { window = client.window; most = client.largest; channels = [] } → Answers Start a b → number ≡ length a.side.channels → IsStarted b.side number
-started client client_window number a b a_is start number_is =
-    let none : number ≡ 0 = number_is ∙ ap (λ (x : Mux). length x.channels) a_is in
-    let fresh_one : Channel = record { started = true; peer = 0; end = fresh a.side.window a.side.most Talking } in
-    let channels : b.side.channels ≡ fresh_one ∷ [] = ap (λ (x : Mux). x.channels) start.asks.2 ∙ ap (λ (x : Mux). x.channels ++ fresh_one ∷ []) a_is in
-    let a_window : 1 ≤ a.side.window = (let e = ap (λ (x : Mux). x.window) a_is in omega (arith, e, client_window)) in
-    record {
-      stands = record { channel = fresh_one; at = ap (λ l. slice_get l number) channels ∙ ap (slice_get (fresh_one ∷ [])) none; written = refl; unread = []; received = refl; read = refl };
-      opens = record {
-        window = (let e = ap (λ (x : Mux). x.window) start.asks.2 in omega (arith, e, a_window));
-        each = λ n x at. subst (λ (y : Channel). StaysOpen y.end) (sym (only_one fresh_one n x (subst (λ l. slice_get l n ≡ Some x) channels at))) (record { window = a_window; eof = refl; close = refl; heard = refl });
-      };
-    }
-
-pub first_write_refused : (client : MuxConfig) → 1 ≤ client.window → (bytes : List ℕ) (number : ℕ) (a b : MuxState) (fault : MuxFault) (U : Type 0) → a.side ≡ record { window = client.window; most = client.largest; channels = [] } → Answers Start a b
-    → number ≡ length a.side.channels → IsRefused (request_fault (On number (Write bytes)) b.side) fault U → fault ≡ Memory
-first_write_refused client window bytes number a b fault U a_is start number_is h =
-    let s = started client window number a b a_is start number_is in
-    write_refused number bytes (place_at number [] []) b fault U s.stands refl s.opens h
 
 pub opening_breaks : NoPayloadRefused → (client server : MuxConfig) → AreWithin client server → (request : List ℕ) (number : ℕ) (a b c s : MuxState) (fault : MuxFault)
     → a.side ≡ record { window = client.window; most = client.largest; channels = [] } → a.made ≡ [] → s.side ≡ record { window = server.window; most = server.largest; channels = [] } → s.made ≡ []

@@ -1,14 +1,15 @@
 //! A request and its answer over a channel.
 
-ghost use Rattle.std.specs.Prelude.{◌≡◌, ◌≤◌, ◌&&◌, ◌⊎◌, [], false, length, Err, IfErr, IfOk, OnOk, List, ℕ};
+ghost use Rattle.std.specs.Prelude.{◌≡◌, ◌≤◌, ◌&&◌, ◌⊎◌, [], false, true, length, Err, IfErr, IfOk, OnOk, List, ℕ};
 ghost use Rattle.ssh_wire.specs.declared.side.Side.{Side};
+ghost use Rattle.ssh_wire.specs.declared.side.Side.TheVariants.{Client as client_side, Server as server_side};
 ghost use Rattle.ssh_channels.specs.Asking.{ReceivesAll, RefusesOneOf};
 ghost use Rattle.ssh_channels.specs.Laws.{AreSettings};
 ghost use Rattle.ssh_channels.specs.Muxes.{is_within};
 ghost use Rattle.ssh_channels.specs.declared.config.MuxConfig.{MuxConfig as config_of};
 ghost use Rattle.ssh_channels.specs.declared.fault.MuxFault.TheVariants.{Memory};
 ghost use Rattle.uses_above.specs.declared.asked.AskFault.TheVariants.{Channel, Config};
-ghost use Rattle.uses_above.specs.Asked.{IsFlow, IsRead, Place, Settles, flows, place_at};
+ghost use Rattle.uses_above.specs.Asked.{IsChannel, IsFlow, IsRead, Place, Settles, flows, place_at};
 
 use ssh_channels::{Mux, MuxConfig, MuxFault};
 use ssh_talks::{channels_come, channels_flow, no_payload_refused};
@@ -17,9 +18,12 @@ use std::alloc::{AllocError, Global};
 /// The number of the first channel that a side grants.
 const FIRST: u32 = 0;
 
-/// What each side read of what the other one wrote.
+/// Both sides of a channel, its number on the client's side, and what each side read of what the other one wrote.
 #[derive(Debug, Drop)]
 pub struct Asked {
+    pub client: Mux,
+    pub server: Mux,
+    pub number: u32,
     pub request: Vec<u8>,
     pub answer: Vec<u8>,
 }
@@ -51,9 +55,9 @@ impl From<AllocError> for AskFault {
 
 /// A client asks a server over one channel: it writes the request, the server reads it and writes the answer, and the
 /// client reads that (RFC 4254 sections 5.1 to 5.3). Each message is carried once, in its order. Whatever windows in
-/// their bounds both sides have, each side reads all that the other one wrote, and no call or message is refused. How
-/// many messages that takes isn't said. Config where a number of either side is out of its bounds. Else Channel with
-/// Memory.
+/// their bounds both sides have, each side reads all that the other one wrote, and no call or message is refused. Both
+/// sides stand as the messages between them left them (`channel`). How many messages that takes isn't said. Config where
+/// a number of either side is out of its bounds. Else Channel with Memory.
 pub fn ask(
     alloc: Global,
     client: &MuxConfig,
@@ -63,28 +67,51 @@ pub fn ask(
 ) -> Result<Asked, AskFault>
     ensures request { IfOk result (λ a. a.request.items ≡ request.now) }
     ensures answer { IfOk result (λ a. a.answer.items ≡ answer.now) }
+    ensures channel { IfOk result (λ a. IsChannel client.now server.now server_side a.server a.client
+        (place_at 0 answer.now a.request.items) (place_at a.number request.now a.answer.items)) }
     ensures config { (is_within client.now.window client.now.largest && is_within server.now.window server.now.largest)
         ≡ false → result ≡ Err Config }
     ensures fault { IfErr result (λ f. ((f ≡ Config) × ((is_within client.now.window client.now.largest
         && is_within server.now.window server.now.largest) ≡ false)) ⊎ (f ≡ Channel Memory)) }
 {
     channels_flow();
-    no_payload_refused();
     if !client.is_within() || !server.is_within() {
         return Err(AskFault::Config);
     }
+    let (mut asking, mut asked, number) = opened(alloc, client, server, request)?;
+    let got = read_all(alloc, &mut asking, &mut asked, FIRST, request.len())?;
+    asked.write(FIRST, answer)?;
+    let back = read_all(alloc, &mut asked, &mut asking, number, answer.len())?;
+    Ok(Asked {
+        client: asking,
+        server: asked,
+        number,
+        request: got,
+        answer: back,
+    })
+}
+
+/// A client and a server. The client asked for a channel and wrote the request to it, and the server granted it. The
+/// third is the channel's number on the client's side.
+fn opened(
+    alloc: Global,
+    client: &MuxConfig,
+    server: &MuxConfig,
+    request: &[u8],
+) -> Result<(Mux, Mux, u32), MuxFault>
+    requires client { is_within client.now.window client.now.largest ≡ true }
+    requires server { is_within server.now.window server.now.largest ≡ true }
+    ensures flow { IfOk result (λ o. IsFlow client.now server.now client_side o.0 o.1 (place_at o.2 request.now [])
+        (place_at 0 [] []) flows flows) }
+    ensures err { IfErr result (λ f. f ≡ Memory) }
+{
+    no_payload_refused();
     let mut asking = Mux::new(alloc, client);
     let mut asked = Mux::new(alloc, server);
     let number = asking.start()?;
     asking.write(number, request)?;
     deliver(&mut asking, &mut asked)?;
-    let got = read_all(alloc, &mut asking, &mut asked, FIRST, request.len())?;
-    asked.write(FIRST, answer)?;
-    let back = read_all(alloc, &mut asked, &mut asking, number, answer.len())?;
-    Ok(Asked {
-        request: got,
-        answer: back,
-    })
+    Ok((asking, asked, number))
 }
 
 /// Reads so many bytes on a channel that the other side wrote to. Each read lets the other side send more.
