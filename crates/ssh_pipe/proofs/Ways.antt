@@ -1,5 +1,5 @@
 -- Moves of a side, one behind the other, and what was written of its output.
-use Rattle.std.proofs.Common.{inl, inr, ◌≡◌, ℕ, List, [], ◌∷◌, ◌++◌, take, drop, map, Option, Some, None, IfSome, Result, Ok, Err, OnOk, true, refl, sym, ap, ◌∙◌, subst, append_assoc, append-nil}
+use Rattle.std.proofs.Common.{inl, inr, ◌≡◌, ℕ, List, [], ◌∷◌, ◌++◌, take, drop, map, Option, Some, None, IfSome, Result, Ok, Err, OnOk, Bool, true, false, refl, sym, ap, ◌∙◌, subst, append_assoc, append-nil}
 use Rattle.std.proofs.lemmas.List.{take-append-drop}
 use Rattle.ssh_wire.specs.Lines.{id_text}
 use Rattle.ssh_wire.specs.Reading.{IdReading}
@@ -13,7 +13,7 @@ use Rattle.ssh_transport.proofs.Lemmas.{Weaker, input_still, steps_weaker, submi
 use Rattle.ssh_pipe.specs.Desks.{IsAsking, IsSaid, LetsNobodyIn}
 use Rattle.ssh_pipe.specs.declared.desk.Reply.{Reply}
 use Rattle.ssh_pipe.specs.declared.desk.Reply.TheVariants.{Message}
-use Rattle.ssh_pipe.specs.Talks.{Ends, EndsWell, IsCut, Sends, Fed, FedLast, Follows, Goes, Handed, Move, Moves, fed_in, piece_of, untouched}
+use Rattle.ssh_pipe.specs.Talks.{Ends, EndsWell, IsCut, Sends, Fed, FedLast, Follows, Goes, Handed, Move, Moves, MovesBy, fed_in, piece_of, untouched}
 use Rattle.ssh_pipe.specs.declared.end.TalkEnd.{TalkEnd}
 use Rattle.ssh_pipe.specs.declared.end.TalkEnd.TheVariants.{SinkFailed}
 
@@ -36,8 +36,8 @@ hears_under (OfPacket i) s d old piece es line behind h = h
 hears_under OfVersion s d old piece es line behind h = h
 hears_under OfMemory s d old piece es line behind h = h
 
-move_under : (says : Says) (s : List ℕ) (d : List (List ℕ)) (m : Move) (old new : Standing) → Moves says old m new → Moves says (untouched s d old) m (untouched s d new)
-move_under says s d (Fed piece) old new h = record {
+says_under : (says : Says) (s : List ℕ) (d : List (List ℕ)) (m : Move) (old new : Standing) → MovesBy says old m new → MovesBy says (untouched s d old) m (untouched s d new)
+says_under says s d (Fed piece) old new h = record {
   events = h.events;
   acts = acts_under says s d old h.events new h.acts;
   input = h.input;
@@ -47,7 +47,7 @@ move_under says s d (Fed piece) old new h = record {
   part = h.part;
   small = h.small;
 }
-move_under says s d (FedLast piece) old new (cause, h) = (
+says_under says s d (FedLast piece) old new (cause, h) = (
   cause,
   record {
     at = h.at;
@@ -70,7 +70,7 @@ move_under says s d (FedLast piece) old new (cause, h) = (
     next = h.next;
   },
 )
-move_under says s d (Handed payload) old new (said, h) = (
+says_under says s d (Handed payload) old new (said, h) = (
   said,
   record {
     events = h.events;
@@ -83,6 +83,9 @@ move_under says s d (Handed payload) old new (said, h) = (
     waiting = h.waiting;
   },
 )
+
+move_under : (says : Says) (s : List ℕ) (d : List (List ℕ)) (m : Move) (old new : Standing) → Moves says old m new → Moves says (untouched s d old) m (untouched s d new)
+move_under says s d m old new h = (h.0, says_under says s d m old new h.1)
 
 follows_under : (says : Says) (s : List ℕ) (d : List (List ℕ)) (ms : List Move) (old new : Standing) → Follows says old ms new → Follows says (untouched s d old) ms (untouched s d new)
 follows_under says s d [] old new h = ap (untouched s d) h
@@ -168,34 +171,34 @@ goes_front says t held held' (n, within, w) = record {
 }
 
 -- a piece was taken, and what it delivered was taken to be answered
-pub goes_fed : (says : Says) (t : Standing) (piece : List ℕ) (fed new : Standing) (held : Option (List ℕ)) → TakesInput says t piece fed → new ≡ record fed { delivered = [] } → Goes says t held piece new held
-goes_fed says t piece fed new held h is = record {
+pub goes_fed : (says : Says) (t : Standing) (piece : List ℕ) (fed new : Standing) (held : Option (List ℕ)) → t.failed ≡ false → TakesInput says t piece fed → new ≡ record fed { delivered = [] } → Goes says t held piece new held
+goes_fed says t piece fed new held live h is = record {
   moves = Fed piece ∷ [];
   sent = [];
   answered = fed.delivered;
-  follows = (fed, h, ap (untouched [] fed.delivered) is ∙ ap (λ (d : List (List ℕ)). record fed { delivered = d }) (append-nil fed.delivered));
+  follows = (fed, (live, h), ap (untouched [] fed.delivered) is ∙ ap (λ (d : List (List ℕ)). record fed { delivered = d }) (append-nil fed.delivered));
   fed_is = append-nil piece;
   written = appends_none held;
 }
 
 -- a piece was taken, and nothing was made of what it delivered
-pub goes_taken : (says : Says) (t : Standing) (piece : List ℕ) (new : Standing) (held : Option (List ℕ)) → TakesInput says t piece new → Goes says t held piece new held
-goes_taken says t piece new held h = record {
+pub goes_taken : (says : Says) (t : Standing) (piece : List ℕ) (new : Standing) (held : Option (List ℕ)) → t.failed ≡ false → TakesInput says t piece new → Goes says t held piece new held
+goes_taken says t piece new held live h = record {
   moves = Fed piece ∷ [];
   sent = [];
   answered = [];
-  follows = (new, h, refl);
+  follows = (new, (live, h), refl);
   fed_is = append-nil piece;
   written = appends_none held;
 }
 
 -- a piece was refused
-pub goes_refused : (says : Says) (t : Standing) (piece : List ℕ) (new : Standing) (held : Option (List ℕ)) (cause : RefusalCause) → RefusesInput says t piece cause new → Goes says t held piece new held
-goes_refused says t piece new held cause h = record {
+pub goes_refused : (says : Says) (t : Standing) (piece : List ℕ) (new : Standing) (held : Option (List ℕ)) (cause : RefusalCause) → t.failed ≡ false → RefusesInput says t piece cause new → Goes says t held piece new held
+goes_refused says t piece new held cause live h = record {
   moves = FedLast piece ∷ [];
   sent = [];
   answered = [];
-  follows = (new, (cause, h), refl);
+  follows = (new, (live, (cause, h)), refl);
   fed_is = append-nil piece;
   written = appends_none held;
 }
@@ -217,9 +220,9 @@ goes_submitted says t payloads new held h = record {
 
 -- ---- what parts say later they say of themselves as they were
 
-move_weaker : (x y : Says) → Weaker x y → (m : Move) (old new : Standing) → Moves x old m new → Moves y old m new
-move_weaker x y w (Fed piece) old new h = (input_still x y w old piece new h).0
-move_weaker x y w (FedLast piece) old new (cause, h) = (
+says_weaker : (x y : Says) → Weaker x y → (m : Move) (old new : Standing) → MovesBy x old m new → MovesBy y old m new
+says_weaker x y w (Fed piece) old new h = (input_still x y w old piece new h).0
+says_weaker x y w (FedLast piece) old new (cause, h) = (
   cause,
   record {
     at = h.at;
@@ -242,7 +245,10 @@ move_weaker x y w (FedLast piece) old new (cause, h) = (
     next = h.next;
   },
 )
-move_weaker x y w (Handed payload) old new (said, h) = (said, submitted_still x y w old payload new h)
+says_weaker x y w (Handed payload) old new (said, h) = (said, submitted_still x y w old payload new h)
+
+move_weaker : (x y : Says) → Weaker x y → (m : Move) (old new : Standing) → Moves x old m new → Moves y old m new
+move_weaker x y w m old new h = (h.0, says_weaker x y w m old new h.1)
 
 follows_weaker : (x y : Says) → Weaker x y → (ms : List Move) (old new : Standing) → Follows x old ms new → Follows y old ms new
 follows_weaker x y w [] old new h = h
@@ -296,43 +302,43 @@ sends_more says config config' a a' h h' g g' old mid new c e k m first more =
 pub sends_none : (says : Says) (t new : Standing) → new ≡ t → Sends says t new
 sends_none says t new is = ([], is)
 
-pub sends_one : (says : Says) (t : Standing) (payload : List ℕ) (new : Standing) → IsSaid payload → Submitted says t payload new → Sends says t new
-sends_one says t payload new said h = (payload ∷ [], (new, (said, h), refl))
+pub sends_one : (says : Says) (t : Standing) (payload : List ℕ) (new : Standing) → t.failed ≡ false → IsSaid payload → Submitted says t payload new → Sends says t new
+sends_one says t payload new live said h = (payload ∷ [], (new, (live, (said, h)), refl))
 
 -- a piece was taken, and what it delivered was answered
 pub goes_sends : (x y : Config → Says) → ((k : Config) → Weaker (y k) (x k)) → (a : Standing) (held held' : Option (List ℕ)) (piece : List ℕ) (fed c : Standing)
-    → fed.config ≡ a.config → held' ≡ held → TakesInput (x a.config) a piece fed → Sends (y fed.config) (record fed { delivered = [] }) c → Goes (x a.config) a held piece c held'
-goes_sends x y w a held held' piece fed c same still takes sends =
+    → a.failed ≡ false → fed.config ≡ a.config → held' ≡ held → TakesInput (x a.config) a piece fed → Sends (y fed.config) (record fed { delivered = [] }) c → Goes (x a.config) a held piece c held'
+goes_sends x y w a held held' piece fed c live same still takes sends =
     let b : Standing = record fed { delivered = [] } in
     let P : Config → Type 0 = λ k. Sends (y k) b c in
     let s = subst P same sends in
     let later = goes_weaker (y a.config) (x a.config) (w a.config) b held [] c held (goes_submitted (y a.config) b s.0 c held s.1) in
-    subst (λ h. Goes (x a.config) a held piece c h) (sym still) (goes_on (x a.config) a held piece b held c held (goes_fed (x a.config) a piece fed b held takes refl) later)
+    subst (λ h. Goes (x a.config) a held piece c h) (sym still) (goes_on (x a.config) a held piece b held c held (goes_fed (x a.config) a piece fed b held live takes refl) later)
 
 -- a piece was taken, and the talk ended at what it delivered
 pub ends_cut : (says : Says) (a : Standing) (held held' : Option (List ℕ)) (piece : List ℕ) (fed : Standing) (end : TalkEnd)
-    → held' ≡ held → TakesInput says a piece fed → IsCut end → Ends says a held piece held' end
-ends_cut says a held held' piece fed end still takes cut = record {
+    → a.failed ≡ false → held' ≡ held → TakesInput says a piece fed → IsCut end → Ends says a held piece held' end
+ends_cut says a held held' piece fed end live still takes cut = record {
   at = fed;
-  goes = subst (λ h. Goes says a held piece fed h) (sym still) (goes_taken says a piece fed held takes);
+  goes = subst (λ h. Goes says a held piece fed h) (sym still) (goes_taken says a piece fed held live takes);
   well = cut.0 fed;
 }
 
 -- a piece was refused, and what was due before was written
 pub ends_refused : (says : Says) (a : Standing) (held held' : Option (List ℕ)) (piece : List ℕ) (fed new : Standing) (cause : RefusalCause) (end : TalkEnd)
-    → RefusesInput says a piece cause fed → (new ≡ record fed { output = [] }) × Appends fed.output held held' → ((at : Standing) → at.output ≡ [] → at.failed ≡ true → EndsWell end at) → Ends says a held piece held' end
-ends_refused says a held held' piece fed new cause end refuses sent well = record {
+    → a.failed ≡ false → RefusesInput says a piece cause fed → (new ≡ record fed { output = [] }) × Appends fed.output held held' → ((at : Standing) → at.output ≡ [] → at.failed ≡ true → EndsWell end at) → Ends says a held piece held' end
+ends_refused says a held held' piece fed new cause end live refuses sent well = record {
   at = new;
-  goes = goes_on says a held piece fed held new held' (goes_refused says a piece fed held cause refuses) (goes_sent says fed new held held' sent.0 sent.1);
+  goes = goes_on says a held piece fed held new held' (goes_refused says a piece fed held cause live refuses) (goes_sent says fed new held held' sent.0 sent.1);
   well = well new (ap (λ (t : Standing). t.output) sent.0) (ap (λ (t : Standing). t.failed) sent.0 ∙ refuses.failed);
 }
 
 -- and where the sink failed then
 pub ends_unsent : (says : Says) (a : Standing) (held held' : Option (List ℕ)) (piece : List ℕ) (fed : Standing) (cause : RefusalCause)
-    → RefusesInput says a piece cause fed → AppendsFront fed.output held held' → Ends says a held piece held' SinkFailed
-ends_unsent says a held held' piece fed cause refuses front = record {
+    → a.failed ≡ false → RefusesInput says a piece cause fed → AppendsFront fed.output held held' → Ends says a held piece held' SinkFailed
+ends_unsent says a held held' piece fed cause live refuses front = record {
   at = record fed { output = drop front.0 fed.output };
-  goes = goes_on says a held piece fed held (record fed { output = drop front.0 fed.output }) held' (goes_refused says a piece fed held cause refuses) (goes_front says fed held held' front);
+  goes = goes_on says a held piece fed held (record fed { output = drop front.0 fed.output }) held' (goes_refused says a piece fed held cause live refuses) (goes_front says fed held held' front);
   well = tt;
 }
 
@@ -375,9 +381,17 @@ takes_nothing n buffer (Some left) new z h = (left, refl, h.2 ∙ ap (λ (k : �
 pub takes_same : (old new : Option (List ℕ)) → new ≡ old → TakesFront [] old new
 takes_same old new is = subst (λ m. TakesFront [] old m) (sym is) (takes_none old)
 
-pub on_ok_sends : {A E : Type 0} (r : Result A E) (says : Says) (t : Standing) (payload : List ℕ) (new : Standing) → IsSaid payload → OnOk r (Submitted says t payload new) → OnOk r (Sends says t new)
-on_ok_sends (Ok a) says t payload new said h = sends_one says t payload new said h
-on_ok_sends (Err e) says t payload new said h = h
+ok_no_err : {A E : Type 0} (a : A) (e : E) → Ok a ≡ Err e → ⊥
+ok_no_err a e h = cc
+
+not_true : (b : Bool) → (b ≡ true → ⊥) → b ≡ false
+not_true true never = absurd (never refl)
+not_true false never = refl
+
+-- a side that has failed submits nothing
+pub on_ok_sends : {A E : Type 0} (r : Result A E) (e : E) (says : Says) (t : Standing) (payload : List ℕ) (new : Standing) → (t.failed ≡ true → r ≡ Err e) → IsSaid payload → OnOk r (Submitted says t payload new) → OnOk r (Sends says t new)
+on_ok_sends (Ok a) e says t payload new dead said h = sends_one says t payload new (not_true t.failed (λ f. ok_no_err a e (dead f))) said h
+on_ok_sends (Err f) e says t payload new dead said h = h
 
 pub some_weaker : {A : Type 0} (o : Option A) (P Q : A → Type 0) → ((x : A) → P x → Q x) → IfSome o P → IfSome o Q
 some_weaker None P Q f h = tt

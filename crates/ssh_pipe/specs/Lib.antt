@@ -1,4 +1,5 @@
 pub mod Commands
 pub mod Ends
 pub mod Desks
+pub mod Known
 pub mod Talks

@@ -1,9 +1,14 @@
 -- What is done with one side of a connection, move by move, and what of it was written.
-use Rattle.std.specs.Prelude.{◌≡◌, ℕ, List, [], ◌∷◌, ◌++◌, map, Option, true}
+use Rattle.std.specs.Prelude.{◌≡◌, ℕ, List, [], ◌∷◌, ◌++◌, map, Option, true, false}
 use Rattle.ssh_wire.specs.Outside.{Appends}
+use Rattle.ssh_wire.specs.declared.side.Side.{Side}
+use Rattle.ssh_wire.specs.declared.side.Side.TheVariants.{Client}
 use Rattle.ssh_kex.specs.Setting.{Says}
-use Rattle.ssh_rules.specs.Standing.{RefusalCause, RefusesInput, Standing, Submitted, TakesInput}
+use Rattle.ssh_kex.specs.declared.config.Config.{Config}
+use Rattle.ssh_rules.specs.Parts.{Accepting, Trusting}
+use Rattle.ssh_rules.specs.Standing.{IsNew, RefusalCause, RefusesInput, Standing, Submitted, TakesInput}
 use Rattle.ssh_pipe.specs.Desks.{IsSaid}
+use Rattle.ssh_pipe.specs.Known.{IsSignedClient}
 use Rattle.ssh_pipe.specs.declared.end.TalkEnd.{TalkEnd}
 use Rattle.ssh_pipe.specs.declared.end.TalkEnd.TheVariants.{Disconnected, Exhausted, Granted, InputEnded, NotServed, Refused, SinkFailed, SourceFailed}
 
@@ -13,11 +18,15 @@ pub data Move : Type 0 where
   FedLast : (piece : List ℕ) → Move
   Handed : (payload : List ℕ) → Move
 
--- a move leads from a side to another
+-- what a move says of the sides before and behind it
+abbrev pub MovesBy : Says → Standing → Move → Standing → Type 0
+MovesBy says old (Fed piece) new = TakesInput says old piece new
+MovesBy says old (FedLast piece) new = (cause : RefusalCause) × RefusesInput says old piece cause new
+MovesBy says old (Handed payload) new = IsSaid payload × Submitted says old payload new
+
+-- a move leads from a side to another; none is of a side that has failed
 abbrev pub Moves : Says → Standing → Move → Standing → Type 0
-Moves says old (Fed piece) new = TakesInput says old piece new
-Moves says old (FedLast piece) new = (cause : RefusalCause) × RefusesInput says old piece cause new
-Moves says old (Handed payload) new = IsSaid payload × Submitted says old payload new
+Moves says old m new = (old.failed ≡ false) × MovesBy says old m new
 
 -- moves, one after the other
 abbrev pub Follows : Says → Standing → List Move → Standing → Type 0
@@ -75,3 +84,12 @@ pub record Ends (says : Says) (old : Standing) (held : Option (List ℕ)) (fed :
 -- an end of which nothing is told
 abbrev pub IsCut : TalkEnd → Type 0
 IsCut end = ((at : Standing) → EndsWell end at) × (end ≡ InputEnded → ⊥)
+
+-- A new side of this configuration talked: it was fed these bytes, and what was written of its output, the sink holds.
+-- Where it is a client, each exchange that it finished was signed by a host that it trusts.
+pub record Talked (side : Side) (config : Config) (says : Says) (accepts : Accepting) (trusts : Trusting)
+    (held : Option (List ℕ)) (fed : List ℕ) (held' : Option (List ℕ)) (end : TalkEnd) : Type 0 where
+  pub start : Standing
+  pub new : IsNew side config start
+  pub ends : Ends says start held fed held' end
+  pub known : side ≡ Client → IsSignedClient accepts trusts says config fed ends.at

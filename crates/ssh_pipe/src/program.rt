@@ -4,8 +4,10 @@ ghost use Rattle.std.specs.Prelude.{◌≡◌, ◌≤◌, ◌^◌, List, ℕ, If
 ghost use Rattle.std.specs.Process.{exit_status};
 ghost use Rattle.ssh_wire.specs.Outside.{ReachesEnd, TakesFront};
 ghost use Rattle.ssh_program.specs.Statuses.{want_of_memory};
-ghost use Rattle.ssh_rules.specs.Standing.{IsNew, Standing};
-ghost use Rattle.ssh_pipe.specs.Talks.{Ends};
+ghost use Rattle.ssh_modp.specs.Hosts.{is_known};
+ghost use Rattle.ssh_modp.specs.Rsa.{rsa_accepts};
+ghost use Rattle.ssh_rules.specs.Standing.{IsNew};
+ghost use Rattle.ssh_pipe.specs.Talks.{Talked};
 ghost use Rattle.ssh_pipe.specs.declared.end.TalkEnd.TheVariants.{InputEnded};
 
 use crate::command::{PipeCommand, command_of};
@@ -149,7 +151,9 @@ fn set_up(
 }
 
 /// Talks as this side: a new one of this configuration is fed what is taken of the source, and what it writes goes into
-/// the sink.
+/// the sink. Each exchange that a client finished was signed, under the hash of that exchange, by the key of a host that
+/// is known (RFC 4253 section 8). The blob of that key and the signature stand in the reply that the client read, and
+/// the signature passes the test of RFC 8017 (RFC 8332).
 pub fn talk_as<S: Source, K: Sink, N: Sink>(
     alloc: Global,
     side: Side,
@@ -160,9 +164,9 @@ pub fn talk_as<S: Source, K: Sink, N: Sink>(
     notes: &mut N,
 ) -> TalkEnd
     ensures talked { (bytes : List ℕ) × TakesFront bytes (S.left source.old) (S.left source.new)
-        × ((start : Standing) × IsNew side config.now start
-        × Ends (⟦<Parts<FieldAgreement, RsaHosts, ModpGroups, ChaCha20Rng> as Handed>⟧.says config.now parts.old) start
-        (K.held sink.old) bytes (K.held sink.new) result) }
+        × Talked side config.now
+        (⟦<Parts<FieldAgreement, RsaHosts, ModpGroups, ChaCha20Rng> as Handed>⟧.says config.now parts.old) rsa_accepts
+        (is_known parts.old.hosts.known) (K.held sink.old) bytes (K.held sink.new) result }
     ensures whole { result ≡ InputEnded → ReachesEnd (S.left source.old) (S.left source.new) }
 {
     match opened(alloc, side, config) {
