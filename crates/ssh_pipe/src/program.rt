@@ -151,9 +151,9 @@ fn set_up(
 }
 
 /// Talks as this side: a new one of this configuration is fed what is taken of the source, and what it writes goes into
-/// the sink. Each exchange that a client finished was signed, under the hash of that exchange, by the key of a host that
-/// is known (RFC 4253 section 8). The blob of that key and the signature stand in the reply that the client read, and
-/// the signature passes the test of RFC 8017 (RFC 8332).
+/// the sink. Each exchange that a client finished was signed, under the hash of that exchange, by the key of a host
+/// that is known (RFC 4253 section 8). The blob of that key and the signature stand in the reply that the client read,
+/// and the signature passes the test of RFC 8017 (RFC 8332).
 pub fn talk_as<S: Source, K: Sink, N: Sink>(
     alloc: Global,
     side: Side,
