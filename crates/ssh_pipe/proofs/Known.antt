@@ -29,7 +29,8 @@ stands_more whole part more (before, behind, is) = (before, behind ++ more, ap (
 
 -- ---- where a side stands in what it was fed
 
--- Behind some bytes stand the packets that it read, and then what waits of the input; no packet before the version line.
+-- Behind some bytes stand the packets that it read, and then what waits of the input; no packet before the version
+-- line.
 abbrev StandsAt : IdReading → (fed done waiting : List ℕ) → Type 0
 StandsAt (Waiting bytes others) fed done waiting = (done ≡ []) × ((before : List ℕ) × (before ++ bytes ≡ fed))
 StandsAt (Heard text) fed done waiting = (before : List ℕ) × (before ++ (done ++ waiting) ≡ fed)

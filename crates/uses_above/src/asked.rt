@@ -56,8 +56,8 @@ impl From<AllocError> for AskFault {
 /// A client asks a server over one channel: it writes the request, the server reads it and writes the answer, and the
 /// client reads that (RFC 4254 sections 5.1 to 5.3). Each message is carried once, in its order. Whatever windows in
 /// their bounds both sides have, each side reads all that the other one wrote, and no call or message is refused. Both
-/// sides stand as the messages between them left them (`channel`). How many messages that takes isn't said. Config where
-/// a number of either side is out of its bounds. Else Channel with Memory.
+/// sides stand as the messages between them left them (`channel`). How many messages that takes isn't said. Config
+/// where a number of either side is out of its bounds. Else Channel with Memory.
 pub fn ask(
     alloc: Global,
     client: &MuxConfig,
