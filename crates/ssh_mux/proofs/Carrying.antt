@@ -15,7 +15,7 @@ use Rattle.ssh_run.specs.Stepping.{LinkState, TakesStep}
 use Rattle.ssh_wire.specs.declared.error.Error.{Error}
 use Rattle.ssh_wire.specs.declared.error.Error.TheVariants.{Disconnect}
 use Rattle.ssh_mux.specs.Breaking.{Breaks}
-use Rattle.ssh_mux.specs.Running.{Both, Called, Carried, Received, ReceivesNew, Stepped, Submitted, state_at, side_at, with_state, Carries, CarriesBy, IsBrokenOff, IsLinkFault, PairOnLink, is_submit, RefusesStep, RunsSteps, TakesAll, LinkGoes, step_fault}
+use Rattle.ssh_mux.specs.Running.{Both, Called, Carried, Received, ReceivesNew, Stepped, Submitted, state_at, side_at, with_state, Carries, CarriesBy, CarriesFor, DeliversNone, IsBrokenOff, IsLinkFault, PairOnLink, is_submit, RefusesStep, RunsSteps, TakesAll, LinkGoes, step_fault}
 use Rattle.ssh_mux.specs.declared.fault.RunFault.{RunFault}
 use Rattle.ssh_mux.specs.declared.fault.RunFault.TheVariants.{Mux}
 use Rattle.ssh_mux.specs.declared.step.ChannelStep.{ChannelStep}
@@ -69,7 +69,7 @@ pub breaks_so : {A : Type 0} (r : Result A MuxFault) (all payloads : List (List 
 breaks_so r all payloads old fault e is h = subst (λ x. IfErr x (λ f. Breaks payloads old f)) (sym e) (subst (λ l. Breaks l old fault) is h)
 
 -- one step, and some behind others
-pub one_step : (step : ChannelStep) (old : PairOnLink) (called : Both) (new : PairOnLink) → Called step old.both called → Carries (record { both = called; link = old.link }) new → RunsSteps (step ∷ []) old new
+pub one_step : (step : ChannelStep) (old : PairOnLink) (called : Both) (new : PairOnLink) → Called step old.both called → CarriesFor step (record { both = called; link = old.link }) new → RunsSteps (step ∷ []) old new
 one_step step old called new h k = (called, new, h, k, refl)
 
 pub runs_then : (steps more : List ChannelStep) (old mid new : PairOnLink) → RunsSteps steps old mid → RunsSteps more mid new → RunsSteps (steps ++ more) old new
@@ -156,10 +156,18 @@ step_grew c s (steps.Rekey Client) old new h = (grew_none old.client new.client 
 step_grew c s (steps.Rekey Server) old new h = (grew_same old.client new.client h.1, grew_none old.server new.server h.0.delivered)
 step_grew c s steps.Settle old new h = turns_grew c s h.times old new h.turns
 
+-- a submit delivers nothing
+step_delivers_none : (step : Step) (c s : Says) (old new : LinkState) → StepsLink c s step old.carried new.carried → is_submit step ≡ true → DeliversNone old new
+step_delivers_none (steps.Submit Client p) c s old new h e = (h.0.delivered, ap (λ (x : CarriedEnd). x.delivered) h.1)
+step_delivers_none (steps.Submit Server p) c s old new h e = (ap (λ (x : CarriedEnd). x.delivered) h.1, h.0.delivered)
+step_delivers_none (steps.Deliver side n) c s old new h e = absurd (let z : false ≡ true = e in cc)
+step_delivers_none (steps.Rekey side) c s old new h e = absurd (let z : false ≡ true = e in cc)
+step_delivers_none steps.Settle c s old new h e = absurd (let z : false ≡ true = e in cc)
+
 link_goes : (step : Step) (c s : Says) (old new : LinkState) → TakesStep c s step old new → LinkGoes step old new
 link_goes step c s old new t =
     let g = step_grew c s step old.carried new.carried t.link in
-    record { steps = t.steps; marks = t.marks; to_client = g.0; to_server = g.1 }
+    record { steps = t.steps; marks = t.marks; to_client = g.0; to_server = g.1; none = step_delivers_none step c s old new t.link }
 
 -- the link carried out a step that it didn't refuse
 pub one_link_step : (step : Step) (client server : Says) (old new : LinkState) (x : Unit) → (old.refused ≡ true → (let r : Result Unit Error = Ok x in r) ≡ Err Disconnect)

@@ -369,7 +369,7 @@ carries_before (mid ∷ mids) a b h = before_then a.link mid.link b.link (carrie
 
 runs_before : (steps : List ChannelStep) (a b : PairOnLink) → RunsSteps steps a b → IsBefore a.link b.link
 runs_before [] a b e = subst (λ (x : PairOnLink). IsBefore a.link x.link) (sym e) (before_self a.link)
-runs_before (step ∷ steps) a b h = before_then a.link h.1.link b.link (carries_before h.3.0 (record { both = h.0; link = a.link }) h.1 h.3.1) (runs_before steps h.1 b h.4)
+runs_before (step ∷ steps) a b h = before_then a.link h.1.link b.link (carries_before h.3.carries.0 (record { both = h.0; link = a.link }) h.1 h.3.carries.1) (runs_before steps h.1 b h.4)
 
 last_of : {A : Type 0} (l : List A) (x : A) (n : ℕ) → length l ≡ n → slice_get (l ++ x ∷ []) n ≡ Some x
 last_of [] x zero e = refl
@@ -407,7 +407,7 @@ at_called w m v k (Some call) old new x h = at_call w m v k old new call.0 call.
 at_steps : (w m v k : ℕ) → AreSettings w m v k → (last : LinkState) → MakesHonest last → (steps : List ChannelStep) (old new : PairOnLink) → IsMarkedLink old.link → IsBefore new.link last → IsAtMoment w m v k old → RunsSteps steps old new → IsAtMoment w m v k new
 at_steps w m v k are last honest [] old new marked before x e = subst (IsAtMoment w m v k) (sym e) x
 at_steps w m v k are last honest (step ∷ steps) old new marked before x h =
-    let c = at_carries w m v k are last honest h.3.0 (record { both = h.0; link = old.link }) h.1 marked (before_then h.1.link new.link last (runs_before steps h.1 new h.4) before) (at_called w m v k (request_of step) old h.0 x h.2) h.3.1 in
+    let c = at_carries w m v k are last honest h.3.carries.0 (record { both = h.0; link = old.link }) h.1 marked (before_then h.1.link new.link last (runs_before steps h.1 new h.4) before) (at_called w m v k (request_of step) old h.0 x h.2) h.3.carries.1 in
     at_steps w m v k are last honest steps h.1 new c.1 before c.0 h.4
 
 -- ---- a whole run
@@ -468,7 +468,7 @@ carries_marked (mid ∷ mids) a b m h = carries_marked mids mid b (carried_marke
 
 runs_marked : (steps : List ChannelStep) (a b : PairOnLink) → IsMarkedLink a.link → RunsSteps steps a b → IsMarkedLink b.link
 runs_marked [] a b m e = subst (λ (y : PairOnLink). IsMarkedLink y.link) (sym e) m
-runs_marked (step ∷ steps) a b m h = runs_marked steps h.1 b (carries_marked h.3.0 (record { both = h.0; link = a.link }) h.1 m h.3.1) h.4
+runs_marked (step ∷ steps) a b m h = runs_marked steps h.1 b (carries_marked h.3.carries.0 (record { both = h.0; link = a.link }) h.1 m h.3.carries.1) h.4
 
 -- a payload that was delivered is refused only where memory is wanting
 now_unbroken : (w m v k : ℕ) → AreSettings w m v k → (s : PairOnLink) (fault : RunFault) → IsHonest s.link → IsAtMoment w m v k s → BreaksNow fault s → IsNoMessageFault fault

@@ -7,3 +7,4 @@ pub mod Mild
 pub mod OnTime
 pub mod Honesty
 pub mod Settling
+pub mod Doing

@@ -8,3 +8,4 @@ pub mod Program
 pub mod Alike
 pub mod Linking
 pub mod Breaking
+pub mod Doing

@@ -1,5 +1,5 @@
 -- What calls and payloads do to both sides of a run.
-use Rattle.std.specs.Prelude.{◌≡◌, ℕ, ◌≤◌, Bool, true, false, List, [], ◌∷◌, ◌++◌, ◌⊎◌, drop, length, max, Option, Some, None}
+use Rattle.std.specs.Prelude.{◌≡◌, ℕ, ◌+◌, ◌≤◌, Bool, true, false, List, [], ◌∷◌, ◌++◌, ◌⊎◌, drop, length, max, replicate, Option, Some, None}
 use Rattle.ssh_wire.specs.Sides.{other_side}
 use Rattle.ssh_wire.specs.declared.side.Side.{Side}
 use Rattle.ssh_wire.specs.declared.side.Side.TheVariants.{Client, Server}
@@ -102,19 +102,24 @@ pub record ReceivesNew (side : Side) (delivered : List (List ℕ)) (old new : Bo
   pub received : (side_at side new).received ≡ max (side_at side old).received (length delivered)
   pub other : side_at (other_side side) new ≡ side_at (other_side side) old
 
--- The link carried out a step: it stands behind what was carried out before, with one mark more, and what it delivered
--- stays.
-pub record LinkGoes (step : Step) (old new : LinkState) : Type 0 where
-  pub steps : new.steps ≡ old.steps ++ step ∷ []
-  pub marks : new.marks ≡ old.marks ++ both_marks new.carried ∷ []
-  pub to_client : HasFront new.carried.client.delivered old.carried.client.delivered
-  pub to_server : HasFront new.carried.server.delivered old.carried.server.delivered
-
 abbrev pub is_submit : Step → Bool
 is_submit (steps.Submit side payload) = true
 is_submit (steps.Deliver side count) = false
 is_submit (steps.Rekey side) = false
 is_submit steps.Settle = false
+
+-- what the link delivered to each side is what it had delivered
+abbrev pub DeliversNone : (old new : LinkState) → Type 0
+DeliversNone old new = (new.carried.client.delivered ≡ old.carried.client.delivered) × (new.carried.server.delivered ≡ old.carried.server.delivered)
+
+-- The link carried out a step: it stands behind what was carried out before, with one mark more, and what it delivered
+-- stays. A submit delivers nothing.
+pub record LinkGoes (step : Step) (old new : LinkState) : Type 0 where
+  pub steps : new.steps ≡ old.steps ++ step ∷ []
+  pub marks : new.marks ≡ old.marks ++ both_marks new.carried ∷ []
+  pub to_client : HasFront new.carried.client.delivered old.carried.client.delivered
+  pub to_server : HasFront new.carried.server.delivered old.carried.server.delivered
+  pub none : is_submit step ≡ true → DeliversNone old new
 
 -- A side received what was delivered to it, the first message that it made was submitted, or the link carried out
 -- another step.
@@ -154,12 +159,61 @@ pub record LeavesNone (s : PairOnLink) : Type 0 where
   pub to_server : length (delivered_at Server s.link) ≤ s.both.server.received
   pub settled : (before : List Step) × (s.link.steps ≡ before ++ steps.Settle ∷ [])
 
--- Steps: the call of each, where it makes one, was answered, and behind it both sides only received what was
--- delivered, and the link carried what they made.
+-- some steps of a link without its submits
+abbrev pub but_submits : List Step → List Step
+but_submits [] = []
+but_submits (steps.Submit side payload ∷ l) = but_submits l
+but_submits (steps.Deliver side count ∷ l) = steps.Deliver side count ∷ but_submits l
+but_submits (steps.Rekey side ∷ l) = steps.Rekey side ∷ but_submits l
+but_submits (steps.Settle ∷ l) = steps.Settle ∷ but_submits l
+
+-- the link carried out these steps, and else only submits
+abbrev pub CarriesOut : List Step → (old new : LinkState) → Type 0
+CarriesOut done old new = but_submits new.steps ≡ but_submits old.steps ++ done
+
+-- All that a side made was submitted, and the link carried out nothing else.
+pub record SubmitsMade (side : Side) (old new : PairOnLink) : Type 0 where
+  pub emptied : IsEmptied side old.both new.both
+  pub link : CarriesOut [] old.link new.link
+
+-- The link delivered to a side once. The side received all that was delivered to it, and what it made was submitted.
+pub record DeliversOnce (side : Side) (count : ℕ) (old new : PairOnLink) : Type 0 where
+  pub received : HasReceived side new.link old.both new.both
+  pub link : CarriesOut (steps.Deliver side count ∷ []) old.link new.link
+
+-- A side of the link asked for new keys once. Both sides of channels are as they were.
+pub record RekeysOnce (side : Side) (old new : PairOnLink) : Type 0 where
+  pub same : new.both ≡ old.both
+  pub link : CarriesOut (steps.Rekey side ∷ []) old.link new.link
+
+-- The link settled, once or more. Both sides received all that was delivered to them, and what they made was submitted.
+pub record SettlesBoth (old new : PairOnLink) : Type 0 where
+  pub none : LeavesNone new
+  pub turns : ℕ
+  pub link : CarriesOut (replicate (turns + 1) steps.Settle) old.link new.link
+
+-- what a step asks for was done behind its call
+abbrev pub DoesStep : ChannelStep → (old new : PairOnLink) → Type 0
+DoesStep (Start side) old new = SubmitsMade side old new
+DoesStep (Write side channel bytes) old new = SubmitsMade side old new
+DoesStep (Read side channel n) old new = SubmitsMade side old new
+DoesStep (Eof side channel) old new = SubmitsMade side old new
+DoesStep (Close side channel) old new = SubmitsMade side old new
+DoesStep (Deliver side count) old new = DeliversOnce side count old new
+DoesStep (Rekey side) old new = RekeysOnce side old new
+DoesStep Settle old new = SettlesBoth old new
+
+-- Behind the call of a step both sides only received what was delivered, and the link carried what they made. What the
+-- step asks for was done, and nothing else.
+pub record CarriesFor (step : ChannelStep) (old new : PairOnLink) : Type 0 where
+  pub carries : Carries old new
+  pub does : DoesStep step old new
+
+-- Steps: the call of each, where it makes one, was answered, and behind it what the step asks for was carried.
 abbrev pub RunsSteps : List ChannelStep → (old new : PairOnLink) → Type 0
 RunsSteps [] old new = new ≡ old
 RunsSteps (step ∷ steps) old new =
-    (called : Both) × (mid : PairOnLink) × Called step old.both called × Carries (record { both = called; link = old.link }) mid × RunsSteps steps mid new
+    (called : Both) × (mid : PairOnLink) × Called step old.both called × CarriesFor step (record { both = called; link = old.link }) mid × RunsSteps steps mid new
 
 -- whether a side refused a call by what its caller did
 abbrev pub is_call_fault : MuxFault → Bool

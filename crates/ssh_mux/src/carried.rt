@@ -1,9 +1,10 @@
 //! The link, with the parts of both sides.
 
-ghost use Rattle.std.specs.Prelude.{◌≡◌, IfErr, IfOk, OnOk, false, true};
+ghost use Rattle.std.specs.Prelude.{◌≡◌, IfErr, IfOk, OnOk, ◌∷◌, [], false, true};
 ghost use Rattle.ssh_rules.specs.declared.link.Step.TheVariants as steps;
 ghost use Rattle.ssh_mux.specs.Breaking.{BreaksAt, IsNoMessageFault, is_message_refused};
-ghost use Rattle.ssh_mux.specs.Running.{Carries, HasReceived, IsEmptied, IsLinkFault, LeavesNone, LinkGoes, both_of, is_submit, on_link};
+ghost use Rattle.ssh_mux.specs.Doing.{OnlySubmits};
+ghost use Rattle.ssh_mux.specs.Running.{Carries, CarriesOut, HasReceived, IsEmptied, IsLinkFault, LeavesNone, LinkGoes, both_of, is_submit, on_link};
 
 use crate::fault::RunFault;
 use crate::linked::Linked;
@@ -56,6 +57,7 @@ fn submit_one<'c, A: Agreement, H: HostKeys, G: GroupLookup, R: Rng>(
 }
 
 /// Submits what a side made, each message as a step. Whether there was any: else the link is as it was.
+#[tactic(auto, using(crate::proofs::Doing::only_none))]
 pub(crate) fn submit_made<'c, A: Agreement, H: HostKeys, G: GroupLookup, R: Rng>(
     link: &mut Link<'c>,
     client_parts: &mut Parts<A, H, G, R>,
@@ -64,6 +66,7 @@ pub(crate) fn submit_made<'c, A: Agreement, H: HostKeys, G: GroupLookup, R: Rng>
     side: Side,
 ) -> Result<bool, RunFault>
     ensures carries { OnOk result (Carries (on_link pair.old link.old) (on_link pair.new link.new)) }
+    ensures submits { OnOk result (OnlySubmits link.old link.new) }
     ensures emptied { OnOk result (IsEmptied side (both_of pair.old) (both_of pair.new)) }
     ensures still { IfOk result (λ some. some ≡ false → link.new ≡ link.old) }
     ensures fault { IfErr result IsLinkFault }
@@ -91,6 +94,7 @@ pub(crate) fn receive_delivered<'c, A: Agreement, H: HostKeys, G: GroupLookup, R
     side: Side,
 ) -> Result<bool, RunFault>
     ensures carries { OnOk result (Carries (on_link pair.old link.old) (on_link pair.new link.new)) }
+    ensures submits { OnOk result (OnlySubmits link.old link.new) }
     ensures received { OnOk result (HasReceived side link.old (both_of pair.old) (both_of pair.new)) }
     ensures still { IfOk result (λ some. some ≡ false → link.new ≡ link.old) }
     ensures fault { IfErr result IsLinkFault }
@@ -115,6 +119,7 @@ pub(crate) fn carry_all<'c, A: Agreement, H: HostKeys, G: GroupLookup, R: Rng>(
     pair: &mut Pair,
 ) -> Result<bool, RunFault>
     ensures carries { OnOk result (Carries (on_link pair.old link.old) (on_link pair.new link.new)) }
+    ensures settles { OnOk result (CarriesOut (steps.Settle ∷ []) link.old link.new) }
     ensures settled { IfOk result (λ some. some ≡ false → LeavesNone (on_link pair.new link.new)) }
     ensures fault { IfErr result IsLinkFault }
     ensures goes { OnOk result (⟦<Parts<A, H, G, R> as Linked>⟧.goes_on link.old client_parts.old server_parts.old

@@ -1,8 +1,15 @@
 //! Laws of runs of channels, for callers and proofs above to cite.
 
+ghost use Rattle.ssh_mux.specs.Doing.{RunsInOrder};
 ghost use Rattle.ssh_mux.specs.Honesty.{RunsAreTalks, RunsFlow, RunsSettle};
 
 use ssh_kex::Agreement;
+
+/// In a run from its first step, the link carries out each `Deliver` and each `Rekey` that was given, in order, and a
+/// `Settle` once or more. Beside these it only submits. Nothing that a side made is left behind the last step.
+pub fn runs_in_order()
+    ensures { RunsInOrder }
+{}
 
 /// Where the link of a run's report is a link between two sides (as `run_channels` says of lawful parts), both sides
 /// are those of a moment of two sides over an honest carrier: what is on the way to a side is what the other made and

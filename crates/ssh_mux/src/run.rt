@@ -5,6 +5,7 @@ ghost use Rattle.ssh_kex.specs.Parts.{between};
 ghost use Rattle.ssh_rules.specs.Headline.{IsLink};
 ghost use Rattle.ssh_channels.specs.Asking.{IsRefused};
 ghost use Rattle.ssh_mux.specs.Breaking.{BreaksAt, BreaksRun, IsNoMessageFault, is_message_refused};
+ghost use Rattle.ssh_mux.specs.Doing.{DoesCall, SettlesSome, link_call};
 ghost use Rattle.ssh_mux.specs.Pairs.{are_within, new_pair};
 ghost use Rattle.ssh_mux.specs.Program.{HasBefore, IsRefusedRun, IsWholeRun};
 ghost use Rattle.ssh_mux.specs.Running.{Called, Carries, IsBrokenOff, IsEndBehind, IsLinkFault, LeavesNone, RefusesStep, RunsSteps, both_of, is_call_refused, on_link, step_fault};
@@ -214,6 +215,7 @@ fn carry<'c, A: Agreement, H: HostKeys, G: GroupLookup, R: Rng>(
     behind: LinkCall,
 ) -> Result<(), RunFault>
     ensures carries { OnOk result (Carries (on_link pair.old link.old) (on_link pair.new link.new)) }
+    ensures does { OnOk result (DoesCall behind (on_link pair.old link.old) (on_link pair.new link.new)) }
     ensures settled { behind ≡ settle_behind → OnOk result (LeavesNone (on_link pair.new link.new)) }
     ensures fault { IfErr result IsLinkFault }
     ensures goes { OnOk result (⟦<Parts<A, H, G, R> as Linked>⟧.goes_on link.old client_parts.old server_parts.old
@@ -243,7 +245,7 @@ fn carry<'c, A: Agreement, H: HostKeys, G: GroupLookup, R: Rng>(
 }
 
 /// Carries all until no message is made. Then nothing is on the way.
-#[tactic(auto, using(crate::proofs::Carrying::carries_then))]
+#[tactic(auto, using(crate::proofs::Carrying::carries_then, crate::proofs::Doing::any_none))]
 fn settle<'c, A: Agreement, H: HostKeys, G: GroupLookup, R: Rng>(
     link: &mut Link<'c>,
     client_parts: &mut Parts<A, H, G, R>,
@@ -251,6 +253,7 @@ fn settle<'c, A: Agreement, H: HostKeys, G: GroupLookup, R: Rng>(
     pair: &mut Pair,
 ) -> Result<(), RunFault>
     ensures carries { OnOk result (Carries (on_link pair.old link.old) (on_link pair.new link.new)) }
+    ensures settles { OnOk result (SettlesSome link.old link.new) }
     ensures settled { OnOk result (LeavesNone (on_link pair.new link.new)) }
     ensures fault { IfErr result IsLinkFault }
     ensures goes { OnOk result (⟦<Parts<A, H, G, R> as Linked>⟧.goes_on link.old client_parts.old server_parts.old
@@ -283,6 +286,7 @@ enum LinkCall {
 fn call(pair: &mut Pair, step: &ChannelStep) -> Result<LinkCall, MuxFault>
     ensures ok { OnOk result (Called step.now (both_of pair.old) (both_of pair.new)) }
     ensures settles { IfOk result (λ behind. step.now ≡ settle_step → behind ≡ settle_behind) }
+    ensures asks { IfOk result (λ behind. behind ≡ link_call step.now) }
     ensures refused { IfErr result (λ f. IsRefused (step_fault step.now (both_of pair.old)) f
         (both_of pair.new ≡ both_of pair.old)) }
 {

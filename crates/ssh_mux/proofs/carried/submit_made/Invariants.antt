@@ -1,6 +1,7 @@
 use Rattle.std.proofs.Common.{◌≡◌, [], false}
 use Rattle.ssh_kex.specs.Parts.{KeepsAgreement, KeepsGroups, KeepsHosts, KeepsParts}
 use Rattle.ssh_kex.specs.Stepping.{says_of}
+use Rattle.ssh_mux.specs.Doing.{OnlySubmits}
 use Rattle.ssh_mux.specs.Linking.{TakesSteps}
 use Rattle.ssh_mux.specs.Running.{Carries, both_of, on_link, state_at}
 use Rattle.ssh_mux.proofs.Carrying.{still_made}
@@ -10,6 +11,7 @@ abbrev pub invariant-loop-payload : goal.invariant-loop-payload
 invariant-loop-payload g l = record {
   none : (state_at l.side (both_of l.pair)).made ≡ [];
   carries : Carries (on_link l.fn.pair l.fn.link) (record { both = still_made l.side l.payload-iterator.rest.items (both_of l.pair); link = l.link });
+  submits : OnlySubmits l.fn.link l.link;
   none_left : l.some ≡ false → l.payload-iterator.rest.items ≡ [];
   still : l.some ≡ false → l.link ≡ l.fn.link;
   goes : TakesSteps

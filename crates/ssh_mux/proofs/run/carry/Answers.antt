@@ -2,6 +2,7 @@ use Rattle.std.proofs.Common.{refl, rules}
 use Rattle.ssh_mux.specs.Running.{both_of, on_link}
 use Rattle.ssh_mux.proofs.Breaking.{breaks_behind, broken_so}
 use Rattle.ssh_mux.proofs.Carrying.{carries_then, steps_on}
+use Rattle.ssh_mux.proofs.Doing.{call_done, delivers_once, rekeys_once, settle_done, submits_made}
 use Rattle.ssh_mux.proofs.Linking.{goes_then}
 use Rattle.ssh_mux.proofs.run.carry.Goals as goal
 
@@ -11,6 +12,21 @@ returns-in_ok-receive_delivered-in-Deliver-clause-carries g c = carries_then (on
 
 pub returns-in_ok-step_link-in-Rekey-clause-carries : goal.returns-in_ok-step_link-in-Rekey-clause-carries
 returns-in_ok-step_link-in-Rekey-clause-carries g c = steps_on (both_of c.args.pair.now) _ c.args.link.now c.step_link-in-Rekey.new.link refl c.in_ok-step_link-in-Rekey.ensures.step
+
+pub returns-in_ok-submit_made-in-Submit-clause-does : goal.returns-in_ok-submit_made-in-Submit-clause-does
+returns-in_ok-submit_made-in-Submit-clause-does g c = call_done c.args.behind _ (on_link c.args.pair.now c.args.link.now) (on_link c.submit_made.new.pair c.submit_made.new.link) c.in-Submit.is
+    (submits_made c.in-Submit.side (on_link c.args.pair.now c.args.link.now) (on_link c.submit_made.new.pair c.submit_made.new.link) c.in_ok-submit_made-in-Submit.ensures.emptied c.in_ok-submit_made-in-Submit.ensures.submits)
+
+pub returns-in_ok-receive_delivered-in-Deliver-clause-does : goal.returns-in_ok-receive_delivered-in-Deliver-clause-does
+returns-in_ok-receive_delivered-in-Deliver-clause-does g c = call_done c.args.behind _ (on_link c.args.pair.now c.args.link.now) (on_link c.receive_delivered.new.pair c.receive_delivered.new.link) c.in-Deliver.is
+    (delivers_once c.in-Deliver.side c.in-Deliver.count (on_link c.args.pair.now c.args.link.now) c.step_link.new.link (on_link c.receive_delivered.new.pair c.receive_delivered.new.link) c.in_ok-step_link-in-Deliver.ensures.step c.in_ok-receive_delivered-in-Deliver.ensures.submits c.in_ok-receive_delivered-in-Deliver.ensures.received)
+
+pub returns-in_ok-step_link-in-Rekey-clause-does : goal.returns-in_ok-step_link-in-Rekey-clause-does
+returns-in_ok-step_link-in-Rekey-clause-does g c = call_done c.args.behind _ (on_link c.args.pair.now c.args.link.now) (on_link c.args.pair.now c.step_link-in-Rekey.new.link) c.in-Rekey.is
+    (rekeys_once c.in-Rekey.side (both_of c.args.pair.now) c.args.link.now c.step_link-in-Rekey.new.link c.in_ok-step_link-in-Rekey.ensures.step)
+
+pub returns-in-Settle-clause-does : goal.returns-in-Settle-clause-does
+returns-in-Settle-clause-does g c = settle_done c.settle.result c.args.behind (on_link c.args.pair.now c.args.link.now) (on_link c.settle.new.pair c.settle.new.link) c.in-Settle.is c.settle.ensures.settled c.settle.ensures.settles
 
 pub returns-in_ok-receive_delivered-in-Deliver-clause-goes : goal.returns-in_ok-receive_delivered-in-Deliver-clause-goes
 returns-in_ok-receive_delivered-in-Deliver-clause-goes g c = goes_then g.A.Agreement.client_makes g.A.Agreement.server_makes g.A.Agreement.agrees g.H.HostKeys.makes c.args.link.now c.step_link.new.link c.receive_delivered.new.link c.step_link.ensures.client_keeps c.step_link.ensures.server_keeps c.in_ok-step_link-in-Deliver.ensures.goes c.in_ok-receive_delivered-in-Deliver.ensures.goes

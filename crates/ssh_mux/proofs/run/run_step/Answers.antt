@@ -1,7 +1,11 @@
 use Rattle.std.proofs.Common.{rules}
 use Rattle.ssh_mux.specs.Running.{both_of, on_link}
 use Rattle.ssh_mux.proofs.Breaking.{call_breaks, step_breaks}
+use Rattle.ssh_mux.proofs.Doing.{step_runs}
 use Rattle.ssh_mux.proofs.run.run_step.Goals as goal
+
+pub returns-clause-run : goal.returns-clause-run
+returns-clause-run g c = step_runs c.carry.result c.args.step.now _ (on_link c.args.pair.now c.args.link.now) (both_of c.call.new.pair) (on_link c.carry.new.pair c.carry.new.link) c.in_ok-behind.ensures.ok c.in_ok-behind.ensures.asks c.carry.ensures.carries c.carry.ensures.does
 
 pub returns-in_err-behind-clause-breaks : goal.returns-in_err-behind-clause-breaks
 returns-in_err-behind-clause-breaks g c = call_breaks c.from_residual.result c.args.step.now (both_of c.args.pair.now) c.in_err-behind.field-0.0 _ _ (search rules) c.in_err-behind.ensures.refused

@@ -2,15 +2,20 @@ use Rattle.std.proofs.Common.{rules}
 use Rattle.ssh_mux.specs.Running.{on_link}
 use Rattle.ssh_mux.proofs.Breaking.{breaks_behind, broken_so}
 use Rattle.ssh_mux.proofs.Carrying.{carries_then}
+use Rattle.ssh_mux.proofs.Doing.{any_more, some_more}
 use Rattle.ssh_mux.proofs.Linking.{goes_then, parts_after}
 use Rattle.ssh_mux.proofs.run.settle.Goals as goal
 
 pub returns-then-not-branch-clause-carries : goal.returns-then-not-branch-clause-carries
 returns-then-not-branch-clause-carries g c = carries_then (on_link c.args.pair.now c.args.link.now) (on_link c.loop-turn.pair c.loop-turn.link) (on_link c.carry_all.new.pair c.carry_all.new.link) c.loop-turn.invariant.carries c.in_ok-carry_all.ensures.carries
 
+pub returns-then-not-branch-clause-settles : goal.returns-then-not-branch-clause-settles
+returns-then-not-branch-clause-settles g c = some_more c.args.link.now c.loop-turn.link c.carry_all.new.link c.loop-turn.invariant.settles c.in_ok-carry_all.ensures.settles
+
 pub loop-turn-preserved : goal.loop-turn-preserved
 loop-turn-preserved g c = record {
   carries = carries_then (on_link c.args.pair.now c.args.link.now) (on_link c.loop-turn.pair c.loop-turn.link) (on_link c.carry_all.new.pair c.carry_all.new.link) c.loop-turn.invariant.carries c.in_ok-carry_all.ensures.carries;
+  settles = any_more c.args.link.now c.loop-turn.link c.carry_all.new.link c.loop-turn.invariant.settles c.in_ok-carry_all.ensures.settles;
   goes = goes_then g.A.Agreement.client_makes g.A.Agreement.server_makes g.A.Agreement.agrees g.H.HostKeys.makes c.args.link.now c.loop-turn.link c.carry_all.new.link c.loop-turn.invariant.client_keeps c.loop-turn.invariant.server_keeps c.loop-turn.invariant.goes c.in_ok-carry_all.ensures.goes;
   client_keeps = parts_after c.loop-turn.invariant.client_keeps c.carry_all.ensures.client_keeps;
   server_keeps = parts_after c.loop-turn.invariant.server_keeps c.carry_all.ensures.server_keeps;
