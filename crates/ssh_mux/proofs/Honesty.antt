@@ -1,5 +1,5 @@
 -- Over an honest link, both sides of a run are those of a moment of two sides over an honest carrier.
-use Rattle.std.proofs.Common.{◌≡◌, ℕ, zero, suc, ◌^◌, ◌≤◌, Bool, true, false, if◌then◌else◌, List, [], ◌∷◌, ◌++◌, length, map, drop, slice_get, Option, Some, None, Result, Ok, refl, sym, ap, ◌∙◌, subst, append_assoc, append-nil, length-append, arith}
+use Rattle.std.proofs.Common.{◌≡◌, ℕ, zero, suc, ◌+◌, ◌^◌, ◌≤◌, Bool, true, false, if◌then◌else◌, List, [], ◌∷◌, ◌++◌, length, map, drop, slice_get, Option, Some, None, Result, Ok, refl, sym, ap, ◌∙◌, subst, append_assoc, append-nil, length-append, arith}
 use Rattle.std.proofs.lemmas.Bool.{and_parts, leb-true}
 use Rattle.ssh_wire.specs.Sides.{other_side, same_side}
 use Rattle.ssh_wire.specs.declared.side.Side.{Side}
@@ -17,7 +17,8 @@ use Rattle.ssh_channels.specs.Formats.{PacketFault, packet_of, packet_text}
 use Rattle.ssh_channels.specs.Laws.{AreSettings}
 use Rattle.ssh_channels.specs.Muxes.{Asks, Channel, Mux, Packet, Request, Takes}
 use Rattle.ssh_talks.specs.Talks.{Asked, Came, FlowsWell, Happens, HappensOn, MuxPair, both_new, mux_of, way_to, with_mux}
-use Rattle.ssh_talks.proofs.Lemmas.{channels_flow, no_payload_refused}
+use Rattle.ssh_talks.specs.Making.{added_by, still_made}
+use Rattle.ssh_talks.proofs.Lemmas.{asking_adds, channels_flow, hearing_lowers, no_payload_refused}
 use Rattle.ssh_mux.specs.Honesty.{IsHonest, IsPairAt, RunsAreTalks, RunsFlow, new_muxes}
 use Rattle.ssh_mux.proofs.OnTime.{IsBefore, IsMarkedLink, MakesHonest, link_honest}
 use Rattle.ssh_mux.specs.Pairs.{are_within}
@@ -45,6 +46,10 @@ map_more : {A B : Type 0} (f : A → B) (xs ys : List A) → map f (xs ++ ys) �
 map_more f [] ys = refl
 map_more f (x ∷ xs) ys = ap (λ l. f x ∷ l) (map_more f xs ys)
 
+as_long : {A B : Type 0} (f : A → B) (l : List A) → length (map f l) ≡ length l
+as_long f [] = refl
+as_long f (x ∷ l) = ap suc (as_long f l)
+
 -- a list whose elements give these begins with one that gives the first
 record Begins {A B : Type 0} (f : A → B) (l : List A) (x : B) (xs : List B) : Type 0 where
   pub head : A
@@ -59,7 +64,7 @@ begins f (y ∷ l) x xs e = record { head = y; tail = l; is = refl; head_is = (l
 
 -- ---- what is submitted
 
-submitted_on : (side : Side) (steps : List Step) (step : Step) → submitted_by side (steps ++ step ∷ []) ≡ submitted_by side steps ++ submitted_by side (step ∷ [])
+pub submitted_on : (side : Side) (steps : List Step) (step : Step) → submitted_by side (steps ++ step ∷ []) ≡ submitted_by side steps ++ submitted_by side (step ∷ [])
 submitted_on side [] step = refl
 submitted_on side (Submit s p ∷ steps) step = on (same_side s side) (submitted_on side steps step)
   where
@@ -110,7 +115,7 @@ happens_more (mid ∷ mids) start b new h k = (h.0, happens_more mids mid b new 
 -- ---- a side receives payloads
 
 -- A side has received all of some payloads.
-record HasTakenAll (w m v k : ℕ) (side : Side) (b : MuxPair) (new : MuxState) (rest pre : List (List ℕ)) : Type 0 where
+record HasTakenAll (w m v k : ℕ) (side : Side) (b : MuxPair) (old new : MuxState) (rest pre : List (List ℕ)) : Type 0 where
   pub mids : List MuxPair
   pub pair : MuxPair
   pub happens : HappensOn mids (both_new w m v k) pair
@@ -118,13 +123,15 @@ record HasTakenAll (w m v k : ℕ) (side : Side) (b : MuxPair) (new : MuxState) 
   pub other : mux_of (other_side side) pair ≡ mux_of (other_side side) b
   pub way : map (λ p. packet_text p) (way_to side pair) ≡ rest
   pub back : map (λ p. packet_text p) (way_to (other_side side) pair) ≡ pre ++ new.made
+  pub fewer : still_made pair + length new.made ≤ still_made b + length old.made
+  pub more : length old.made ≤ length new.made
 
 one_packet : (p q : Packet) → (let x : Result Packet PacketFault = Ok p in x) ≡ Ok q → p ≡ q
 one_packet p q e = cc
 
 take_all : (w m v k : ℕ) → AreSettings w m v k → (side : Side) (payloads : List (List ℕ)) (mids : List MuxPair) (b : MuxPair) (old new : MuxState) (rest pre : List (List ℕ)) → HappensOn mids (both_new w m v k) b
     → mux_of side b ≡ old.side → map (λ p. packet_text p) (way_to side b) ≡ payloads ++ rest → map (λ p. packet_text p) (way_to (other_side side) b) ≡ pre ++ old.made → TakesAll payloads old new
-    → HasTakenAll w m v k side b new rest pre
+    → HasTakenAll w m v k side b old new rest pre
 take_all w m v k are side [] mids b old new rest pre happens own way back e = record {
   mids = mids;
   pair = b;
@@ -133,6 +140,8 @@ take_all w m v k are side [] mids b old new rest pre happens own way back e = re
   other = refl;
   way = way;
   back = back ∙ ap (λ (s : MuxState). pre ++ s.made) (sym e);
+  fewer = (let z = ap (λ (s : MuxState). length s.made) e in omega (arith, z));
+  more = (let z = ap (λ (s : MuxState). length s.made) e in omega (arith, z));
 }
 take_all w m v k are side (payload ∷ payloads) mids b old new rest pre happens own way back h =
     let begin = begins (λ p. packet_text p) (way_to side b) payload (payloads ++ rest) way in
@@ -152,6 +161,10 @@ take_all w m v k are side (payload ∷ payloads) mids b old new rest pre happens
     ∙ (ap (λ l. l ++ map (λ p. packet_text p) taken.2.packets) back
     ∙ (append_assoc pre old.made (map (λ p. packet_text p) taken.2.packets) ∙ ap (λ l. pre ++ l) (sym taken.2.made)))))
     h.2 in
+    let lowers = hearing_lowers w m v k mids b next happens side p begin.tail taken.2.packets h.0.side begin.is takes refl in
+    let grown = ap length taken.2.made in
+    let joined = length-append old.made (map (λ p. packet_text p) taken.2.packets) in
+    let long = as_long (λ p. packet_text p) taken.2.packets in
     record {
       mids = r.mids;
       pair = r.pair;
@@ -160,12 +173,14 @@ take_all w m v k are side (payload ∷ payloads) mids b old new rest pre happens
       other = r.other ∙ other_mux side h.0.side begin.tail (way_to (other_side side) b ++ taken.2.packets) b;
       way = r.way;
       back = r.back;
+      fewer = (let f = r.fewer in omega (arith, f, lowers, grown, joined, long));
+      more = (let f = r.more in omega (arith, f, grown, joined, long));
     }
 
 -- ---- one moment of a run
 
 -- Both sides of a run, by side.
-record IsAtMoment (w m v k : ℕ) (s : PairOnLink) : Type 0 where
+pub record IsAtMoment (w m v k : ℕ) (s : PairOnLink) : Type 0 where
   pub mids : List MuxPair
   pub pair : MuxPair
   pub happens : HappensOn mids (both_new w m v k) pair
@@ -192,9 +207,41 @@ by_side P Client a b Server = b
 by_side P Server a b Client = b
 by_side P Server a b Server = a
 
+-- how many messages a side made, with those that were submitted
+abbrev made_by : Side → PairOnLink → ℕ
+made_by side s = length (submitted_by side s.link.steps ++ (state_at side s.both).made)
+
+abbrev pub made_in : PairOnLink → ℕ
+made_in s = made_by Client s + made_by Server s
+
+both_sides : (f : Side → ℕ) (side : Side) → f Client + f Server ≡ f side + f (other_side side)
+both_sides f Client = refl
+both_sides f Server = omega arith
+
+-- One moment leads to another without a call: a message that was made in between is no longer to be made.
+pub record LeadsTo (w m v k : ℕ) (old : PairOnLink) (x : IsAtMoment w m v k old) (new : PairOnLink) : Type 0 where
+  pub at : IsAtMoment w m v k new
+  pub fewer : still_made at.pair + made_in new ≤ still_made x.pair + made_in old
+  pub more : made_in old ≤ made_in new
+
+leads_self : (w m v k : ℕ) (old : PairOnLink) (x : IsAtMoment w m v k old) → LeadsTo w m v k old x old
+leads_self w m v k old x = record { at = x; fewer = omega arith; more = omega arith }
+
+leads_then : (w m v k : ℕ) (old mid new : PairOnLink) (x : IsAtMoment w m v k old) (d : LeadsTo w m v k old x mid) → LeadsTo w m v k mid d.at new → LeadsTo w m v k old x new
+leads_then w m v k old mid new x d e = record {
+  at = e.at;
+  fewer = (let p = d.fewer in let q = e.fewer in omega (arith, p, q));
+  more = (let p = d.more in let q = e.more in omega (arith, p, q));
+}
+
+-- a moment from which at most so many messages are made where no more is called
+pub record IsStillAt (w m v k most : ℕ) (s : PairOnLink) : Type 0 where
+  pub at : IsAtMoment w m v k s
+  pub few : still_made at.pair ≤ most
+
 -- a call
-at_call : (w m v k : ℕ) (old : PairOnLink) (new : Both) (side : Side) (request : Request) → IsAtMoment w m v k old → IsCall side request old.both new
-    → IsAtMoment w m v k (record { both = new; link = old.link })
+at_call : (w m v k : ℕ) (old : PairOnLink) (new : Both) (side : Side) (request : Request) → (x : IsAtMoment w m v k old) → IsCall side request old.both new
+    → IsStillAt w m v k (still_made x.pair + added_by request) (record { both = new; link = old.link })
 at_call w m v k old new side request x h =
     let asks = subst (λ (u : Mux). Asks request u h.0.packets (state_at side new).side) (sym (x.mux side)) h.0.asks in
     let next = with_mux side (state_at side new).side (way_to side x.pair) (way_to (other_side side) x.pair ++ h.0.packets) x.pair in
@@ -209,27 +256,30 @@ at_call w m v k old new side request x h =
     ∙ (ap (drop (side_at (other_side side) old.both).received) (append_assoc submitted (state_at side old.both).made (map (λ p. packet_text p) h.0.packets) ∙ ap (λ l. submitted ++ l) (sym h.0.made))
     ∙ ap (λ (s : PairSide). drop s.received (submitted ++ (state_at side new).made)) (sym h.2))))) in
     record {
-      mids = x.mids ++ next ∷ [];
-      pair = next;
-      happens = happens_more x.mids (both_new w m v k) x.pair next x.happens (Asked side request h.0.packets (state_at side new).side asks refl);
-      mux = by_side (λ s. mux_of s next ≡ (state_at s new).side) side (own_mux side (state_at side new).side (way_to side x.pair) (way_to (other_side side) x.pair ++ h.0.packets) x.pair)
-          (other_mux side (state_at side new).side (way_to side x.pair) (way_to (other_side side) x.pair ++ h.0.packets) x.pair ∙ (x.mux (other_side side) ∙ ap (λ (s : PairSide). s.mux.side) (sym h.2)));
-      way = by_side (λ s. map (λ p. packet_text p) (way_to s next) ≡ drop (side_at s new).received (submitted_by (other_side s) old.link.steps ++ (state_at (other_side s) new).made)) side
-          (ap (map (λ p. packet_text p)) (own_way side (state_at side new).side (way_to side x.pair) (way_to (other_side side) x.pair ++ h.0.packets) x.pair)
-          ∙ (x.way side ∙ (ap (λ n. drop n (submitted_by (other_side side) old.link.steps ++ (state_at (other_side side) old.both).made)) (sym h.1)
-          ∙ ap (λ (s : PairSide). drop (side_at side new).received (submitted_by (other_side side) old.link.steps ++ s.mux.made)) (sym h.2))))
-          (subst (λ s. map (λ p. packet_text p) (way_to (other_side side) next) ≡ drop (side_at (other_side side) new).received (submitted_by s old.link.steps ++ (state_at s new).made)) (sym (twice side)) more);
-      received = by_side (λ s. (side_at s new).received ≤ length (delivered_at s old.link)) side
-          (let a = x.received side in let b = h.1 in omega (arith, a, b))
-          (let a = x.received (other_side side) in let b = ap (λ (s : PairSide). s.received) h.2 in omega (arith, a, b));
-      sent = by_side (λ s. (side_at s new).received ≤ length (submitted_by (other_side s) old.link.steps)) side
-          (let a = x.sent side in let b = h.1 in omega (arith, a, b))
-          (let a = x.sent (other_side side) in let b = ap (λ (s : PairSide). s.received) h.2 in omega (arith, a, b));
+      at = record {
+        mids = x.mids ++ next ∷ [];
+        pair = next;
+        happens = happens_more x.mids (both_new w m v k) x.pair next x.happens (Asked side request h.0.packets (state_at side new).side asks refl);
+        mux = by_side (λ s. mux_of s next ≡ (state_at s new).side) side (own_mux side (state_at side new).side (way_to side x.pair) (way_to (other_side side) x.pair ++ h.0.packets) x.pair)
+            (other_mux side (state_at side new).side (way_to side x.pair) (way_to (other_side side) x.pair ++ h.0.packets) x.pair ∙ (x.mux (other_side side) ∙ ap (λ (s : PairSide). s.mux.side) (sym h.2)));
+        way = by_side (λ s. map (λ p. packet_text p) (way_to s next) ≡ drop (side_at s new).received (submitted_by (other_side s) old.link.steps ++ (state_at (other_side s) new).made)) side
+            (ap (map (λ p. packet_text p)) (own_way side (state_at side new).side (way_to side x.pair) (way_to (other_side side) x.pair ++ h.0.packets) x.pair)
+            ∙ (x.way side ∙ (ap (λ n. drop n (submitted_by (other_side side) old.link.steps ++ (state_at (other_side side) old.both).made)) (sym h.1)
+            ∙ ap (λ (s : PairSide). drop (side_at side new).received (submitted_by (other_side side) old.link.steps ++ s.mux.made)) (sym h.2))))
+            (subst (λ s. map (λ p. packet_text p) (way_to (other_side side) next) ≡ drop (side_at (other_side side) new).received (submitted_by s old.link.steps ++ (state_at s new).made)) (sym (twice side)) more);
+        received = by_side (λ s. (side_at s new).received ≤ length (delivered_at s old.link)) side
+            (let a = x.received side in let b = h.1 in omega (arith, a, b))
+            (let a = x.received (other_side side) in let b = ap (λ (s : PairSide). s.received) h.2 in omega (arith, a, b));
+        sent = by_side (λ s. (side_at s new).received ≤ length (submitted_by (other_side s) old.link.steps)) side
+            (let a = x.sent side in let b = h.1 in omega (arith, a, b))
+            (let a = x.sent (other_side side) in let b = ap (λ (s : PairSide). s.received) h.2 in omega (arith, a, b));
+      };
+      few = asking_adds w m v k x.mids x.pair next x.happens side request h.0.packets (state_at side new).side asks refl;
     }
 
 -- a side receives what was delivered to it
-at_received : (w m v k : ℕ) → AreSettings w m v k → (old : PairOnLink) (new : Both) (side : Side) → IsHonest old.link → IsAtMoment w m v k old → ReceivesNew side (delivered_at side old.link) old.both new
-    → IsAtMoment w m v k (record { both = new; link = old.link })
+at_received : (w m v k : ℕ) → AreSettings w m v k → (old : PairOnLink) (new : Both) (side : Side) → IsHonest old.link → (x : IsAtMoment w m v k old) → ReceivesNew side (delivered_at side old.link) old.both new
+    → LeadsTo w m v k old x (record { both = new; link = old.link })
 at_received w m v k are old new side honest x h =
     let d = delivered_at side old.link in
     let r = (side_at side old.both).received in
@@ -249,18 +299,28 @@ at_received w m v k are old new side honest x h =
     a.way ∙ (sym (drop_all (length d) d (front.0 ++ made) refl) ∙ (ap (drop (length d)) (sym all) ∙ (ap (λ n. drop n (s ++ made)) (sym now) ∙ ap (λ (y : PairSide). drop (side_at side new).received (s ++ y.mux.made)) (sym h.other)))) in
     let there : map (λ p. packet_text p) (way_to (other_side side) a.pair) ≡ drop (side_at (other_side side) new).received (t ++ (state_at side new).made) =
     a.back ∙ (sym (drop_front o t (state_at side new).made within) ∙ ap (λ (y : PairSide). drop y.received (t ++ (state_at side new).made)) (sym h.other)) in
+    let behind : PairOnLink = record { both = new; link = old.link } in
+    let in_old : made_in old ≡ made_by side old + made_by (other_side side) old = both_sides (λ s. made_by s old) side in
+    let in_new : made_in behind ≡ made_by side behind + made_by (other_side side) behind = both_sides (λ s. made_by s behind) side in
+    let own_old = length-append t (state_at side old.both).made in
+    let own_new = length-append t (state_at side new).made in
+    let there_same : made_by (other_side side) behind ≡ made_by (other_side side) old = ap (λ (y : PairSide). length (submitted_by (other_side side) old.link.steps ++ y.mux.made)) h.other in
     record {
-      mids = a.mids;
-      pair = a.pair;
-      happens = a.happens;
-      mux = by_side (λ s. mux_of s a.pair ≡ (state_at s new).side) side a.own (a.other ∙ (x.mux (other_side side) ∙ ap (λ (y : PairSide). y.mux.side) (sym h.other)));
-      way = by_side (λ s. map (λ p. packet_text p) (way_to s a.pair) ≡ drop (side_at s new).received (submitted_by (other_side s) old.link.steps ++ (state_at (other_side s) new).made)) side here
-          (subst (λ s. map (λ p. packet_text p) (way_to (other_side side) a.pair) ≡ drop (side_at (other_side side) new).received (submitted_by s old.link.steps ++ (state_at s new).made)) (sym (twice side)) there);
-      received = by_side (λ s. (side_at s new).received ≤ length (delivered_at s old.link)) side (omega (arith, now))
-          (let p = x.received (other_side side) in let q = ap (λ (y : PairSide). y.received) h.other in omega (arith, p, q));
-      sent = by_side (λ s. (side_at s new).received ≤ length (submitted_by (other_side s) old.link.steps)) side
-          (let p = front_length s d front in omega (arith, now, p))
-          (let p = x.sent (other_side side) in let q = ap (λ (y : PairSide). y.received) h.other in omega (arith, p, q));
+      at = record {
+        mids = a.mids;
+        pair = a.pair;
+        happens = a.happens;
+        mux = by_side (λ s. mux_of s a.pair ≡ (state_at s new).side) side a.own (a.other ∙ (x.mux (other_side side) ∙ ap (λ (y : PairSide). y.mux.side) (sym h.other)));
+        way = by_side (λ s. map (λ p. packet_text p) (way_to s a.pair) ≡ drop (side_at s new).received (submitted_by (other_side s) old.link.steps ++ (state_at (other_side s) new).made)) side here
+            (subst (λ s. map (λ p. packet_text p) (way_to (other_side side) a.pair) ≡ drop (side_at (other_side side) new).received (submitted_by s old.link.steps ++ (state_at s new).made)) (sym (twice side)) there);
+        received = by_side (λ s. (side_at s new).received ≤ length (delivered_at s old.link)) side (omega (arith, now))
+            (let p = x.received (other_side side) in let q = ap (λ (y : PairSide). y.received) h.other in omega (arith, p, q));
+        sent = by_side (λ s. (side_at s new).received ≤ length (submitted_by (other_side s) old.link.steps)) side
+            (let p = front_length s d front in omega (arith, now, p))
+            (let p = x.sent (other_side side) in let q = ap (λ (y : PairSide). y.received) h.other in omega (arith, p, q));
+      };
+      fewer = (let f = a.fewer in omega (arith, f, in_old, in_new, own_old, own_new, there_same));
+      more = (let f = a.more in omega (arith, f, in_old, in_new, own_old, own_new, there_same));
     }
 
 -- ---- the link goes on
@@ -304,19 +364,23 @@ same_list side payload rest b old new is t =
     ∙ (ap (λ l. submitted_by (other_side side) old.steps ++ l) (other_submit side payload) ∙ append-nil (submitted_by (other_side side) old.steps))))
 
 -- the link carried out a step, and what each side submitted and made is the same list
-at_same : (w m v k : ℕ) (old : PairOnLink) (both : Both) (step : Step) (link : LinkState) → IsAtMoment w m v k old → LinkGoes step old.link link
+at_same : (w m v k : ℕ) (old : PairOnLink) (both : Both) (step : Step) (link : LinkState) → (x : IsAtMoment w m v k old) → LinkGoes step old.link link
     → ((s : Side) → (state_at s both).side ≡ (state_at s old.both).side) → ((s : Side) → (side_at s both).received ≡ (side_at s old.both).received)
     → ((s : Side) → submitted_by s link.steps ++ (state_at s both).made ≡ submitted_by s old.link.steps ++ (state_at s old.both).made)
-    → IsAtMoment w m v k (record { both = both; link = link })
+    → LeadsTo w m v k old x (record { both = both; link = link })
 at_same w m v k old both step link x t sides received lists = record {
-  mids = x.mids;
-  pair = x.pair;
-  happens = x.happens;
-  mux = λ s. x.mux s ∙ sym (sides s);
-  way = λ s. x.way s ∙ (ap (λ n. drop n (submitted_by (other_side s) old.link.steps ++ (state_at (other_side s) old.both).made)) (sym (received s)) ∙ ap (drop (side_at s both).received) (sym (lists (other_side s))));
-  received = λ s. let a = x.received s in let b = received s in let c = delivered_on step old.link link t s in omega (arith, a, b, c);
-  sent = λ s. let a = x.sent s in let b = received s in let c = steps_submitted step old.link link t (other_side s) in
-      let d = ap length c in let e = length-append (submitted_by (other_side s) old.link.steps) (submitted_by (other_side s) (step ∷ [])) in omega (arith, a, b, d, e);
+  at = record {
+    mids = x.mids;
+    pair = x.pair;
+    happens = x.happens;
+    mux = λ s. x.mux s ∙ sym (sides s);
+    way = λ s. x.way s ∙ (ap (λ n. drop n (submitted_by (other_side s) old.link.steps ++ (state_at (other_side s) old.both).made)) (sym (received s)) ∙ ap (drop (side_at s both).received) (sym (lists (other_side s))));
+    received = λ s. let a = x.received s in let b = received s in let c = delivered_on step old.link link t s in omega (arith, a, b, c);
+    sent = λ s. let a = x.sent s in let b = received s in let c = steps_submitted step old.link link t (other_side s) in
+        let d = ap length c in let e = length-append (submitted_by (other_side s) old.link.steps) (submitted_by (other_side s) (step ∷ [])) in omega (arith, a, b, d, e);
+  };
+  fewer = (let a = ap length (lists Client) in let b = ap length (lists Server) in omega (arith, a, b));
+  more = (let a = ap length (lists Client) in let b = ap length (lists Server) in omega (arith, a, b));
 }
 
 still_list : (step : Step) (old new : LinkState) (b : Both) → is_submit step ≡ false → LinkGoes step old new → (s : Side) → submitted_by s new.steps ++ (state_at s b).made ≡ submitted_by s old.steps ++ (state_at s b).made
@@ -326,15 +390,15 @@ still_list step old new b none t s =
 on_both : (s : PairOnLink) (b : Both) → b ≡ s.both → (let x : PairOnLink = record { both = b; link = s.link } in x) ≡ s
 on_both s b e = ap (λ y. let x : PairOnLink = record { both = y; link = s.link } in x) e
 
-at_carried : (w m v k : ℕ) → AreSettings w m v k → (old new : PairOnLink) → IsHonest old.link → IsAtMoment w m v k old → Carried old new → IsAtMoment w m v k new
+at_carried : (w m v k : ℕ) → AreSettings w m v k → (old new : PairOnLink) → IsHonest old.link → (x : IsAtMoment w m v k old) → Carried old new → LeadsTo w m v k old x new
 at_carried w m v k are old new honest x (Received side h e) =
-    subst (λ l. IsAtMoment w m v k (record { both = new.both; link = l })) (sym e) (at_received w m v k are old new.both side honest x h)
+    subst (λ l. LeadsTo w m v k old x (record { both = new.both; link = l })) (sym e) (at_received w m v k are old new.both side honest x h)
 at_carried w m v k are old new honest x (Submitted side payload rest is e t) =
-    subst (IsAtMoment w m v k) (on_both new (with_state side (record { side = (state_at side old.both).side; made = rest }) old.both) (sym e))
+    subst (LeadsTo w m v k old x) (on_both new (with_state side (record { side = (state_at side old.both).side; made = rest }) old.both) (sym e))
     (at_same w m v k old (with_state side (record { side = (state_at side old.both).side; made = rest }) old.both) (Submit side payload) new.link x t
     (λ s. side_kept side s rest old.both) (λ s. received_kept side s rest old.both) (same_list side payload rest old.both old.link new.link is t))
 at_carried w m v k are old new honest x (Stepped step none e t) =
-    subst (IsAtMoment w m v k) (on_both new old.both (sym e)) (at_same w m v k old old.both step new.link x t (λ s. refl) (λ s. refl) (still_list step old.link new.link old.both none t))
+    subst (LeadsTo w m v k old x) (on_both new old.both (sym e)) (at_same w m v k old old.both step new.link x t (λ s. refl) (λ s. refl) (still_list step old.link new.link old.both none t))
 
 -- ---- links that lead to a last one
 
@@ -344,10 +408,10 @@ front_all l = ([], append-nil l)
 front_then : {A : Type 0} (a b c : List A) → HasFront b a → HasFront c b → HasFront c a
 front_then a b c g h = (g.0 ++ h.0, sym (append_assoc a g.0 h.0) ∙ (ap (λ l. l ++ h.0) g.1 ∙ h.1))
 
-before_self : (a : LinkState) → IsBefore a a
+pub before_self : (a : LinkState) → IsBefore a a
 before_self a = record { steps = front_all a.steps; marks = front_all a.marks; to_client = front_all a.carried.client.delivered; to_server = front_all a.carried.server.delivered }
 
-before_then : (a b c : LinkState) → IsBefore a b → IsBefore b c → IsBefore a c
+pub before_then : (a b c : LinkState) → IsBefore a b → IsBefore b c → IsBefore a c
 before_then a b c g h = record {
   steps = front_then a.steps b.steps c.steps g.steps h.steps;
   marks = front_then a.marks b.marks c.marks g.marks h.marks;
@@ -363,11 +427,11 @@ carried_before a b (Received side h e) = subst (IsBefore a.link) (sym e) (before
 carried_before a b (Submitted side payload rest is e t) = goes_before (Submit side payload) a.link b.link t
 carried_before a b (Stepped step none e t) = goes_before step a.link b.link t
 
-carries_before : (mids : List PairOnLink) (a b : PairOnLink) → CarriesBy mids a b → IsBefore a.link b.link
+pub carries_before : (mids : List PairOnLink) (a b : PairOnLink) → CarriesBy mids a b → IsBefore a.link b.link
 carries_before [] a b e = subst (λ (x : PairOnLink). IsBefore a.link x.link) (sym e) (before_self a.link)
 carries_before (mid ∷ mids) a b h = before_then a.link mid.link b.link (carried_before a mid h.0) (carries_before mids mid b h.1)
 
-runs_before : (steps : List ChannelStep) (a b : PairOnLink) → RunsSteps steps a b → IsBefore a.link b.link
+pub runs_before : (steps : List ChannelStep) (a b : PairOnLink) → RunsSteps steps a b → IsBefore a.link b.link
 runs_before [] a b e = subst (λ (x : PairOnLink). IsBefore a.link x.link) (sym e) (before_self a.link)
 runs_before (step ∷ steps) a b h = before_then a.link h.1.link b.link (carries_before h.3.carries.0 (record { both = h.0; link = a.link }) h.1 h.3.carries.1) (runs_before steps h.1 b h.4)
 
@@ -393,34 +457,54 @@ carried_marked a b m (Stepped step none e t) = goes_marked step a.link b.link m 
 
 -- ---- a run, where each of its links is honest
 
-at_carries : (w m v k : ℕ) → AreSettings w m v k → (last : LinkState) → MakesHonest last → (mids : List PairOnLink) (old new : PairOnLink) → IsMarkedLink old.link → IsBefore new.link last → IsAtMoment w m v k old → CarriesBy mids old new
-    → IsAtMoment w m v k new × IsMarkedLink new.link
-at_carries w m v k are last honest [] old new marked before x e = (subst (IsAtMoment w m v k) (sym e) x, subst (λ (y : PairOnLink). IsMarkedLink y.link) (sym e) marked)
+pub at_carries : (w m v k : ℕ) → AreSettings w m v k → (last : LinkState) → MakesHonest last → (mids : List PairOnLink) (old new : PairOnLink) → IsMarkedLink old.link → IsBefore new.link last → (x : IsAtMoment w m v k old) → CarriesBy mids old new
+    → LeadsTo w m v k old x new × IsMarkedLink new.link
+at_carries w m v k are last honest [] old new marked before x e = (subst (LeadsTo w m v k old x) (sym e) (leads_self w m v k old x), subst (λ (y : PairOnLink). IsMarkedLink y.link) (sym e) marked)
 at_carries w m v k are last honest (mid ∷ mids) old new marked before x h =
     let here = honest old.link marked (before_then old.link new.link last (carries_before (mid ∷ mids) old new h) before) in
-    at_carries w m v k are last honest mids mid new (carried_marked old mid marked h.0) before (at_carried w m v k are old mid here x h.0) h.1
+    let d = at_carried w m v k are old mid here x h.0 in
+    let r = at_carries w m v k are last honest mids mid new (carried_marked old mid marked h.0) before d.at h.1 in
+    (leads_then w m v k old mid new x d r.0, r.1)
 
-at_called : (w m v k : ℕ) (call : Option (Side × Request)) (old : PairOnLink) (new : Both) → IsAtMoment w m v k old → CalledAs call old.both new → IsAtMoment w m v k (record { both = new; link = old.link })
-at_called w m v k None old new x e = subst (IsAtMoment w m v k) (sym (on_both old new e)) x
+-- how many messages a call can add to those that are still made
+abbrev pub added_in : Option (Side × Request) → ℕ
+added_in None = 0
+added_in (Some call) = added_by call.1
+
+-- and the calls of some steps
+abbrev pub asked_in : List ChannelStep → ℕ
+asked_in [] = 0
+asked_in (step ∷ steps) = added_in (request_of step) + asked_in steps
+
+pub at_called : (w m v k : ℕ) (call : Option (Side × Request)) (old : PairOnLink) (new : Both) → (x : IsAtMoment w m v k old) → CalledAs call old.both new → IsStillAt w m v k (still_made x.pair + added_in call) (record { both = new; link = old.link })
+at_called w m v k None old new x e = subst (IsStillAt w m v k (still_made x.pair + 0)) (sym (on_both old new e)) (record { at = x; few = omega arith })
 at_called w m v k (Some call) old new x h = at_call w m v k old new call.0 call.1 x h
 
-at_steps : (w m v k : ℕ) → AreSettings w m v k → (last : LinkState) → MakesHonest last → (steps : List ChannelStep) (old new : PairOnLink) → IsMarkedLink old.link → IsBefore new.link last → IsAtMoment w m v k old → RunsSteps steps old new → IsAtMoment w m v k new
-at_steps w m v k are last honest [] old new marked before x e = subst (IsAtMoment w m v k) (sym e) x
-at_steps w m v k are last honest (step ∷ steps) old new marked before x h =
-    let c = at_carries w m v k are last honest h.3.carries.0 (record { both = h.0; link = old.link }) h.1 marked (before_then h.1.link new.link last (runs_before steps h.1 new h.4) before) (at_called w m v k (request_of step) old h.0 x h.2) h.3.carries.1 in
-    at_steps w m v k are last honest steps h.1 new c.1 before c.0 h.4
+pub at_steps : (w m v k : ℕ) → AreSettings w m v k → (last : LinkState) → MakesHonest last → (steps : List ChannelStep) (most : ℕ) (old new : PairOnLink) → IsMarkedLink old.link → IsBefore new.link last → IsStillAt w m v k most old → RunsSteps steps old new
+    → IsStillAt w m v k (most + asked_in steps) new
+at_steps w m v k are last honest [] most old new marked before x e = subst (IsStillAt w m v k (most + 0)) (sym e) (record { at = x.at; few = (let f = x.few in omega (arith, f)) })
+at_steps w m v k are last honest (step ∷ steps) most old new marked before x h =
+    let d = at_called w m v k (request_of step) old h.0 x.at h.2 in
+    let c = at_carries w m v k are last honest h.3.carries.0 (record { both = h.0; link = old.link }) h.1 marked (before_then h.1.link new.link last (runs_before steps h.1 new h.4) before) d.at h.3.carries.1 in
+    let r = at_steps w m v k are last honest steps (most + added_in (request_of step)) h.1 new c.1 before
+    (record { at = c.0.at; few = (let f = x.few in let g = d.few in let p = c.0.fewer in let q = c.0.more in omega (arith, f, g, p, q)) }) h.4 in
+    record { at = r.at; few = (let f = r.few in omega (arith, f)) }
 
 -- ---- a whole run
 
-at_first : (config : PairConfig) (first : CarriedLink) → IsAtMoment config.client.window config.client.largest config.server.window config.server.largest (first_on_link config first)
+-- nothing is still to be made
+pub at_first : (config : PairConfig) (first : CarriedLink) → IsStillAt config.client.window config.client.largest config.server.window config.server.largest 0 (first_on_link config first)
 at_first config first = record {
-  mids = [];
-  pair = new_muxes config;
-  happens = refl;
-  mux = first_mux;
-  way = first_way;
-  received = first_received;
-  sent = first_sent;
+  at = record {
+    mids = [];
+    pair = new_muxes config;
+    happens = refl;
+    mux = first_mux;
+    way = first_way;
+    received = first_received;
+    sent = first_sent;
+  };
+  few = omega arith;
 }
   where
     first_mux : (side : Side) → mux_of side (new_muxes config) ≡ (state_at side (first_on_link config first).both).side
@@ -457,16 +541,18 @@ settings config h =
 
 pub run_at : (config : PairConfig) → are_within config ≡ true → (first : CarriedLink) (steps : List ChannelStep) (last : PairOnLink) → MakesHonest last.link → RunsSteps steps (first_on_link config first) last → IsPairAt config last
 run_at config within first steps last honest run =
-    let x = at_steps config.client.window config.client.largest config.server.window config.server.largest (settings config within) last.link honest steps (first_on_link config first) last (record { many = refl; last = refl }) (before_self last.link) (at_first config first) run in
+    let y = at_steps config.client.window config.client.largest config.server.window config.server.largest (settings config within) last.link honest steps 0 (first_on_link config first) last (record { many = refl; last = refl }) (before_self last.link)
+    (at_first config first) run in
+    let x = y.at in
     record { mids = x.mids; pair = x.pair; happens = x.happens; client = x.mux Client; server = x.mux Server; to_client = x.way Client; to_server = x.way Server }
 
 -- ---- no message is refused
 
-carries_marked : (mids : List PairOnLink) (a b : PairOnLink) → IsMarkedLink a.link → CarriesBy mids a b → IsMarkedLink b.link
+pub carries_marked : (mids : List PairOnLink) (a b : PairOnLink) → IsMarkedLink a.link → CarriesBy mids a b → IsMarkedLink b.link
 carries_marked [] a b m e = subst (λ (y : PairOnLink). IsMarkedLink y.link) (sym e) m
 carries_marked (mid ∷ mids) a b m h = carries_marked mids mid b (carried_marked a mid m h.0) h.1
 
-runs_marked : (steps : List ChannelStep) (a b : PairOnLink) → IsMarkedLink a.link → RunsSteps steps a b → IsMarkedLink b.link
+pub runs_marked : (steps : List ChannelStep) (a b : PairOnLink) → IsMarkedLink a.link → RunsSteps steps a b → IsMarkedLink b.link
 runs_marked [] a b m e = subst (λ (y : PairOnLink). IsMarkedLink y.link) (sym e) m
 runs_marked (step ∷ steps) a b m h = runs_marked steps h.1 b (carries_marked h.3.carries.0 (record { both = h.0; link = a.link }) h.1 m h.3.carries.1) h.4
 
@@ -502,10 +588,10 @@ run_unbroken config within first fault last honest b =
     let moment : PairOnLink = record { both = b.at.both; link = last } in
     let marked : IsMarkedLink (first_link_state first) = record { many = refl; last = refl } in
     let before : IsBefore b.mid.link last = carries_before b.at.carries.0 called moment b.at.carries.1 in
-    let x = at_steps config.client.window config.client.largest config.server.window config.server.largest are last honest b.done (first_on_link config first) b.mid marked before (at_first config first) b.run in
+    let x = at_steps config.client.window config.client.largest config.server.window config.server.largest are last honest b.done 0 (first_on_link config first) b.mid marked before (at_first config first) b.run in
     let c = at_carries config.client.window config.client.largest config.server.window config.server.largest are last honest b.at.carries.0 called moment (runs_marked b.done (first_on_link config first) b.mid marked b.run) (before_self last)
-    (at_called config.client.window config.client.largest config.server.window config.server.largest (request_of b.step) b.mid b.called x b.call) b.at.carries.1 in
-    now_unbroken config.client.window config.client.largest config.server.window config.server.largest are moment fault (honest last c.1 (before_self last)) c.0 b.at.breaks
+    (at_called config.client.window config.client.largest config.server.window config.server.largest (request_of b.step) b.mid b.called x.at b.call).at b.at.carries.1 in
+    now_unbroken config.client.window config.client.largest config.server.window config.server.largest are moment fault (honest last c.1 (before_self last)) c.0.at b.at.breaks
 
 flow_at : (config : PairConfig) (s : PairOnLink) → IsPairAt config s → (side : Side) (n : ℕ) (c : Channel) → slice_get (state_at side s.both).side.channels n ≡ Some c → c.started ≡ false
     → (d : Channel) × (slice_get (state_at (other_side side) s.both).side.channels c.peer ≡ Some d) × (d.started ≡ true) × FlowsWell d.end c.end × FlowsWell c.end d.end

@@ -8,3 +8,5 @@ pub mod OnTime
 pub mod Honesty
 pub mod Settling
 pub mod Doing
+pub mod Turning
+pub mod Stopping

@@ -136,7 +136,7 @@ goes_then client_makes server_makes agrees makes old mid new k m t u =
 
 -- ---- the link of a report
 
-runs_each : (c s : Says) (start : CarriedLink) (taken : List (Step × LinkState)) (old new : LinkState) → old.bound ≡ bound_after 1 old.steps → RunsSoFar c s 1 old.steps start old.carried old.marks
+pub runs_each : (c s : Says) (start : CarriedLink) (taken : List (Step × LinkState)) (old new : LinkState) → old.bound ≡ bound_after 1 old.steps → RunsSoFar c s 1 old.steps start old.carried old.marks
     → TakesEach c s taken old new → RunsSoFar c s 1 new.steps start new.carried new.marks
 runs_each c s start [] old new b r e = subst (λ (l : LinkState). RunsSoFar c s 1 l.steps start l.carried l.marks) (sym e) r
 runs_each c s start (t ∷ taken) old new b r h = runs_each c s start taken t.1 new

@@ -160,7 +160,7 @@ submitted_more side (step ∷ a) b =
     submits_on side step (a ++ b) ∙ (ap (λ l. submitted_by side (step ∷ []) ++ l) (submitted_more side a b) ∙ (sym (append_assoc (submitted_by side (step ∷ [])) (submitted_by side a) (submitted_by side b))
     ∙ ap (λ l. l ++ submitted_by side b) (sym (submits_on side step a))))
 
-submitted_front : (side : Side) (all a : List Step) → HasFront all a → HasFront (submitted_by side all) (submitted_by side a)
+pub submitted_front : (side : Side) (all a : List Step) → HasFront all a → HasFront (submitted_by side all) (submitted_by side a)
 submitted_front side all a h = (submitted_by side h.0, sym (submitted_more side a h.0) ∙ ap (submitted_by side) h.1)
 
 front_get : {A : Type 0} (all a : List A) (n : ℕ) (x : A) → HasFront all a → slice_get a n ≡ Some x → slice_get all n ≡ Some x

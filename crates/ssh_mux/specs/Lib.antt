@@ -9,3 +9,4 @@ pub mod Alike
 pub mod Linking
 pub mod Breaking
 pub mod Doing
+pub mod Stopping

@@ -18,4 +18,4 @@ new_side config = record {
 }
 
 abbrev pub new_pair : PairConfig → Pair
-new_pair config = record { client = new_side config.client; server = new_side config.server; turns = 2 }
+new_pair config = record { client = new_side config.client; server = new_side config.server }

@@ -1,14 +1,16 @@
 //! The link, with the parts of both sides.
 
-ghost use Rattle.std.specs.Prelude.{◌≡◌, IfErr, IfOk, OnOk, ◌∷◌, [], false, true};
+ghost use Rattle.std.specs.Prelude.{◌≡◌, ◌<◌, IfErr, IfOk, OnOk, ◌∷◌, [], false, true};
 ghost use Rattle.ssh_rules.specs.declared.link.Step.TheVariants as steps;
 ghost use Rattle.ssh_mux.specs.Breaking.{BreaksAt, IsNoMessageFault, is_message_refused};
 ghost use Rattle.ssh_mux.specs.Doing.{OnlySubmits};
 ghost use Rattle.ssh_mux.specs.Running.{Carries, CarriesOut, HasReceived, IsEmptied, IsLinkFault, LeavesNone, LinkGoes, both_of, is_submit, on_link};
+ghost use Rattle.ssh_mux.specs.Stopping.{TurnsOnce, WhereStopped, submitted_in};
 
 use crate::fault::RunFault;
 use crate::linked::Linked;
 use crate::pair::Pair;
+use crate::typed::see_steps;
 use rand_core::Rng;
 use ssh_kex::{Agreement, GroupLookup, Handed, HostKeys, Parts};
 use ssh_rules::link::Step;
@@ -27,9 +29,12 @@ pub(crate) fn step_link<'c, A: Agreement, H: HostKeys, G: GroupLookup, R: Rng>(
     ensures goes { OnOk result (⟦<Parts<A, H, G, R> as Linked>⟧.goes_on link.old client_parts.old server_parts.old
         link.new) }
     ensures unbroken { IfErr result IsNoMessageFault }
+    ensures stops { IfErr result (λ fault. WhereStopped fault (⟦<Parts<A, H, G, R> as Linked>⟧.refuses_on link.old
+        client_parts.old client_parts.new server_parts.old server_parts.new)) }
     ensures client_keeps { ⟦<Parts<A, H, G, R> as Handed>⟧.keeps client_parts.old client_parts.new }
     ensures server_keeps { ⟦<Parts<A, H, G, R> as Handed>⟧.keeps server_parts.old server_parts.new }
 {
+    see_steps(link.steps());
     match link.step(client_parts, server_parts, step) {
         Ok(()) => Ok(()),
         Err(error) => Err(RunFault::Link(error)),
@@ -49,6 +54,8 @@ fn submit_one<'c, A: Agreement, H: HostKeys, G: GroupLookup, R: Rng>(
     ensures goes { OnOk result (⟦<Parts<A, H, G, R> as Linked>⟧.goes_on link.old client_parts.old server_parts.old
         link.new) }
     ensures unbroken { IfErr result IsNoMessageFault }
+    ensures stops { IfErr result (λ fault. WhereStopped fault (⟦<Parts<A, H, G, R> as Linked>⟧.refuses_on link.old
+        client_parts.old client_parts.new server_parts.old server_parts.new)) }
     ensures client_keeps { ⟦<Parts<A, H, G, R> as Handed>⟧.keeps client_parts.old client_parts.new }
     ensures server_keeps { ⟦<Parts<A, H, G, R> as Handed>⟧.keeps server_parts.old server_parts.new }
 {
@@ -69,10 +76,13 @@ pub(crate) fn submit_made<'c, A: Agreement, H: HostKeys, G: GroupLookup, R: Rng>
     ensures submits { OnOk result (OnlySubmits link.old link.new) }
     ensures emptied { OnOk result (IsEmptied side (both_of pair.old) (both_of pair.new)) }
     ensures still { IfOk result (λ some. some ≡ false → link.new ≡ link.old) }
+    ensures some { IfOk result (λ some. some ≡ true → submitted_in link.old < submitted_in link.new) }
     ensures fault { IfErr result IsLinkFault }
     ensures goes { OnOk result (⟦<Parts<A, H, G, R> as Linked>⟧.goes_on link.old client_parts.old server_parts.old
         link.new) }
     ensures unbroken { IfErr result IsNoMessageFault }
+    ensures stops { IfErr result (λ fault. WhereStopped fault (⟦<Parts<A, H, G, R> as Linked>⟧.refuses_on link.old
+        client_parts.old client_parts.new server_parts.old server_parts.new)) }
     ensures client_keeps { ⟦<Parts<A, H, G, R> as Handed>⟧.keeps client_parts.old client_parts.new }
     ensures server_keeps { ⟦<Parts<A, H, G, R> as Handed>⟧.keeps server_parts.old server_parts.new }
 {
@@ -97,12 +107,15 @@ pub(crate) fn receive_delivered<'c, A: Agreement, H: HostKeys, G: GroupLookup, R
     ensures submits { OnOk result (OnlySubmits link.old link.new) }
     ensures received { OnOk result (HasReceived side link.old (both_of pair.old) (both_of pair.new)) }
     ensures still { IfOk result (λ some. some ≡ false → link.new ≡ link.old) }
+    ensures some { IfOk result (λ some. some ≡ true → submitted_in link.old < submitted_in link.new) }
     ensures fault { IfErr result IsLinkFault }
     ensures goes { OnOk result (⟦<Parts<A, H, G, R> as Linked>⟧.goes_on link.old client_parts.old server_parts.old
         link.new) }
     ensures breaks { IfErr result (λ fault. is_message_refused fault ≡ true
         → BreaksAt fault (on_link pair.old link.old) link.new
         × ⟦<Parts<A, H, G, R> as Linked>⟧.goes_on link.old client_parts.old server_parts.old link.new) }
+    ensures stops { IfErr result (λ fault. WhereStopped fault (⟦<Parts<A, H, G, R> as Linked>⟧.refuses_on link.old
+        client_parts.old client_parts.new server_parts.old server_parts.new)) }
     ensures client_keeps { ⟦<Parts<A, H, G, R> as Handed>⟧.keeps client_parts.old client_parts.new }
     ensures server_keeps { ⟦<Parts<A, H, G, R> as Handed>⟧.keeps server_parts.old server_parts.new }
 {
@@ -121,12 +134,16 @@ pub(crate) fn carry_all<'c, A: Agreement, H: HostKeys, G: GroupLookup, R: Rng>(
     ensures carries { OnOk result (Carries (on_link pair.old link.old) (on_link pair.new link.new)) }
     ensures settles { OnOk result (CarriesOut (steps.Settle ∷ []) link.old link.new) }
     ensures settled { IfOk result (λ some. some ≡ false → LeavesNone (on_link pair.new link.new)) }
+    ensures turns { IfOk result (λ some. some ≡ true → TurnsOnce (on_link pair.old link.old)
+        (on_link pair.new link.new)) }
     ensures fault { IfErr result IsLinkFault }
     ensures goes { OnOk result (⟦<Parts<A, H, G, R> as Linked>⟧.goes_on link.old client_parts.old server_parts.old
         link.new) }
     ensures breaks { IfErr result (λ fault. is_message_refused fault ≡ true
         → BreaksAt fault (on_link pair.old link.old) link.new
         × ⟦<Parts<A, H, G, R> as Linked>⟧.goes_on link.old client_parts.old server_parts.old link.new) }
+    ensures stops { IfErr result (λ fault. WhereStopped fault (⟦<Parts<A, H, G, R> as Linked>⟧.refuses_on link.old
+        client_parts.old client_parts.new server_parts.old server_parts.new)) }
     ensures client_keeps { ⟦<Parts<A, H, G, R> as Handed>⟧.keeps client_parts.old client_parts.new }
     ensures server_keeps { ⟦<Parts<A, H, G, R> as Handed>⟧.keeps server_parts.old server_parts.new }
 {

@@ -13,9 +13,6 @@ use ssh_channels::{Mux, MuxConfig, MuxFault};
 use ssh_wire::{Payload, PayloadList, Side};
 use std::alloc::Global;
 
-/// More than the messages but for data that both sides make of one channel.
-const TURNS_A_CHANNEL: u64 = 8;
-
 /// What both sides tell of themselves.
 #[derive(Clone, Copy, Debug, PartialEq, Eq)]
 pub struct PairConfig {
@@ -76,13 +73,11 @@ fn receive_new(side: &mut PairSide, delivered: &[Payload]) -> Result<(), MuxFaul
     Ok(())
 }
 
-/// Both sides, and how many turns a settle may take.
+/// Both sides of a run.
 #[derive(Debug, Drop)]
 pub struct Pair {
     pub client: PairSide,
     pub server: PairSide,
-    /// More than the messages that are still to be made where no more is called.
-    pub turns: u64,
 }
 
 impl Pair {
@@ -93,7 +88,6 @@ impl Pair {
         Pair {
             client: new_side(alloc, &config.client),
             server: new_side(alloc, &config.server),
-            turns: 2,
         }
     }
 
@@ -131,7 +125,6 @@ impl Pair {
         ensures refused { IfErr result (λ f. IsRefused (request_fault Start (state_at side (both_of self.old)).side) f
             (both_of self.new ≡ both_of self.old)) }
     {
-        self.turns = self.turns.saturating_add(TURNS_A_CHANNEL);
         match side {
             Side::Client => self.client.mux.start(),
             Side::Server => self.server.mux.start(),
@@ -144,7 +137,6 @@ impl Pair {
         ensures refused { IfErr result (λ f. IsRefused (request_fault (On channel (Write bytes.now))
             (state_at side (both_of self.old)).side) f (both_of self.new ≡ both_of self.old)) }
     {
-        self.turns = self.turns.saturating_add(bytes.len() as u64);
         match side {
             Side::Client => self.client.mux.write(channel, bytes),
             Side::Server => self.server.mux.write(channel, bytes),

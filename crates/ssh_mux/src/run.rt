@@ -9,6 +9,7 @@ ghost use Rattle.ssh_mux.specs.Doing.{DoesCall, SettlesSome, link_call};
 ghost use Rattle.ssh_mux.specs.Pairs.{are_within, new_pair};
 ghost use Rattle.ssh_mux.specs.Program.{HasBefore, IsRefusedRun, IsWholeRun};
 ghost use Rattle.ssh_mux.specs.Running.{Called, Carries, IsBrokenOff, IsEndBehind, IsLinkFault, LeavesNone, RefusesStep, RunsSteps, both_of, is_call_refused, on_link, step_fault};
+ghost use Rattle.ssh_mux.specs.Stopping.{IsNoDisconnect, RunsOut, TurnsOn, TurnsOut, WhereStopped, turns_behind};
 ghost use Rattle.ssh_mux.specs.declared.fault.RunFault.TheVariants.{Config as config_fault};
 ghost use Rattle.ssh_mux.specs.declared.run.LinkCall.TheVariants.{Settle as settle_behind};
 ghost use Rattle.ssh_mux.specs.declared.step.ChannelStep.{ChannelStep};
@@ -45,8 +46,9 @@ pub struct Setup<'c> {
 /// Config where a window or a largest packet is out of its bounds, before any step. Unknown, Ended or Full by the first
 /// call that a side refuses, with the report of the steps before. Link where the link refuses a step. Memory.
 ///
-/// Of lawful parts the link of the report is a link between both sides, and no run is refused for a message that comes.
-#[tactic(auto, using(crate::proofs::Refusing::refused_config, crate::proofs::Refusing::refused_link, crate::proofs::Refusing::refused_behind, crate::proofs::Refusing::whole, crate::proofs::Breaking::end_unbroken))]
+/// Of lawful parts the link of the report is a link between both sides, no run is refused for a message that comes, and
+/// no settle comes to no end.
+#[tactic(auto, using(crate::proofs::Refusing::refused_config, crate::proofs::Refusing::refused_link, crate::proofs::Refusing::refused_behind, crate::proofs::Refusing::whole, crate::proofs::Breaking::end_unbroken, crate::proofs::Stopping::end_no_disconnect, crate::proofs::Stopping::config_no_disconnect, crate::proofs::Stopping::new_no_disconnect))]
 pub fn run_channels<'c, A: Agreement, H: HostKeys, G: GroupLookup, R: Rng>(
     alloc: Global,
     setup: &Setup<'c>,
@@ -65,6 +67,12 @@ pub fn run_channels<'c, A: Agreement, H: HostKeys, G: GroupLookup, R: Rng>(
         → A.lawful server_parts.old.agreement (between setup.now.client.now setup.now.server.now)
         → G.lawful server_parts.old.groups (between setup.now.client.now setup.now.server.now)
         → IfErr result (λ end. IsNoMessageFault end.fault) }
+    ensures ends { A.lawful client_parts.old.agreement (between setup.now.client.now setup.now.server.now)
+        → A.lawful server_parts.old.agreement (between setup.now.client.now setup.now.server.now)
+        → H.lawful client_parts.old.hosts (between setup.now.client.now setup.now.server.now)
+        → H.lawful server_parts.old.hosts (between setup.now.client.now setup.now.server.now)
+        → G.lawful server_parts.old.groups (between setup.now.client.now setup.now.server.now)
+        → IfErr result (λ end. IsNoDisconnect end.fault) }
 {
     see_config(setup.client);
     see_config(setup.server);
@@ -99,12 +107,13 @@ fn refused(fault: RunFault) -> MuxEnd
 }
 
 /// The report, if there was memory for it.
-#[tactic(auto, using(crate::proofs::Breaking::end_unbroken))]
+#[tactic(auto, using(crate::proofs::Breaking::end_unbroken, crate::proofs::Stopping::end_no_disconnect))]
 fn ended(report: Result<MuxReport, RunFault>) -> Result<MuxReport, MuxEnd>
     requires { IfErr report IsLinkFault }
     ensures ran { IfOk result (λ r. report ≡ Ok r) }
     ensures refused { IfErr result (λ end. IsLinkFault end.fault × (end.before ≡ None)) }
     ensures unbroken { IfErr report IsNoMessageFault → IfErr result (λ end. IsNoMessageFault end.fault) }
+    ensures ends { IfErr report IsNoDisconnect → IfErr result (λ end. IsNoDisconnect end.fault) }
 {
     match report {
         Ok(report) => Ok(report),
@@ -113,11 +122,12 @@ fn ended(report: Result<MuxReport, RunFault>) -> Result<MuxReport, MuxEnd>
 }
 
 /// The end of a run that is refused: with the report of the steps before where a side refused a call.
-#[tactic(auto, using(crate::proofs::Refusing::ended_untold, crate::proofs::Breaking::end_unbroken))]
+#[tactic(auto, using(crate::proofs::Refusing::ended_untold, crate::proofs::Breaking::end_unbroken, crate::proofs::Stopping::end_no_disconnect))]
 fn broken_off(alloc: Global, link: Link<'_>, pair: &Pair, fault: RunFault) -> MuxEnd
     requires { fault ≡ config_fault → ⊥ }
     ensures ended { IsEndBehind fault (on_link pair.now link.entry) result }
     ensures unbroken { IsNoMessageFault fault → IsNoMessageFault result.fault }
+    ensures ends { IsNoDisconnect fault → IsNoDisconnect result.fault }
 {
     if is_call_refused(&fault) {
         return end_before(alloc, link, pair, fault);
@@ -126,11 +136,12 @@ fn broken_off(alloc: Global, link: Link<'_>, pair: &Pair, fault: RunFault) -> Mu
 }
 
 /// The end of a run in which a side refused a call.
-#[tactic(auto, using(crate::proofs::Refusing::ended_told, crate::proofs::Refusing::ended_wanting, crate::proofs::Breaking::end_unbroken))]
+#[tactic(auto, using(crate::proofs::Refusing::ended_told, crate::proofs::Refusing::ended_wanting, crate::proofs::Breaking::end_unbroken, crate::proofs::Stopping::end_no_disconnect))]
 fn end_before(alloc: Global, link: Link<'_>, pair: &Pair, fault: RunFault) -> MuxEnd
     requires { is_call_refused fault ≡ true }
     ensures ended { IsEndBehind fault (on_link pair.now link.entry) result }
     ensures unbroken { IsNoMessageFault fault → IsNoMessageFault result.fault }
+    ensures ends { IsNoDisconnect fault → IsNoDisconnect result.fault }
 {
     match report_of(alloc, link, pair) {
         Ok(report) => MuxEnd {
@@ -148,6 +159,26 @@ fn is_call_refused(fault: &RunFault) -> bool
     match fault {
         RunFault::Mux(MuxFault::Unknown(_) | MuxFault::Ended(_) | MuxFault::Full) => true,
         _ => false,
+    }
+}
+
+/// How many messages but for data both sides make of one channel at most.
+const TURNS_A_CHANNEL: u64 = 8;
+
+/// How many turns a settle may take behind a step, where it may take so many before: more than the messages that are
+/// still to be made where no more is called.
+fn turns_behind(step: &ChannelStep, turns: u64) -> u64
+    ensures { result ≡ turns_behind step.now turns }
+{
+    match step {
+        ChannelStep::Start(_) => turns.saturating_add(TURNS_A_CHANNEL),
+        ChannelStep::Write(_, _, bytes) => turns.saturating_add(bytes.as_slice().len() as u64),
+        ChannelStep::Read(_, _, _)
+        | ChannelStep::Eof(_, _)
+        | ChannelStep::Close(_, _)
+        | ChannelStep::Deliver(_, _)
+        | ChannelStep::Rekey(_)
+        | ChannelStep::Settle => turns,
     }
 }
 
@@ -169,11 +200,18 @@ fn run_steps<'c, A: Agreement, H: HostKeys, G: GroupLookup, R: Rng>(
     ensures breaks { IfErr result (λ fault. is_message_refused fault ≡ true
         → BreaksRun fault (on_link pair.old link.old) link.new
         × ⟦<Parts<A, H, G, R> as Linked>⟧.goes_on link.old client_parts.old server_parts.old link.new) }
+    ensures stops { IfErr result (λ fault. WhereStopped fault
+        ((RunsOut 2 (on_link pair.old link.old) (on_link pair.new link.new)
+        × ⟦<Parts<A, H, G, R> as Linked>⟧.goes_on link.old client_parts.old server_parts.old link.new)
+        ⊎ ⟦<Parts<A, H, G, R> as Linked>⟧.refuses_on link.old client_parts.old client_parts.new
+        server_parts.old server_parts.new)) }
     ensures client_keeps { ⟦<Parts<A, H, G, R> as Handed>⟧.keeps client_parts.old client_parts.new }
     ensures server_keeps { ⟦<Parts<A, H, G, R> as Handed>⟧.keeps server_parts.old server_parts.new }
 {
+    let mut turns = 2;
     for step in steps {
-        match run_step(link, client_parts, server_parts, pair, step) {
+        turns = turns_behind(step, turns);
+        match run_step(link, client_parts, server_parts, pair, step, turns) {
             Ok(()) => {}
             Err(fault) => return Err(fault),
         }
@@ -189,6 +227,7 @@ fn run_step<'c, A: Agreement, H: HostKeys, G: GroupLookup, R: Rng>(
     server_parts: &mut Parts<A, H, G, R>,
     pair: &mut Pair,
     step: &ChannelStep,
+    turns: u64,
 ) -> Result<(), RunFault>
     ensures run { OnOk result (RunsSteps (step.now ∷ []) (on_link pair.old link.old) (on_link pair.new link.new)) }
     ensures settled { step.now ≡ settle_step → OnOk result (LeavesNone (on_link pair.new link.new)) }
@@ -199,11 +238,16 @@ fn run_step<'c, A: Agreement, H: HostKeys, G: GroupLookup, R: Rng>(
     ensures breaks { IfErr result (λ fault. is_message_refused fault ≡ true
         → BreaksRun fault (on_link pair.old link.old) link.new
         × ⟦<Parts<A, H, G, R> as Linked>⟧.goes_on link.old client_parts.old server_parts.old link.new) }
+    ensures stops { IfErr result (λ fault. WhereStopped fault
+        ((TurnsOut turns step.now (on_link pair.old link.old) (on_link pair.new link.new)
+        × ⟦<Parts<A, H, G, R> as Linked>⟧.goes_on link.old client_parts.old server_parts.old link.new)
+        ⊎ ⟦<Parts<A, H, G, R> as Linked>⟧.refuses_on link.old client_parts.old client_parts.new
+        server_parts.old server_parts.new)) }
     ensures client_keeps { ⟦<Parts<A, H, G, R> as Handed>⟧.keeps client_parts.old client_parts.new }
     ensures server_keeps { ⟦<Parts<A, H, G, R> as Handed>⟧.keeps server_parts.old server_parts.new }
 {
     let behind = call(pair, step)?;
-    carry(link, client_parts, server_parts, pair, behind)
+    carry(link, client_parts, server_parts, pair, behind, turns)
 }
 
 /// Does what the link has to do behind a call.
@@ -213,6 +257,7 @@ fn carry<'c, A: Agreement, H: HostKeys, G: GroupLookup, R: Rng>(
     server_parts: &mut Parts<A, H, G, R>,
     pair: &mut Pair,
     behind: LinkCall,
+    turns: u64,
 ) -> Result<(), RunFault>
     ensures carries { OnOk result (Carries (on_link pair.old link.old) (on_link pair.new link.new)) }
     ensures does { OnOk result (DoesCall behind (on_link pair.old link.old) (on_link pair.new link.new)) }
@@ -223,6 +268,11 @@ fn carry<'c, A: Agreement, H: HostKeys, G: GroupLookup, R: Rng>(
     ensures breaks { IfErr result (λ fault. is_message_refused fault ≡ true
         → BreaksAt fault (on_link pair.old link.old) link.new
         × ⟦<Parts<A, H, G, R> as Linked>⟧.goes_on link.old client_parts.old server_parts.old link.new) }
+    ensures stops { IfErr result (λ fault. WhereStopped fault
+        ((TurnsOn turns (on_link pair.old link.old) (on_link pair.new link.new)
+        × ⟦<Parts<A, H, G, R> as Linked>⟧.goes_on link.old client_parts.old server_parts.old link.new)
+        ⊎ ⟦<Parts<A, H, G, R> as Linked>⟧.refuses_on link.old client_parts.old client_parts.new
+        server_parts.old server_parts.new)) }
     ensures client_keeps { ⟦<Parts<A, H, G, R> as Handed>⟧.keeps client_parts.old client_parts.new }
     ensures server_keeps { ⟦<Parts<A, H, G, R> as Handed>⟧.keeps server_parts.old server_parts.new }
 {
@@ -240,17 +290,18 @@ fn carry<'c, A: Agreement, H: HostKeys, G: GroupLookup, R: Rng>(
             step_link(link, client_parts, server_parts, Step::Rekey(side))?;
             Ok(())
         }
-        LinkCall::Settle => settle(link, client_parts, server_parts, pair),
+        LinkCall::Settle => settle(link, client_parts, server_parts, pair, turns),
     }
 }
 
-/// Carries all until no message is made. Then nothing is on the way.
+/// Carries all until no message is made, in so many turns at most. Then nothing is on the way.
 #[tactic(auto, using(crate::proofs::Carrying::carries_then, crate::proofs::Doing::any_none))]
 fn settle<'c, A: Agreement, H: HostKeys, G: GroupLookup, R: Rng>(
     link: &mut Link<'c>,
     client_parts: &mut Parts<A, H, G, R>,
     server_parts: &mut Parts<A, H, G, R>,
     pair: &mut Pair,
+    turns: u64,
 ) -> Result<(), RunFault>
     ensures carries { OnOk result (Carries (on_link pair.old link.old) (on_link pair.new link.new)) }
     ensures settles { OnOk result (SettlesSome link.old link.new) }
@@ -261,10 +312,15 @@ fn settle<'c, A: Agreement, H: HostKeys, G: GroupLookup, R: Rng>(
     ensures breaks { IfErr result (λ fault. is_message_refused fault ≡ true
         → BreaksAt fault (on_link pair.old link.old) link.new
         × ⟦<Parts<A, H, G, R> as Linked>⟧.goes_on link.old client_parts.old server_parts.old link.new) }
+    ensures stops { IfErr result (λ fault. WhereStopped fault
+        ((TurnsOn turns (on_link pair.old link.old) (on_link pair.new link.new)
+        × ⟦<Parts<A, H, G, R> as Linked>⟧.goes_on link.old client_parts.old server_parts.old link.new)
+        ⊎ ⟦<Parts<A, H, G, R> as Linked>⟧.refuses_on link.old client_parts.old client_parts.new
+        server_parts.old server_parts.new)) }
     ensures client_keeps { ⟦<Parts<A, H, G, R> as Handed>⟧.keeps client_parts.old client_parts.new }
     ensures server_keeps { ⟦<Parts<A, H, G, R> as Handed>⟧.keeps server_parts.old server_parts.new }
 {
-    for _turn in 0..pair.turns {
+    for _turn in 0..turns {
         if !carry_all(link, client_parts, server_parts, pair)? {
             return Ok(());
         }

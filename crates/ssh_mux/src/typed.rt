@@ -29,9 +29,10 @@ fn id_text(id: &SshId) -> &str
     }
 }
 
-/// Fewer than 2^64 steps are held.
+/// Fewer than 2^63 steps are held.
 pub(crate) fn see_steps(steps: &[Step])
     ensures few { length steps.now < 2 ^ 64 }
+    ensures fewer { length steps.now < 2 ^ 63 }
 {
     let _count = steps.len();
 }

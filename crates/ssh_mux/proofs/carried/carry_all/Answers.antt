@@ -1,9 +1,12 @@
-use Rattle.std.proofs.Common.{refl, rules}
+use Rattle.std.proofs.Common.{inl, inr, refl, rules, sym, ◌∙◌}
 use Rattle.ssh_mux.specs.Running.{both_of, on_link}
 use Rattle.ssh_mux.proofs.Breaking.{breaks_behind, broken_so}
 use Rattle.ssh_mux.proofs.Carrying.{carries_then, carries_three, steps_on}
 use Rattle.ssh_mux.proofs.Doing.{settles_once}
 use Rattle.ssh_mux.proofs.Linking.{goes_then}
+use Rattle.ssh_mux.proofs.Stopping.{refused_then, stopped_so}
+use Rattle.ssh_mux.proofs.Turning.{turned_once}
+use Rattle.ssh_mux.proofs.carried.carry_all.Goals.{then-client, else-client}
 use Rattle.ssh_mux.proofs.carried.carry_all.Goals as goal
 
 pub returns-clause-carries : goal.returns-clause-carries
@@ -34,3 +37,24 @@ returns-in_err-server-clause-breaks g c = broken_so c.from_residual-in_err-serve
       goes_then g.A.Agreement.client_makes g.A.Agreement.server_makes g.A.Agreement.agrees g.H.HostKeys.makes c.args.link.now c.step_link.new.link c.receive_delivered-2.new.link c.step_link.ensures.client_keeps c.step_link.ensures.server_keeps c.in_ok-step_link.ensures.goes
           (goes_then g.A.Agreement.client_makes g.A.Agreement.server_makes g.A.Agreement.agrees g.H.HostKeys.makes c.step_link.new.link c.receive_delivered.new.link c.receive_delivered-2.new.link c.receive_delivered.ensures.client_keeps c.receive_delivered.ensures.server_keeps c.in_ok-client.ensures.goes b.1),
     ))
+
+pub returns-in_err-client-clause-stops : goal.returns-in_err-client-clause-stops
+returns-in_err-client-clause-stops g c = stopped_so c.from_residual-in_err-client.result c.in_err-client.field-0.0 _ (search rules)
+    (λ d. refused_then g.A.Agreement.client_makes g.A.Agreement.server_makes g.A.Agreement.agrees g.H.HostKeys.makes c.args.link.now c.step_link.new.link c.args.client_parts.now c.step_link.new.client_parts c.receive_delivered.new.client_parts c.args.server_parts.now c.step_link.new.server_parts c.receive_delivered.new.server_parts
+    c.step_link.ensures.client_keeps c.step_link.ensures.server_keeps c.in_ok-step_link.ensures.goes (c.in_err-client.ensures.stops d))
+
+pub returns-in_err-server-clause-stops : goal.returns-in_err-server-clause-stops
+returns-in_err-server-clause-stops g c = stopped_so c.from_residual-in_err-server.result c.in_err-server.field-0.0 _ (search rules)
+    (λ d. refused_then g.A.Agreement.client_makes g.A.Agreement.server_makes g.A.Agreement.agrees g.H.HostKeys.makes c.args.link.now c.step_link.new.link c.args.client_parts.now c.step_link.new.client_parts c.receive_delivered-2.new.client_parts c.args.server_parts.now c.step_link.new.server_parts c.receive_delivered-2.new.server_parts
+    c.step_link.ensures.client_keeps c.step_link.ensures.server_keeps c.in_ok-step_link.ensures.goes
+    (refused_then g.A.Agreement.client_makes g.A.Agreement.server_makes g.A.Agreement.agrees g.H.HostKeys.makes c.step_link.new.link c.receive_delivered.new.link c.step_link.new.client_parts c.receive_delivered.new.client_parts c.receive_delivered-2.new.client_parts c.step_link.new.server_parts c.receive_delivered.new.server_parts c.receive_delivered-2.new.server_parts
+    c.receive_delivered.ensures.client_keeps c.receive_delivered.ensures.server_keeps c.in_ok-client.ensures.goes (c.in_err-server.ensures.stops d)))
+
+pub returns-clause-turns : goal.returns-clause-turns
+returns-clause-turns g c = λ e.
+    let first = steps_on (both_of c.args.pair.now) _ c.args.link.now c.step_link.new.link refl c.in_ok-step_link.ensures.step in
+    turned_once (on_link c.args.pair.now c.args.link.now) (on_link c.args.pair.now c.step_link.new.link) (on_link c.receive_delivered.new.pair c.receive_delivered.new.link) (on_link c.receive_delivered-2.new.pair c.receive_delivered-2.new.link)
+    c.in_ok-client.client c.in_ok-server.server first c.in_ok-client.ensures.carries c.in_ok-server.ensures.carries c.in_ok-client.ensures.received.made c.in_ok-server.ensures.received c.in_ok-client.ensures.some c.in_ok-server.ensures.some
+    (carries_three (on_link c.args.pair.now c.args.link.now) (on_link c.args.pair.now c.step_link.new.link) (on_link c.receive_delivered.new.pair c.receive_delivered.new.link) (on_link c.receive_delivered-2.new.pair c.receive_delivered-2.new.link)
+    first c.in_ok-client.ensures.carries c.in_ok-server.ensures.carries)
+    (elim c.if-client.branch [ then-client w ↦ inl w.if-client.true | else-client w ↦ inr (sym w.result-is ∙ e) ])

@@ -4,6 +4,7 @@ use Rattle.ssh_mux.specs.declared.fault.RunFault.TheVariants.{Mux}
 use Rattle.ssh_mux.proofs.Breaking.{broken_so, receive_breaks}
 use Rattle.ssh_mux.proofs.Carrying.{carries_then, receives}
 use Rattle.ssh_mux.proofs.Linking.{none_taken}
+use Rattle.ssh_mux.proofs.Stopping.{call_stopped}
 use Rattle.ssh_mux.proofs.carried.receive_delivered.Goals as goal
 
 pub returns-clause-carries : goal.returns-clause-carries
@@ -13,3 +14,6 @@ returns-clause-carries g c = carries_then (on_link c.args.pair.now c.args.link.n
 pub returns-in_err-receive-clause-breaks : goal.returns-in_err-receive-clause-breaks
 returns-in_err-receive-clause-breaks g c = broken_so c.from_residual.result (Mux c.in_err-receive.field-0.0) (on_link c.args.pair.now c.args.link.now) c.args.link.now _ (search rules)
     (λ m. (receive_breaks c.args.side c.delivered.result.now c.args.link.now (both_of c.args.pair.now) c.in_err-receive.field-0.0 c.delivered.ensures.client c.delivered.ensures.server c.in_err-receive.ensures.breaks, none_taken _ _ c.args.link.now c.args.link.now refl))
+
+pub returns-in_err-receive-clause-stops : goal.returns-in_err-receive-clause-stops
+returns-in_err-receive-clause-stops g c = call_stopped c.from_residual.result c.in_err-receive.field-0.0 _ (search rules)

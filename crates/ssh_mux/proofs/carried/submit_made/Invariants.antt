@@ -1,9 +1,10 @@
-use Rattle.std.proofs.Common.{◌≡◌, [], false}
+use Rattle.std.proofs.Common.{◌≡◌, ◌+◌, ◌<◌, [], length, false, true}
 use Rattle.ssh_kex.specs.Parts.{KeepsAgreement, KeepsGroups, KeepsHosts, KeepsParts}
 use Rattle.ssh_kex.specs.Stepping.{says_of}
 use Rattle.ssh_mux.specs.Doing.{OnlySubmits}
 use Rattle.ssh_mux.specs.Linking.{TakesSteps}
 use Rattle.ssh_mux.specs.Running.{Carries, both_of, on_link, state_at}
+use Rattle.ssh_mux.specs.Stopping.{submitted_in}
 use Rattle.ssh_mux.proofs.Carrying.{still_made}
 use Rattle.ssh_mux.proofs.carried.submit_made.Given as goal
 
@@ -14,6 +15,8 @@ invariant-loop-payload g l = record {
   submits : OnlySubmits l.fn.link l.link;
   none_left : l.some ≡ false → l.payload-iterator.rest.items ≡ [];
   still : l.some ≡ false → l.link ≡ l.fn.link;
+  count : submitted_in l.link + length l.payload-iterator.rest.items ≡ submitted_in l.fn.link + length (state_at l.side (both_of l.fn.pair)).made;
+  many : l.some ≡ true → 0 < length (state_at l.side (both_of l.fn.pair)).made;
   goes : TakesSteps
       (says_of g.A.Agreement.lawful g.A.Agreement.offered g.A.Agreement.client_makes g.A.Agreement.server_makes g.A.Agreement.agrees g.H.HostKeys.lawful g.H.HostKeys.signs g.H.HostKeys.judges g.H.HostKeys.accepts g.H.HostKeys.trusts g.H.HostKeys.makes g.G.GroupLookup.lawful g.G.GroupLookup.group l.fn.link.carried.client.transport.config l.fn.client_parts.agreement l.fn.client_parts.hosts l.fn.client_parts.groups)
       (says_of g.A.Agreement.lawful g.A.Agreement.offered g.A.Agreement.client_makes g.A.Agreement.server_makes g.A.Agreement.agrees g.H.HostKeys.lawful g.H.HostKeys.signs g.H.HostKeys.judges g.H.HostKeys.accepts g.H.HostKeys.trusts g.H.HostKeys.makes g.G.GroupLookup.lawful g.G.GroupLookup.group l.fn.link.carried.server.transport.config l.fn.server_parts.agreement l.fn.server_parts.hosts l.fn.server_parts.groups)

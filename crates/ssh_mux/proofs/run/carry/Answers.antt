@@ -4,6 +4,7 @@ use Rattle.ssh_mux.proofs.Breaking.{breaks_behind, broken_so}
 use Rattle.ssh_mux.proofs.Carrying.{carries_then, steps_on}
 use Rattle.ssh_mux.proofs.Doing.{call_done, delivers_once, rekeys_once, settle_done, submits_made}
 use Rattle.ssh_mux.proofs.Linking.{goes_then}
+use Rattle.ssh_mux.proofs.Stopping.{refused_then, stopped_right}
 use Rattle.ssh_mux.proofs.run.carry.Goals as goal
 
 pub returns-in_ok-receive_delivered-in-Deliver-clause-carries : goal.returns-in_ok-receive_delivered-in-Deliver-clause-carries
@@ -38,3 +39,17 @@ returns-in_err-receive_delivered-in-Deliver-clause-breaks g c = broken_so c.from
           (steps_on (both_of c.args.pair.now) _ c.args.link.now c.step_link.new.link refl c.in_ok-step_link-in-Deliver.ensures.step) b.0,
       goes_then g.A.Agreement.client_makes g.A.Agreement.server_makes g.A.Agreement.agrees g.H.HostKeys.makes c.args.link.now c.step_link.new.link c.receive_delivered.new.link c.step_link.ensures.client_keeps c.step_link.ensures.server_keeps c.in_ok-step_link-in-Deliver.ensures.goes b.1,
     ))
+
+pub returns-in_err-submit_made-in-Submit-clause-stops : goal.returns-in_err-submit_made-in-Submit-clause-stops
+returns-in_err-submit_made-in-Submit-clause-stops g c = stopped_right c.from_residual.result c.in_err-submit_made-in-Submit.field-0.0 _ _ (search rules) c.in_err-submit_made-in-Submit.ensures.stops
+
+pub returns-in_err-step_link-in-Deliver-clause-stops : goal.returns-in_err-step_link-in-Deliver-clause-stops
+returns-in_err-step_link-in-Deliver-clause-stops g c = stopped_right c.from_residual-in_err-step_link-in-Deliver.result c.in_err-step_link-in-Deliver.field-0.0 _ _ (search rules) c.in_err-step_link-in-Deliver.ensures.stops
+
+pub returns-in_err-receive_delivered-in-Deliver-clause-stops : goal.returns-in_err-receive_delivered-in-Deliver-clause-stops
+returns-in_err-receive_delivered-in-Deliver-clause-stops g c = stopped_right c.from_residual-in_err-receive_delivered-in-Deliver.result c.in_err-receive_delivered-in-Deliver.field-0.0 _ _ (search rules)
+    (λ d. refused_then g.A.Agreement.client_makes g.A.Agreement.server_makes g.A.Agreement.agrees g.H.HostKeys.makes c.args.link.now c.step_link.new.link c.args.client_parts.now c.step_link.new.client_parts c.receive_delivered.new.client_parts c.args.server_parts.now c.step_link.new.server_parts c.receive_delivered.new.server_parts
+    c.step_link.ensures.client_keeps c.step_link.ensures.server_keeps c.in_ok-step_link-in-Deliver.ensures.goes (c.in_err-receive_delivered-in-Deliver.ensures.stops d))
+
+pub returns-in_err-step_link-in-Rekey-clause-stops : goal.returns-in_err-step_link-in-Rekey-clause-stops
+returns-in_err-step_link-in-Rekey-clause-stops g c = stopped_right c.from_residual-in_err-step_link-in-Rekey.result c.in_err-step_link-in-Rekey.field-0.0 _ _ (search rules) c.in_err-step_link-in-Rekey.ensures.stops

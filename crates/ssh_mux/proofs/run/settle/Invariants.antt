@@ -3,12 +3,14 @@ use Rattle.ssh_kex.specs.Stepping.{says_of}
 use Rattle.ssh_mux.specs.Linking.{TakesSteps}
 use Rattle.ssh_mux.specs.Running.{Carries, on_link}
 use Rattle.ssh_mux.proofs.Doing.{SettlesAny}
+use Rattle.ssh_mux.specs.Stopping.{TurnsOn}
 use Rattle.ssh_mux.proofs.run.settle.Given as goal
 
 abbrev pub invariant-loop-turn : goal.invariant-loop-turn
 invariant-loop-turn g l = record {
   carries : Carries (on_link l.fn.pair l.fn.link) (on_link l.pair l.link);
   settles : SettlesAny l.fn.link l.link;
+  turns : TurnsOn l._turn (on_link l.fn.pair l.fn.link) (on_link l.pair l.link);
   goes : TakesSteps
       (says_of g.A.Agreement.lawful g.A.Agreement.offered g.A.Agreement.client_makes g.A.Agreement.server_makes g.A.Agreement.agrees g.H.HostKeys.lawful g.H.HostKeys.signs g.H.HostKeys.judges g.H.HostKeys.accepts g.H.HostKeys.trusts g.H.HostKeys.makes g.G.GroupLookup.lawful g.G.GroupLookup.group l.fn.link.carried.client.transport.config l.fn.client_parts.agreement l.fn.client_parts.hosts l.fn.client_parts.groups)
       (says_of g.A.Agreement.lawful g.A.Agreement.offered g.A.Agreement.client_makes g.A.Agreement.server_makes g.A.Agreement.agrees g.H.HostKeys.lawful g.H.HostKeys.signs g.H.HostKeys.judges g.H.HostKeys.accepts g.H.HostKeys.trusts g.H.HostKeys.makes g.G.GroupLookup.lawful g.G.GroupLookup.group l.fn.link.carried.server.transport.config l.fn.server_parts.agreement l.fn.server_parts.hosts l.fn.server_parts.groups)
