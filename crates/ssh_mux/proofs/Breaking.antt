@@ -2,13 +2,13 @@
 use Rattle.std.proofs.Common.{◌≡◌, ℕ, Bool, true, false, if◌then◌else◌, List, [], ◌++◌, drop, slice_get, Option, Some, None, Result, Ok, Err, IfErr, refl, sym, ap, ◌∙◌, subst}
 use Rattle.ssh_wire.specs.declared.side.Side.{Side}
 use Rattle.ssh_wire.specs.declared.side.Side.TheVariants.{Client, Server}
-use Rattle.ssh_channels.specs.Asking.{IsRefused, call_fault_at, request_fault}
+use Rattle.ssh_channels.specs.Asking.{IsRefused, call_fault_at, request_fault, RefusesOneOf}
 use Rattle.ssh_channels.specs.Ends.{Call, CallClose, CallEof, Read, Write}
 use Rattle.ssh_channels.specs.Muxes.{Channel, On, Request, Start}
 use Rattle.ssh_channels.specs.Muxes as muxes
 use Rattle.ssh_channels.specs.declared.fault.MuxFault.{MuxFault}
 use Rattle.ssh_run.specs.Stepping.{LinkState, first_link_state}
-use Rattle.ssh_mux.specs.Breaking.{Breaks, BreaksAt, BreaksRun, IsNoMessageFault, is_message_fault, is_message_refused}
+use Rattle.ssh_mux.specs.Breaking.{BreaksAt, BreaksRun, IsNoMessageFault, is_message_fault, is_message_refused}
 use Rattle.ssh_mux.specs.Running.{Both, Called, Carries, PairOnLink, RunsSteps, delivered_at, fault_as, first_on_link, on_link, request_of, side_at, state_at, step_fault}
 use Rattle.ssh_mux.specs.Pairs.{new_pair}
 use Rattle.ssh_mux.specs.declared.fault.RunFault.{RunFault}
@@ -30,11 +30,11 @@ broken_so r fault old l T e h = subst (λ x. IfErr x (λ f. is_message_refused f
 
 -- a side refuses one of the payloads that were delivered to it
 pub receive_breaks : (side : Side) (delivered : List (List ℕ)) (l : LinkState) (old : Both) (fault : MuxFault) → (side ≡ Client → delivered ≡ l.carried.client.delivered) → (side ≡ Server → delivered ≡ l.carried.server.delivered)
-    → Breaks (drop (side_at side old).received delivered) (state_at side old) fault → BreaksAt (Mux fault) (record { both = old; link = l }) l
+    → RefusesOneOf (drop (side_at side old).received delivered) (state_at side old) fault → BreaksAt (Mux fault) (record { both = old; link = l }) l
 receive_breaks side delivered l old fault c s h = record {
   both = old;
   carries = carries_none _ _ refl;
-  breaks = record { side = side; due = fault; fault_is = refl; breaks = subst (λ d. Breaks (drop (side_at side old).received d) (state_at side old) fault) (all side c s) h };
+  breaks = record { side = side; due = fault; fault_is = refl; breaks = subst (λ d. RefusesOneOf (drop (side_at side old).received d) (state_at side old) fault) (all side c s) h };
 }
   where
     all : (side : Side) → (side ≡ Client → delivered ≡ l.carried.client.delivered) → (side ≡ Server → delivered ≡ l.carried.server.delivered) → delivered ≡ delivered_at side l

@@ -4,7 +4,7 @@ use Rattle.std.proofs.lemmas.List.{drop_more, take-append-drop, take_more}
 use Rattle.ssh_wire.specs.Sides.{other_side}
 use Rattle.ssh_wire.specs.declared.side.Side.{Side}
 use Rattle.ssh_wire.specs.declared.side.Side.TheVariants.{Client, Server}
-use Rattle.ssh_channels.specs.Asking.{IsRefused, MuxState, TakesPayload, payload_fault}
+use Rattle.ssh_channels.specs.Asking.{IsRefused, MuxState, TakesPayload, payload_fault, ReceivesAll, RefusesOneOf}
 use Rattle.ssh_channels.specs.declared.fault.MuxFault.{MuxFault}
 use Rattle.ssh_kex.specs.Setting.{Says}
 use Rattle.ssh_rules.specs.declared.link.Step.{Step}
@@ -14,17 +14,10 @@ use Rattle.ssh_run.specs.Carrying.{CarriedEnd, CarriedLink, CarriesTo, RepeatsTu
 use Rattle.ssh_run.specs.Stepping.{LinkState, TakesStep}
 use Rattle.ssh_wire.specs.declared.error.Error.{Error}
 use Rattle.ssh_wire.specs.declared.error.Error.TheVariants.{Disconnect}
-use Rattle.ssh_mux.specs.Breaking.{Breaks}
-use Rattle.ssh_mux.specs.Running.{Both, Called, Carried, Received, ReceivesNew, Stepped, Submitted, state_at, side_at, with_state, Carries, CarriesBy, CarriesFor, DeliversNone, IsBrokenOff, IsLinkFault, PairOnLink, is_submit, RefusesStep, RunsSteps, TakesAll, LinkGoes, step_fault}
+use Rattle.ssh_mux.specs.Running.{Both, Called, Carried, Received, ReceivesNew, Stepped, Submitted, state_at, side_at, with_state, Carries, CarriesBy, CarriesFor, DeliversNone, IsBrokenOff, IsLinkFault, PairOnLink, is_submit, RefusesStep, RunsSteps, LinkGoes, step_fault}
 use Rattle.ssh_mux.specs.declared.fault.RunFault.{RunFault}
 use Rattle.ssh_mux.specs.declared.fault.RunFault.TheVariants.{Mux}
 use Rattle.ssh_mux.specs.declared.step.ChannelStep.{ChannelStep}
-
-pub drop_past : {A : Type 0} (n : ℕ) (l : List A) → length l ≤ n → drop n l ≡ []
-drop_past zero [] h = refl
-drop_past zero (x ∷ l) h = absurd (omega (arith, h))
-drop_past (suc n) [] h = refl
-drop_past (suc n) (x ∷ l) h = drop_past n l (omega (arith, h))
 
 pub carries_none : (old new : PairOnLink) → new ≡ old → Carries old new
 carries_none old new e = ([], e)
@@ -41,32 +34,6 @@ carries_then old mid new h k = carries_by h.0 old mid new h.1 k
 
 pub carries_three : (a b c d : PairOnLink) → Carries a b → Carries b c → Carries c d → Carries a d
 carries_three a b c d h k l = carries_then a b d h (carries_then b c d k l)
-
-pub takes_more : (payloads : List (List ℕ)) (payload : List ℕ) (old mid new : MuxState) → TakesAll payloads old mid → TakesPayload payload mid new → TakesAll (payloads ++ payload ∷ []) old new
-takes_more [] payload old mid new e h = (new, subst (λ m. TakesPayload payload m new) e h, refl)
-takes_more (p ∷ payloads) payload old mid new h k = (h.0, h.1, takes_more payloads payload h.0 mid new h.2 k)
-
-pub next_takes : (all : List (List ℕ)) (i : ℕ) (payload item : List ℕ) (old mid new : MuxState) → i < length all → item ≡ get_or all i item → payload ≡ item
-    → TakesAll (take i all) old mid → TakesPayload payload mid new → TakesAll (take (i + 1) all) old new
-next_takes all i payload item old mid new h is p t k =
-    subst (λ l. TakesAll l old new) (ap (λ x. take i all ++ x ∷ []) (p ∙ is) ∙ sym (take_more all i item h)) (takes_more (take i all) payload old mid new t k)
-
--- the next payload is refused
-pub payload_breaks : (all : List (List ℕ)) (i : ℕ) (payload item : List ℕ) (fault : MuxFault) (old mid new : MuxState) → i < length all → item ≡ get_or all i item → payload ≡ item
-    → TakesAll (take i all) old mid → IsRefused (payload_fault payload mid.side) fault (new ≡ mid) → Breaks all old fault
-payload_breaks all i payload item fault old mid new h is p t r = record {
-  done = take i all;
-  payload = payload;
-  rest = drop (i + 1) all;
-  mid = mid;
-  all = sym (take-append-drop i all) ∙ ap (λ l. take i all ++ l) (drop_more all i item h ∙ ap (λ x. x ∷ drop (i + 1) all) (sym (p ∙ is)));
-  takes = t;
-  new = new;
-  refused = r;
-}
-
-pub breaks_so : {A : Type 0} (r : Result A MuxFault) (all payloads : List (List ℕ)) (old : MuxState) (fault : MuxFault) → r ≡ Err fault → all ≡ payloads → Breaks all old fault → IfErr r (λ f. Breaks payloads old f)
-breaks_so r all payloads old fault e is h = subst (λ x. IfErr x (λ f. Breaks payloads old f)) (sym e) (subst (λ l. Breaks l old fault) is h)
 
 -- one step, and some behind others
 pub one_step : (step : ChannelStep) (old : PairOnLink) (called : Both) (new : PairOnLink) → Called step old.both called → CarriesFor step (record { both = called; link = old.link }) new → RunsSteps (step ∷ []) old new
@@ -107,19 +74,10 @@ refuses step f old new l h = by (step_fault step old) refl h where
 -- ---- what a side receives
 
 pub received_ok : {A E : Type 0} (r : Result A E) (side : Side) (delivered : List (List ℕ)) (old new : Both) → side_at (other_side side) new ≡ side_at (other_side side) old
-    → OnOk r (TakesAll (drop (side_at side old).received delivered) (state_at side old) (state_at side new) × ((side_at side new).received ≡ max (side_at side old).received (length delivered)))
+    → OnOk r (ReceivesAll (drop (side_at side old).received delivered) (state_at side old) (state_at side new) × ((side_at side new).received ≡ max (side_at side old).received (length delivered)))
     → OnOk r (ReceivesNew side delivered old new)
 received_ok (Ok x) side delivered old new o h = record { takes = h.0; received = h.1; other = o }
 received_ok (Err e) side delivered old new o h = tt
-
--- nothing is new
-pub none_new : (n : ℕ) (delivered : List (List ℕ)) (old new : MuxState) (received : ℕ) → length delivered < n → new ≡ old → received ≡ n → TakesAll (drop n delivered) old new × (received ≡ max n (length delivered))
-none_new n delivered old new received l e f =
-    let none : drop n delivered ≡ [] = drop_past n delivered (omega (arith, l)) in
-    (subst (λ d. TakesAll d old new) (sym none) e, f ∙ (let m : n ≡ max n (length delivered) = omega (arith, l) in m))
-
-pub all_new : (n : ℕ) (delivered : List (List ℕ)) → n ≤ length delivered → length delivered ≡ max n (length delivered)
-all_new n delivered l = omega (arith, l)
 
 -- ---- what is submitted
 

@@ -11,7 +11,7 @@ use Rattle.ssh_rules.specs.declared.link.Step.{Step}
 use Rattle.ssh_rules.specs.declared.link.Step.TheVariants.{Submit, Deliver, Rekey, Settle}
 use Rattle.ssh_run.specs.Carrying.{CarriedLink, both_marks}
 use Rattle.ssh_run.specs.Stepping.{LinkState, first_link_state}
-use Rattle.ssh_channels.specs.Asking.{IsRefused, MuxState, payload_fault}
+use Rattle.ssh_channels.specs.Asking.{IsRefused, MuxState, payload_fault, ReceivesAll}
 use Rattle.ssh_channels.specs.declared.fault.MuxFault.TheVariants.{Memory}
 use Rattle.ssh_channels.specs.Formats.{PacketFault, packet_of, packet_text}
 use Rattle.ssh_channels.specs.Laws.{AreSettings}
@@ -23,7 +23,7 @@ use Rattle.ssh_mux.specs.Honesty.{IsHonest, IsPairAt, RunsAreTalks, RunsFlow, ne
 use Rattle.ssh_mux.proofs.OnTime.{IsBefore, IsMarkedLink, MakesHonest, link_honest}
 use Rattle.ssh_mux.specs.Pairs.{are_within}
 use Rattle.ssh_mux.specs.Breaking.{BreaksNow, BreaksRun, IsNoMessageFault, is_message_fault, is_message_refused}
-use Rattle.ssh_mux.specs.Running.{Both, CalledAs, Carried, CarriesBy, IsCall, PairOnLink, Received, ReceivesNew, RunsSteps, Stepped, Submitted, TakesAll, LinkGoes, delivered_at, first_on_link, is_submit, request_of, side_at, state_at, with_state}
+use Rattle.ssh_mux.specs.Running.{Both, CalledAs, Carried, CarriesBy, IsCall, PairOnLink, Received, ReceivesNew, RunsSteps, Stepped, Submitted, LinkGoes, delivered_at, first_on_link, is_submit, request_of, side_at, state_at, with_state}
 use Rattle.ssh_mux.specs.declared.pair.PairConfig.{PairConfig}
 use Rattle.ssh_mux.specs.declared.pair.PairSide.{PairSide}
 use Rattle.ssh_mux.specs.declared.fault.RunFault.{RunFault}
@@ -130,7 +130,7 @@ one_packet : (p q : Packet) → (let x : Result Packet PacketFault = Ok p in x) 
 one_packet p q e = cc
 
 take_all : (w m v k : ℕ) → AreSettings w m v k → (side : Side) (payloads : List (List ℕ)) (mids : List MuxPair) (b : MuxPair) (old new : MuxState) (rest pre : List (List ℕ)) → HappensOn mids (both_new w m v k) b
-    → mux_of side b ≡ old.side → map (λ p. packet_text p) (way_to side b) ≡ payloads ++ rest → map (λ p. packet_text p) (way_to (other_side side) b) ≡ pre ++ old.made → TakesAll payloads old new
+    → mux_of side b ≡ old.side → map (λ p. packet_text p) (way_to side b) ≡ payloads ++ rest → map (λ p. packet_text p) (way_to (other_side side) b) ≡ pre ++ old.made → ReceivesAll payloads old new
     → HasTakenAll w m v k side b old new rest pre
 take_all w m v k are side [] mids b old new rest pre happens own way back e = record {
   mids = mids;

@@ -1,4 +1,5 @@
 -- Behind a run whose last step is a settle nothing is on the way.
+use Rattle.std.proofs.lemmas.List.{drop_all}
 use Rattle.std.proofs.Common.{◌≡◌, ℕ, suc, ◌≤◌, true, false, List, [], ◌∷◌, ◌++◌, length, take, drop, map, slice_get, Option, Some, None, refl, sym, ap, ◌∙◌, subst, append-nil, length-append, arith}
 use Rattle.ssh_wire.specs.Sides.{other_side}
 use Rattle.ssh_wire.specs.declared.side.Side.{Side}
@@ -20,7 +21,6 @@ use Rattle.ssh_mux.specs.Honesty.{IsPairAt, RunsSettle}
 use Rattle.ssh_mux.specs.Pairs.{are_within}
 use Rattle.ssh_mux.specs.Running.{LeavesNone, PairOnLink, state_at}
 use Rattle.ssh_mux.specs.declared.pair.PairConfig.{PairConfig}
-use Rattle.ssh_mux.proofs.Carrying.{drop_past}
 use Rattle.ssh_mux.proofs.Honesty.{runs_are_talks, settings}
 use Rattle.ssh_mux.proofs.OnTime.{submitted_at}
 
@@ -80,7 +80,7 @@ none_of_none f (x ∷ l) e = absurd (let z : f x ∷ map f l ≡ [] = e in cc)
 none_on_way : (way : List Packet) (received : ℕ) (submitted made : List (List ℕ)) → map (λ p. packet_text p) way ≡ drop received (submitted ++ made) → made ≡ [] → length submitted ≤ received → way ≡ []
 none_on_way way received submitted made is none all =
     let e : submitted ++ made ≡ submitted = ap (λ l. submitted ++ l) none ∙ append-nil submitted in
-    none_of_none (λ p. packet_text p) way (is ∙ (ap (drop received) e ∙ drop_past received submitted all))
+    none_of_none (λ p. packet_text p) way (is ∙ (ap (drop received) e ∙ drop_all received submitted all))
 
 is_quiet : (config : PairConfig) (s : PairOnLink) (p : IsPairAt config s) → LeavesNone s → IsDelivered s.link → IsQuietPair p.pair
 is_quiet config s p none all = (

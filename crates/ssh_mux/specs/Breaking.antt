@@ -1,11 +1,11 @@
 -- Where a run is refused for a message that came.
 use Rattle.std.specs.Prelude.{◌≡◌, ℕ, Bool, true, false, List, ◌∷◌, ◌++◌, drop}
 use Rattle.ssh_wire.specs.declared.side.Side.{Side}
-use Rattle.ssh_channels.specs.Asking.{IsRefused, MuxState, payload_fault}
+use Rattle.ssh_channels.specs.Asking.{IsRefused, MuxState, payload_fault, ReceivesAll, RefusesOneOf}
 use Rattle.ssh_channels.specs.declared.fault.MuxFault.{MuxFault}
 use Rattle.ssh_channels.specs.declared.fault.MuxFault.TheVariants as mux
 use Rattle.ssh_run.specs.Stepping.{LinkState}
-use Rattle.ssh_mux.specs.Running.{Both, Called, Carries, PairOnLink, RunsSteps, TakesAll, delivered_at, side_at, state_at}
+use Rattle.ssh_mux.specs.Running.{Both, Called, Carries, PairOnLink, RunsSteps, delivered_at, side_at, state_at}
 use Rattle.ssh_mux.specs.declared.fault.RunFault.{RunFault}
 use Rattle.ssh_mux.specs.declared.fault.RunFault.TheVariants.{Config, Link, Mux}
 use Rattle.ssh_mux.specs.declared.step.ChannelStep.{ChannelStep}
@@ -29,23 +29,12 @@ is_message_refused (Link e) = false
 abbrev pub IsNoMessageFault : RunFault → Type 0
 IsNoMessageFault fault = is_message_refused fault ≡ false
 
--- A side receives some payloads, and refuses the next one.
-pub record Breaks (payloads : List (List ℕ)) (old : MuxState) (fault : MuxFault) : Type 0 where
-  pub done : List (List ℕ)
-  pub payload : List ℕ
-  pub rest : List (List ℕ)
-  pub mid : MuxState
-  pub all : payloads ≡ done ++ payload ∷ rest
-  pub takes : TakesAll done old mid
-  pub new : MuxState
-  pub refused : IsRefused (payload_fault payload mid.side) fault (new ≡ mid)
-
 -- A side refuses one of the payloads that the link delivered to it and that it hasn't received.
 pub record BreaksNow (fault : RunFault) (s : PairOnLink) : Type 0 where
   pub side : Side
   pub due : MuxFault
   pub fault_is : fault ≡ Mux due
-  pub breaks : Breaks (drop (side_at side s.both).received (delivered_at side s.link)) (state_at side s.both) due
+  pub breaks : RefusesOneOf (drop (side_at side s.both).received (delivered_at side s.link)) (state_at side s.both) due
 
 -- What was carried led to a moment on this link, in which a side refuses a payload.
 pub record BreaksAt (fault : RunFault) (old : PairOnLink) (l : LinkState) : Type 0 where

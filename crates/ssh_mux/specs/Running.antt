@@ -8,7 +8,7 @@ use Rattle.ssh_rules.specs.declared.link.Step.{Step}
 use Rattle.ssh_rules.specs.declared.link.Step.TheVariants as steps
 use Rattle.ssh_run.specs.Carrying.{CarriedLink, both_marks}
 use Rattle.ssh_run.specs.Stepping.{LinkState, first_link_state, report_so_far}
-use Rattle.ssh_channels.specs.Asking.{Answers, MuxState, TakesPayload, request_fault}
+use Rattle.ssh_channels.specs.Asking.{Answers, MuxState, TakesPayload, request_fault, ReceivesAll}
 use Rattle.ssh_channels.specs.Ends as ends
 use Rattle.ssh_channels.specs.Muxes.{On, Request}
 use Rattle.ssh_channels.specs.Muxes as muxes
@@ -86,11 +86,6 @@ fault_as (Some call) b = request_fault call.1 (state_at call.0 b).side
 abbrev pub step_fault : ChannelStep → Both → Option MuxFault
 step_fault step b = fault_as (request_of step) b
 
--- payloads that came, in their order
-abbrev pub TakesAll : List (List ℕ) → (old new : MuxState) → Type 0
-TakesAll [] old new = new ≡ old
-TakesAll (payload ∷ payloads) old new = (mid : MuxState) × TakesPayload payload old mid × TakesAll payloads mid new
-
 -- the payloads that the link delivered to a side
 abbrev pub delivered_at : Side → LinkState → List (List ℕ)
 delivered_at Client l = l.carried.client.delivered
@@ -98,7 +93,7 @@ delivered_at Server l = l.carried.server.delivered
 
 -- A side received those of some delivered payloads that it hadn't received, in their order.
 pub record ReceivesNew (side : Side) (delivered : List (List ℕ)) (old new : Both) : Type 0 where
-  pub takes : TakesAll (drop (side_at side old).received delivered) (state_at side old) (state_at side new)
+  pub takes : ReceivesAll (drop (side_at side old).received delivered) (state_at side old) (state_at side new)
   pub received : (side_at side new).received ≡ max (side_at side old).received (length delivered)
   pub other : side_at (other_side side) new ≡ side_at (other_side side) old
 

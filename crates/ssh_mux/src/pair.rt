@@ -2,11 +2,10 @@
 
 ghost use Rattle.std.specs.Prelude.{◌≡◌, [], OnOk, IfErr, drop, false, length, max};
 ghost use Rattle.ssh_wire.specs.Sides.{other_side};
-ghost use Rattle.ssh_channels.specs.Asking.{IsRefused, TakesPayload, payload_fault, request_fault};
+ghost use Rattle.ssh_channels.specs.Asking.{IsRefused, TakesPayload, payload_fault, request_fault, ReceivesAll, RefusesOneOf};
 ghost use Rattle.ssh_channels.specs.Ends.{CallClose, CallEof, Read, Write};
 ghost use Rattle.ssh_channels.specs.Muxes.{On, Start};
-ghost use Rattle.ssh_mux.specs.Breaking.{Breaks};
-ghost use Rattle.ssh_mux.specs.Running.{IsCall, ReceivesNew, TakesAll, both_of, is_call_fault, side_at, state_at};
+ghost use Rattle.ssh_mux.specs.Running.{IsCall, ReceivesNew, both_of, is_call_fault, side_at, state_at};
 ghost use Rattle.ssh_mux.specs.Pairs.{are_within, new_pair, new_side};
 
 use ssh_channels::{Mux, MuxConfig, MuxFault};
@@ -58,10 +57,10 @@ fn receive_one(mux: &mut Mux, payload: &Payload) -> Result<(), MuxFault>
 
 /// A side receives those of the delivered payloads that it hasn't received.
 fn receive_new(side: &mut PairSide, delivered: &[Payload]) -> Result<(), MuxFault>
-    ensures takes { OnOk result (TakesAll (drop side.old.received delivered.now) side.old.mux side.new.mux
+    ensures takes { OnOk result (ReceivesAll (drop side.old.received delivered.now) side.old.mux side.new.mux
         × (side.new.received ≡ max side.old.received (length delivered.now))) }
     ensures err { IfErr result (λ f. is_call_fault f ≡ false) }
-    ensures breaks { IfErr result (λ f. Breaks (drop side.old.received delivered.now) side.old.mux f) }
+    ensures breaks { IfErr result (λ f. RefusesOneOf (drop side.old.received delivered.now) side.old.mux f) }
 {
     let Some(new) = delivered.get(side.received..) else {
         return Ok(());
@@ -96,7 +95,7 @@ impl Pair {
     pub fn receive(&mut self, side: Side, delivered: &[Payload]) -> Result<(), MuxFault>
         ensures received { OnOk result (ReceivesNew side delivered.now (both_of self.old) (both_of self.new)) }
         ensures err { IfErr result (λ f. is_call_fault f ≡ false) }
-        ensures breaks { IfErr result (λ f. Breaks (drop (side_at side (both_of self.old)).received delivered.now)
+        ensures breaks { IfErr result (λ f. RefusesOneOf (drop (side_at side (both_of self.old)).received delivered.now)
             (state_at side (both_of self.old)) f) }
     {
         match side {
