@@ -6,5 +6,5 @@ pub use Rattle.ssh_channels.proofs.Joint.{Joint, fixed, joint, joint_first, join
 pub use Rattle.ssh_channels.proofs.Sending.{Each, IsTelling, behind_none, each_more, sent_is}
 pub use Rattle.ssh_channels.proofs.Lowering.{hear_costs, opener_costs, other_costs, send_costs}
 pub use Rattle.ssh_channels.proofs.FormatLaws.{read_again}
-pub use Rattle.ssh_channels.proofs.Ending.{all_comes}
+pub use Rattle.ssh_channels.proofs.Ending.{all_comes, all_ends, only_called}
 pub use Rattle.ssh_channels.proofs.Receiving.{receives_next, refuses_next, refuses_so}
