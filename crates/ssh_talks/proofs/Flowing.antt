@@ -1,4 +1,4 @@
--- What follows for every channel: it flows well, and nothing that comes is refused.
+-- What follows for every channel: it flows well, it ends as its callers asked, and nothing that comes is refused.
 use Rattle.std.proofs.Common.{◌≡◌, ℕ, zero, suc, ◌+◌, ◌-◌, ◌^◌, ◌<◌, min, nat_le, nat_lt, ◌||◌, Bool, true, false, List, [], ◌∷◌, length, take, slice_get, Option, Some, None, inl, inr, refl, sym, ap, ◌∙◌, subst, arith}
 use Rattle.std.proofs.lemmas.Bool.{leb-true, ltb-true}
 use Rattle.ssh_wire.specs.declared.side.Side.TheVariants.{Client, Server}
@@ -8,10 +8,10 @@ use Rattle.ssh_channels.specs.declared.end.End.{End}
 use Rattle.ssh_channels.specs.Asking.{excess, fault_in, message_fault_at, packet_fault_to}
 use Rattle.ssh_channels.specs.Ends.{IsTooMuch}
 use Rattle.ssh_channels.specs.Conversation.{Talk, opened}
-use Rattle.ssh_channels.specs.Laws.{AreSettings, Reached}
+use Rattle.ssh_channels.specs.Laws.{AreSettings, Finishes, Reached}
 use Rattle.ssh_channels.specs.Muxes.{Asks, Channel, Mux, On, Packet, Request, Start, TakesAt}
-use Rattle.ssh_channels.proofs.Lemmas.{all_comes, comes_in_order, fixed, keeps_windows, nothing_refused}
-use Rattle.ssh_talks.specs.Talks.{Asked, Came, CameAll, ChannelsCome, ChannelsFlow, FlowsWell, Happens, HappensOn, MuxPair, NoPacketRefused, both_new, for_channel, with_mux}
+use Rattle.ssh_channels.proofs.Lemmas.{all_comes, all_ends, comes_in_order, fixed, keeps_windows, nothing_refused, only_called}
+use Rattle.ssh_talks.specs.Talks.{Asked, Came, CameAll, ChannelsCome, ChannelsEnd, ChannelsFinish, ChannelsFlow, EndsAsCalled, FlowsWell, Happens, HappensOn, MuxPair, NoPacketRefused, both_new, for_channel, with_mux}
 use Rattle.ssh_talks.proofs.Packets.{if_false}
 use Rattle.ssh_talks.proofs.Halves.{answering, one_some}
 use Rattle.ssh_talks.proofs.Talking.{Joined, are_joined, head_for, swapped}
@@ -153,6 +153,47 @@ channels_come w m v k are mids b happens quiet Server n c at s unshut =
     let t = client_bounds w m v k b are (settled w m v k mids b happens) in
     let o = other_of b.server b.client b.to_client b.to_server n c j at s in
     (o.opener, o.at, o.started, λ other. comes b.server b.client b.to_client b.to_server n c t quiet.0 quiet.1 o unshut other)
+
+-- ---- how a channel ends
+
+ends : (a b : Mux) (to_b to_a : List Packet) (n : ℕ) (c : Channel) → (o : OtherOf a b to_b to_a n c) → EndsAsCalled o.opener.end c.end
+ends a b to_b to_a n c o =
+    let x = only_called b.window b.most a.window a.most o.talk o.reached in
+    let of_talk : EndsAsCalled o.talk.opener o.talk.other = record { ended = x.0; ended_back = x.1; closed = x.2 } in
+    subst (λ e. EndsAsCalled o.opener.end e) o.other_is (subst (λ e. EndsAsCalled e o.talk.other) o.opener_is of_talk)
+
+pub channels_end : ChannelsEnd
+channels_end w m v k mids b happens Client n c at s =
+    let j = are_joined w m v k mids b happens in
+    let o = other_of b.client b.server b.to_server b.to_client n c j at s in
+    (o.opener, o.at, o.started, ends b.client b.server b.to_server b.to_client n c o)
+channels_end w m v k mids b happens Server n c at s =
+    let j = swapped b.client b.server b.to_server b.to_client (are_joined w m v k mids b happens) in
+    let o = other_of b.server b.client b.to_client b.to_server n c j at s in
+    (o.opener, o.at, o.started, ends b.server b.client b.to_client b.to_server n c o)
+
+finish : (a b : Mux) (to_b to_a : List Packet) (n : ℕ) (c : Channel) → to_b ≡ [] → to_a ≡ [] → (o : OtherOf a b to_b to_a n c) → Finishes o.opener.end c.end × Finishes c.end o.opener.end
+finish a b to_b to_a n c none_to_b none_to_a o =
+    let x = all_ends b.window b.most a.window a.most o.talk o.reached (record {
+      to_other = o.to_other_is ∙ ap (for_channel n) none_to_a;
+      to_opener = o.to_opener_is ∙ ap (for_channel c.peer) none_to_b;
+      accepted = o.told;
+    }) in (
+      subst (λ e. Finishes o.opener.end e) o.other_is (subst (λ e. Finishes e o.talk.other) o.opener_is x.0),
+      subst (λ e. Finishes e o.opener.end) o.other_is (subst (λ e. Finishes o.talk.other e) o.opener_is x.1),
+    )
+
+pub channels_finish : ChannelsFinish
+channels_finish w m v k mids b happens quiet Client n c at s =
+    let j = are_joined w m v k mids b happens in
+    let o = other_of b.client b.server b.to_server b.to_client n c j at s in
+    let f = finish b.client b.server b.to_server b.to_client n c quiet.1 quiet.0 o in
+    (o.opener, o.at, o.started, f.0, f.1)
+channels_finish w m v k mids b happens quiet Server n c at s =
+    let j = swapped b.client b.server b.to_server b.to_client (are_joined w m v k mids b happens) in
+    let o = other_of b.server b.client b.to_client b.to_server n c j at s in
+    let f = finish b.server b.client b.to_client b.to_server n c quiet.0 quiet.1 o in
+    (o.opener, o.at, o.started, f.0, f.1)
 
 -- ---- nothing is refused
 

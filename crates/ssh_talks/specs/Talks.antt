@@ -1,16 +1,16 @@
 -- Two sides with their channels over an honest carrier: what may happen, and what each channel is at every moment.
-use Rattle.std.specs.Prelude.{◌≡◌, ℕ, ◌+◌, ◌≤◌, ◌==◌, ◌&&◌, min, Bool, true, false, if◌then◌else◌, List, [], ◌∷◌, ◌++◌, length, take, slice_get, Option, Some, None, Ok}
+use Rattle.std.specs.Prelude.{◌≡◌, ℕ, ◌+◌, ◌≤◌, ◌==◌, ◌&&◌, ◌⊎◌, min, Bool, true, false, if◌then◌else◌, List, [], ◌∷◌, ◌++◌, length, take, slice_get, Option, Some, None, Ok}
 use Rattle.ssh_wire.specs.Sides.{other_side}
 use Rattle.ssh_wire.specs.declared.side.Side.{Side}
 use Rattle.ssh_wire.specs.declared.side.Side.TheVariants.{Client, Server}
 use Rattle.ssh_channels.specs.Phases.{Message}
 use Rattle.ssh_channels.specs.Ends.{fresh}
 use Rattle.ssh_channels.specs.declared.end.End.{End}
-use Rattle.ssh_channels.specs.declared.end.Phase.TheVariants.{Failed, Silent}
+use Rattle.ssh_channels.specs.declared.end.Phase.TheVariants.{Failed, Shut, Silent}
 use Rattle.ssh_channels.specs.Conversation.{Talk, opened}
 use Rattle.ssh_channels.specs.Asking.{packet_fault_to, payload_fault}
 use Rattle.ssh_channels.specs.Formats.{packet_of, packet_text}
-use Rattle.ssh_channels.specs.Laws.{AreSettings, IsPrefixOf, Reached}
+use Rattle.ssh_channels.specs.Laws.{AreSettings, Finishes, IsPrefixOf, Reached}
 use Rattle.ssh_channels.specs.Muxes.{Asks, Channel, Mux, Packet, Request, Takes}
 
 -- both sides, and the packets that are on the way to each
@@ -149,6 +149,28 @@ ChannelsCome = (w m v k : ℕ) → AreSettings w m v k → (mids : List MuxPair)
     → (side : Side) (n : ℕ) (c : Channel) → slice_get (mux_of side b).channels n ≡ Some c → c.started ≡ false → c.end.close_called ≡ false
     → (d : Channel) × (slice_get (mux_of (other_side side) b).channels c.peer ≡ Some d) × (d.started ≡ true)
     × (d.end.close_called ≡ false → CameAll d.end c.end × CameAll c.end d.end)
+
+-- What holds between two ends of what their callers asked for: an end of data came only where the other end's caller
+-- ended it, and both ends said close only where one of both callers closed the channel.
+pub record EndsAsCalled (s r : End) : Type 0 where
+  pub ended : r.ended ≡ true → s.eof_called ≡ true
+  pub ended_back : s.ended ≡ true → r.eof_called ≡ true
+  pub closed : s.said ≡ Shut → r.said ≡ Shut → (s.close_called ≡ true) ⊎ (r.close_called ≡ true)
+
+-- Each channel that was accepted ends only so.
+abbrev pub ChannelsEnd : Type 0
+ChannelsEnd = (w m v k : ℕ) (mids : List MuxPair) (b : MuxPair) → HappensOn mids (both_new w m v k) b
+    → (side : Side) (n : ℕ) (c : Channel) → slice_get (mux_of side b).channels n ≡ Some c → c.started ≡ false
+    → (d : Channel) × (slice_get (mux_of (other_side side) b).channels c.peer ≡ Some d) × (d.started ≡ true)
+    × EndsAsCalled d.end c.end
+
+-- Where nothing is on the way, and all that an end wrote came, its close closed the channel at both ends. Its end of
+-- data came, where neither end was closed.
+abbrev pub ChannelsFinish : Type 0
+ChannelsFinish = (w m v k : ℕ) (mids : List MuxPair) (b : MuxPair) → HappensOn mids (both_new w m v k) b → IsQuietPair b
+    → (side : Side) (n : ℕ) (c : Channel) → slice_get (mux_of side b).channels n ≡ Some c → c.started ≡ false
+    → (d : Channel) × (slice_get (mux_of (other_side side) b).channels c.peer ≡ Some d) × (d.started ≡ true)
+    × Finishes d.end c.end × Finishes c.end d.end
 
 -- No payload is refused that comes, and each is read as the packet that was written.
 pub record PassesPayload (side : Mux) (p : Packet) : Type 0 where

@@ -1,7 +1,7 @@
 //! Laws of many channels, for every order of calls and deliveries.
 
 ghost use Rattle.ssh_talks.specs.Making.{AskingAdds, HearingLowers};
-ghost use Rattle.ssh_talks.specs.Talks.{ChannelsAreTalks, ChannelsCome, ChannelsFlow, NoPacketRefused, NoPayloadRefused};
+ghost use Rattle.ssh_talks.specs.Talks.{ChannelsAreTalks, ChannelsCome, ChannelsEnd, ChannelsFinish, ChannelsFlow, NoPacketRefused, NoPayloadRefused};
 
 /// Each channel that a side opened is a talk of two ends that may have come of its opening, whatever else happens on
 /// other channels. Each channel that a side accepted is the other end of such a talk.
@@ -27,6 +27,20 @@ pub fn no_packet_refused()
 #[tactic(auto, using(crate::proofs::Flowing::channels_come))]
 pub fn channels_come()
     ensures { ChannelsCome }
+{}
+
+/// On each channel an end of data came only where the other end's caller ended it. Where both ends said close, one of
+/// both callers closed it.
+#[tactic(auto, using(crate::proofs::Flowing::channels_end))]
+pub fn channels_end()
+    ensures { ChannelsEnd }
+{}
+
+/// Where nothing is on the way, and all that an end wrote came, its close closed the channel at both ends. Its end of
+/// data came, where neither end was closed.
+#[tactic(auto, using(crate::proofs::Flowing::channels_finish))]
+pub fn channels_finish()
+    ensures { ChannelsFinish }
 {}
 
 /// Each payload that comes is read as the packet that was written, and none is refused.

@@ -5,6 +5,6 @@
 mod laws;
 
 pub use crate::laws::{
-    asking_adds, channels_are_talks, channels_come, channels_flow, hearing_lowers,
-    no_packet_refused, no_payload_refused,
+    asking_adds, channels_are_talks, channels_come, channels_end, channels_finish, channels_flow,
+    hearing_lowers, no_packet_refused, no_payload_refused,
 };
