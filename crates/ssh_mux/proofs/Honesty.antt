@@ -593,7 +593,7 @@ run_unbroken config within first fault last honest b =
     (at_called config.client.window config.client.largest config.server.window config.server.largest (request_of b.step) b.mid b.called x.at b.call).at b.at.carries.1 in
     now_unbroken config.client.window config.client.largest config.server.window config.server.largest are moment fault (honest last c.1 (before_self last)) c.0.at b.at.breaks
 
-flow_at : (config : PairConfig) (s : PairOnLink) → IsPairAt config s → (side : Side) (n : ℕ) (c : Channel) → slice_get (state_at side s.both).side.channels n ≡ Some c → c.started ≡ false
+pub flow_at : (config : PairConfig) (s : PairOnLink) → IsPairAt config s → (side : Side) (n : ℕ) (c : Channel) → slice_get (state_at side s.both).side.channels n ≡ Some c → c.started ≡ false
     → (d : Channel) × (slice_get (state_at (other_side side) s.both).side.channels c.peer ≡ Some d) × (d.started ≡ true) × FlowsWell d.end c.end × FlowsWell c.end d.end
 flow_at config s p Client n c at started =
     let f = channels_flow config.client.window config.client.largest config.server.window config.server.largest p.mids p.pair p.happens Client n c (subst (λ (x : Mux). slice_get x.channels n ≡ Some c) (sym p.client) at) started in

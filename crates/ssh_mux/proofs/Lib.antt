@@ -10,3 +10,4 @@ pub mod Settling
 pub mod Doing
 pub mod Turning
 pub mod Stopping
+pub mod Finishing

@@ -10,10 +10,11 @@ use Rattle.ssh_rules.specs.Parts.{ClientPairs, Secrets, ServerValues}
 use Rattle.ssh_rules.specs.Wire.{HasFront}
 use Rattle.ssh_run.specs.Stepping.{LinkState}
 use Rattle.ssh_channels.specs.Formats.{packet_text}
+use Rattle.ssh_channels.specs.Laws.{Finishes}
 use Rattle.ssh_channels.specs.Muxes.{Channel}
-use Rattle.ssh_talks.specs.Talks.{CameAll, FlowsWell, HappensOn, IsQuietPair, MuxPair, both_new}
+use Rattle.ssh_talks.specs.Talks.{CameAll, EndsAsCalled, FlowsWell, HappensOn, IsQuietPair, MuxPair, both_new}
 use Rattle.ssh_mux.specs.Pairs.{are_within}
-use Rattle.ssh_mux.specs.Running.{IsMuxRun, PairOnLink, state_at}
+use Rattle.ssh_mux.specs.Running.{IsMuxRun, PairOnLink, RunsSteps, first_on_link, state_at}
 use Rattle.ssh_mux.specs.declared.pair.PairConfig.{PairConfig}
 use Rattle.ssh_mux.specs.declared.report.MuxReport.{MuxReport}
 use Rattle.ssh_mux.specs.declared.step.ChannelStep.{ChannelStep}
@@ -66,3 +67,36 @@ abbrev pub RunsSettle : ClientPairs → ServerValues → Secrets → Type 0
 RunsSettle client_makes server_makes agrees = (config : PairConfig) (client server : Config) (steps : List ChannelStep) (report : MuxReport) → are_within config ≡ true
     → (run : IsMuxRun config steps report) → IsLink client_makes server_makes agrees client server report.steps.items report.link
     → (before : List ChannelStep) → steps ≡ before ++ Settle ∷ [] → IsAtRest config run.last
+
+-- Both sides are those of such a moment, and each channel that a side accepted flows well, both ways.
+pub record IsFlowing (config : PairConfig) (s : PairOnLink) : Type 0 where
+  pub moment : IsPairAt config s
+  pub flows : (side : Side) (n : ℕ) (c : Channel) → slice_get (state_at side s.both).side.channels n ≡ Some c → c.started ≡ false
+      → (d : Channel) × (slice_get (state_at (other_side side) s.both).side.channels c.peer ≡ Some d) × (d.started ≡ true)
+      × FlowsWell d.end c.end × FlowsWell c.end d.end
+
+-- So it is behind each step of such a run, and not only behind the last one.
+abbrev pub RunsFlowAlways : ClientPairs → ServerValues → Secrets → Type 0
+RunsFlowAlways client_makes server_makes agrees = (config : PairConfig) (client server : Config) (steps : List ChannelStep) (report : MuxReport) → are_within config ≡ true
+    → (run : IsMuxRun config steps report) → IsLink client_makes server_makes agrees client server report.steps.items report.link
+    → (done rest : List ChannelStep) (mid : PairOnLink) → steps ≡ done ++ rest
+    → RunsSteps done (first_on_link config run.first) mid → RunsSteps rest mid run.last → IsFlowing config mid
+
+-- On each channel that a side accepted an end of data came only where the other end's caller ended it, and both ends
+-- said close only where one of both callers closed it.
+abbrev pub RunsEnd : ClientPairs → ServerValues → Secrets → Type 0
+RunsEnd client_makes server_makes agrees = (config : PairConfig) (client server : Config) (steps : List ChannelStep) (report : MuxReport) → are_within config ≡ true
+    → (run : IsMuxRun config steps report) → IsLink client_makes server_makes agrees client server report.steps.items report.link
+    → (side : Side) (n : ℕ) (c : Channel) → slice_get (state_at side run.last.both).side.channels n ≡ Some c → c.started ≡ false
+    → (d : Channel) × (slice_get (state_at (other_side side) run.last.both).side.channels c.peer ≡ Some d) × (d.started ≡ true)
+    × EndsAsCalled d.end c.end
+
+-- Where the last step of such a run is a settle, and all that an end wrote came, its close closed the channel at both
+-- ends. Its end of data came, where neither end was closed.
+abbrev pub RunsFinish : ClientPairs → ServerValues → Secrets → Type 0
+RunsFinish client_makes server_makes agrees = (config : PairConfig) (client server : Config) (steps : List ChannelStep) (report : MuxReport) → are_within config ≡ true
+    → (run : IsMuxRun config steps report) → IsLink client_makes server_makes agrees client server report.steps.items report.link
+    → (before : List ChannelStep) → steps ≡ before ++ Settle ∷ []
+    → (side : Side) (n : ℕ) (c : Channel) → slice_get (state_at side run.last.both).side.channels n ≡ Some c → c.started ≡ false
+    → (d : Channel) × (slice_get (state_at (other_side side) run.last.both).side.channels c.peer ≡ Some d) × (d.started ≡ true)
+    × Finishes d.end c.end × Finishes c.end d.end

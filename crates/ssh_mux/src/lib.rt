@@ -20,7 +20,9 @@ mod typed;
 
 pub use crate::answer::{MuxAnswer, MuxMain};
 pub use crate::fault::RunFault;
-pub use crate::laws::{runs_are_talks, runs_flow, runs_in_order, runs_settle};
+pub use crate::laws::{
+    runs_are_talks, runs_end, runs_finish, runs_flow, runs_flow_always, runs_in_order, runs_settle,
+};
 pub use crate::mux_program::{MuxCommand, MuxProgram};
 pub use crate::pair::{Pair, PairConfig};
 pub use crate::print::{print_channels, print_run_fault};
