@@ -9,5 +9,6 @@ pub mod Honesty
 pub mod Settling
 pub mod Doing
 pub mod Turning
+pub mod Good
 pub mod Stopping
 pub mod Finishing

@@ -10,3 +10,4 @@ pub mod Linking
 pub mod Breaking
 pub mod Doing
 pub mod Stopping
+pub mod Causes

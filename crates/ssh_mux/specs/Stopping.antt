@@ -1,11 +1,15 @@
--- How a run would be refused as Disconnect: the turns of a settle are all taken, or the link refuses a step so.
+-- Where a run is refused for an error of the link: the turns of a settle are all taken, or the link refuses a step.
 use Rattle.std.specs.Prelude.{◌≡◌, ◌⊎◌, ℕ, zero, suc, ◌+◌, ◌-◌, ◌^◌, ◌<◌, min, true, List, [], ◌∷◌, ◌++◌, length}
-use Rattle.ssh_wire.specs.declared.error.Error.TheVariants.{Disconnect}
+use Rattle.ssh_wire.specs.declared.error.Error.{Error}
+use Rattle.ssh_wire.specs.declared.error.Error.TheVariants.{Disconnect, Memory}
+use Rattle.ssh_wire.specs.declared.side.Side.{Side}
 use Rattle.ssh_wire.specs.declared.side.Side.TheVariants.{Client, Server}
 use Rattle.ssh_kex.specs.declared.config.Config.{Config}
 use Rattle.ssh_rules.specs.Headline.{submitted_by}
+use Rattle.ssh_rules.specs.Valid.{is_good_payload}
 use Rattle.ssh_rules.specs.declared.link.Step.{Step}
 use Rattle.ssh_run.specs.RefusedCarrying.{RefusesLinkStep, Telling}
+use Rattle.ssh_run.specs.RunCauses.{submits_good}
 use Rattle.ssh_run.specs.Stepping.{LinkState, WhereLive}
 use Rattle.ssh_mux.specs.Linking.{TakesSteps}
 use Rattle.ssh_mux.specs.Running.{Both, Called, Carries, PairOnLink, RunsSteps, state_at}
@@ -17,9 +21,24 @@ use Rattle.ssh_mux.specs.declared.step.ChannelStep.TheVariants.{Start, Write, Re
 abbrev pub IsNoDisconnect : RunFault → Type 0
 IsNoDisconnect fault = fault ≡ Link Disconnect → ⊥
 
--- what is so where a run is refused as Disconnect
-abbrev pub WhereStopped : RunFault → Type 0 → Type 0
-WhereStopped fault why = fault ≡ Link Disconnect → why
+-- what is so of the error of the link, where a run is refused for one
+abbrev pub WhereStopped : RunFault → (Error → Type 0) → Type 0
+WhereStopped fault why = (e : Error) → fault ≡ Link e → why e
+
+-- the link wants memory, if the run is refused for an error of the link
+abbrev pub IsWanting : RunFault → Type 0
+IsWanting fault = WhereStopped fault (λ e. e ≡ Memory)
+
+-- ---- payloads
+
+-- each payload may be submitted
+abbrev pub AllGood : List (List ℕ) → Type 0
+AllGood [] = Unit {0}
+AllGood (payload ∷ payloads) = (is_good_payload payload ≡ true) × AllGood payloads
+
+-- so each that a side made
+abbrev pub MakesGood : Both → Type 0
+MakesGood b = (side : Side) → AllGood (state_at side b).made
 
 -- ---- the turns of a settle
 
@@ -71,10 +90,10 @@ pub record RunsOut (turns : ℕ) (old new : PairOnLink) : Type 0 where
 
 -- ---- a step of the link
 
--- The link carried out some steps, and refused the next one as Disconnect, or had refused one before. The parts of the
--- sides are said as they were, and as they are behind the refused step.
+-- The link carried out some steps, and refused the next one for this error, or had refused one before. What the step
+-- submits may be submitted. The parts of the sides are said as they were, and as they are behind the refused step.
 pub record RefusesOn {P : Type 0} (keeps : P → P → Type 0) (tells : Config → P → P → Telling) (old : LinkState)
-    (client client' server server' : P) : Type 0 where
+    (client client' server server' : P) (error : Error) : Type 0 where
   pub client_now : P
   pub server_now : P
   pub client_keeps : keeps client client_now
@@ -84,6 +103,7 @@ pub record RefusesOn {P : Type 0} (keeps : P → P → Type 0) (tells : Config �
       (tells old.carried.server.transport.config server server').says old mid
   pub few : length mid.steps < 2 ^ 63
   pub step : Step
+  pub good : submits_good step ≡ true
   pub refused : (mid.refused ≡ true) ⊎ WhereLive mid (RefusesLinkStep
       (tells mid.carried.client.transport.config client_now client')
-      (tells mid.carried.server.transport.config server_now server') mid.bound step mid.carried Disconnect)
+      (tells mid.carried.server.transport.config server_now server') mid.bound step mid.carried error)

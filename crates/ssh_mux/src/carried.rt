@@ -1,11 +1,13 @@
 //! The link, with the parts of both sides.
 
 ghost use Rattle.std.specs.Prelude.{◌≡◌, ◌<◌, IfErr, IfOk, OnOk, ◌∷◌, [], false, true};
+ghost use Rattle.ssh_rules.specs.Valid.{is_good_payload};
 ghost use Rattle.ssh_rules.specs.declared.link.Step.TheVariants as steps;
+ghost use Rattle.ssh_run.specs.RunCauses.{submits_good};
 ghost use Rattle.ssh_mux.specs.Breaking.{BreaksAt, IsNoMessageFault, is_message_refused};
 ghost use Rattle.ssh_mux.specs.Doing.{OnlySubmits};
 ghost use Rattle.ssh_mux.specs.Running.{Carries, CarriesOut, HasReceived, IsEmptied, IsLinkFault, LeavesNone, LinkGoes, both_of, is_submit, on_link};
-ghost use Rattle.ssh_mux.specs.Stopping.{TurnsOnce, WhereStopped, submitted_in};
+ghost use Rattle.ssh_mux.specs.Stopping.{MakesGood, TurnsOnce, WhereStopped, submitted_in};
 
 use crate::fault::RunFault;
 use crate::linked::Linked;
@@ -29,8 +31,9 @@ pub(crate) fn step_link<'c, A: Agreement, H: HostKeys, G: GroupLookup, R: Rng>(
     ensures goes { OnOk result (⟦<Parts<A, H, G, R> as Linked>⟧.goes_on link.old client_parts.old server_parts.old
         link.new) }
     ensures unbroken { IfErr result IsNoMessageFault }
-    ensures stops { IfErr result (λ fault. WhereStopped fault (⟦<Parts<A, H, G, R> as Linked>⟧.refuses_on link.old
-        client_parts.old client_parts.new server_parts.old server_parts.new)) }
+    ensures stops { IfErr result (λ fault. WhereStopped fault (λ e. submits_good step ≡ true
+        → ⟦<Parts<A, H, G, R> as Linked>⟧.refuses_on link.old client_parts.old client_parts.new server_parts.old
+        server_parts.new e)) }
     ensures client_keeps { ⟦<Parts<A, H, G, R> as Handed>⟧.keeps client_parts.old client_parts.new }
     ensures server_keeps { ⟦<Parts<A, H, G, R> as Handed>⟧.keeps server_parts.old server_parts.new }
 {
@@ -54,8 +57,9 @@ fn submit_one<'c, A: Agreement, H: HostKeys, G: GroupLookup, R: Rng>(
     ensures goes { OnOk result (⟦<Parts<A, H, G, R> as Linked>⟧.goes_on link.old client_parts.old server_parts.old
         link.new) }
     ensures unbroken { IfErr result IsNoMessageFault }
-    ensures stops { IfErr result (λ fault. WhereStopped fault (⟦<Parts<A, H, G, R> as Linked>⟧.refuses_on link.old
-        client_parts.old client_parts.new server_parts.old server_parts.new)) }
+    ensures stops { IfErr result (λ fault. WhereStopped fault (λ e. is_good_payload payload ≡ true
+        → ⟦<Parts<A, H, G, R> as Linked>⟧.refuses_on link.old client_parts.old client_parts.new server_parts.old
+        server_parts.new e)) }
     ensures client_keeps { ⟦<Parts<A, H, G, R> as Handed>⟧.keeps client_parts.old client_parts.new }
     ensures server_keeps { ⟦<Parts<A, H, G, R> as Handed>⟧.keeps server_parts.old server_parts.new }
 {
@@ -81,8 +85,9 @@ pub(crate) fn submit_made<'c, A: Agreement, H: HostKeys, G: GroupLookup, R: Rng>
     ensures goes { OnOk result (⟦<Parts<A, H, G, R> as Linked>⟧.goes_on link.old client_parts.old server_parts.old
         link.new) }
     ensures unbroken { IfErr result IsNoMessageFault }
-    ensures stops { IfErr result (λ fault. WhereStopped fault (⟦<Parts<A, H, G, R> as Linked>⟧.refuses_on link.old
-        client_parts.old client_parts.new server_parts.old server_parts.new)) }
+    ensures stops { IfErr result (λ fault. WhereStopped fault (λ e. MakesGood (both_of pair.old)
+        → ⟦<Parts<A, H, G, R> as Linked>⟧.refuses_on link.old client_parts.old client_parts.new server_parts.old
+        server_parts.new e)) }
     ensures client_keeps { ⟦<Parts<A, H, G, R> as Handed>⟧.keeps client_parts.old client_parts.new }
     ensures server_keeps { ⟦<Parts<A, H, G, R> as Handed>⟧.keeps server_parts.old server_parts.new }
 {
@@ -114,8 +119,9 @@ pub(crate) fn receive_delivered<'c, A: Agreement, H: HostKeys, G: GroupLookup, R
     ensures breaks { IfErr result (λ fault. is_message_refused fault ≡ true
         → BreaksAt fault (on_link pair.old link.old) link.new
         × ⟦<Parts<A, H, G, R> as Linked>⟧.goes_on link.old client_parts.old server_parts.old link.new) }
-    ensures stops { IfErr result (λ fault. WhereStopped fault (⟦<Parts<A, H, G, R> as Linked>⟧.refuses_on link.old
-        client_parts.old client_parts.new server_parts.old server_parts.new)) }
+    ensures stops { IfErr result (λ fault. WhereStopped fault (λ e. MakesGood (both_of pair.old)
+        → ⟦<Parts<A, H, G, R> as Linked>⟧.refuses_on link.old client_parts.old client_parts.new server_parts.old
+        server_parts.new e)) }
     ensures client_keeps { ⟦<Parts<A, H, G, R> as Handed>⟧.keeps client_parts.old client_parts.new }
     ensures server_keeps { ⟦<Parts<A, H, G, R> as Handed>⟧.keeps server_parts.old server_parts.new }
 {
@@ -142,8 +148,9 @@ pub(crate) fn carry_all<'c, A: Agreement, H: HostKeys, G: GroupLookup, R: Rng>(
     ensures breaks { IfErr result (λ fault. is_message_refused fault ≡ true
         → BreaksAt fault (on_link pair.old link.old) link.new
         × ⟦<Parts<A, H, G, R> as Linked>⟧.goes_on link.old client_parts.old server_parts.old link.new) }
-    ensures stops { IfErr result (λ fault. WhereStopped fault (⟦<Parts<A, H, G, R> as Linked>⟧.refuses_on link.old
-        client_parts.old client_parts.new server_parts.old server_parts.new)) }
+    ensures stops { IfErr result (λ fault. WhereStopped fault (λ e. MakesGood (both_of pair.old)
+        → ⟦<Parts<A, H, G, R> as Linked>⟧.refuses_on link.old client_parts.old client_parts.new server_parts.old
+        server_parts.new e)) }
     ensures client_keeps { ⟦<Parts<A, H, G, R> as Handed>⟧.keeps client_parts.old client_parts.new }
     ensures server_keeps { ⟦<Parts<A, H, G, R> as Handed>⟧.keeps server_parts.old server_parts.new }
 {

@@ -2,14 +2,18 @@
 
 ghost use Rattle.std.specs.Prelude.{List, ◌≡◌, ◌⊎◌, None, Some, IfErr, IfOk, OnOk, Ok, ◌++◌, ◌∷◌, [], true, false};
 ghost use Rattle.ssh_kex.specs.Parts.{between};
+ghost use Rattle.ssh_wire.specs.declared.error.Error.TheVariants.{Disconnect};
 ghost use Rattle.ssh_rules.specs.Headline.{IsLink};
+ghost use Rattle.ssh_rules.specs.RunLaws.{config_of};
+ghost use Rattle.ssh_run.specs.RunCauses.{offered_on, rises_by};
 ghost use Rattle.ssh_channels.specs.Asking.{IsRefused};
 ghost use Rattle.ssh_mux.specs.Breaking.{BreaksAt, BreaksRun, IsNoMessageFault, is_message_refused};
+ghost use Rattle.ssh_mux.specs.Causes.{IsLinkCause};
 ghost use Rattle.ssh_mux.specs.Doing.{DoesCall, SettlesSome, link_call};
 ghost use Rattle.ssh_mux.specs.Pairs.{are_within, new_pair};
 ghost use Rattle.ssh_mux.specs.Program.{HasBefore, IsRefusedRun, IsWholeRun};
 ghost use Rattle.ssh_mux.specs.Running.{Called, Carries, IsBrokenOff, IsEndBehind, IsLinkFault, LeavesNone, RefusesStep, RunsSteps, both_of, is_call_refused, on_link, step_fault};
-ghost use Rattle.ssh_mux.specs.Stopping.{IsNoDisconnect, RunsOut, TurnsOn, TurnsOut, WhereStopped, turns_behind};
+ghost use Rattle.ssh_mux.specs.Stopping.{IsNoDisconnect, IsWanting, MakesGood, RunsOut, TurnsOn, TurnsOut, WhereStopped, turns_behind};
 ghost use Rattle.ssh_mux.specs.declared.fault.RunFault.TheVariants.{Config as config_fault};
 ghost use Rattle.ssh_mux.specs.declared.run.LinkCall.TheVariants.{Settle as settle_behind};
 ghost use Rattle.ssh_mux.specs.declared.step.ChannelStep.{ChannelStep};
@@ -26,6 +30,7 @@ use crate::typed::{see_config, see_steps};
 use rand_core::Rng;
 use ssh_channels::MuxFault;
 use ssh_kex::{Agreement, Config, GroupLookup, Handed, HostKeys, Parts};
+use ssh_rules::Asked;
 use ssh_rules::link::Step;
 use ssh_run::Link;
 use ssh_wire::{Error, Side};
@@ -48,7 +53,7 @@ pub struct Setup<'c> {
 ///
 /// Of lawful parts the link of the report is a link between both sides, no run is refused for a message that comes, and
 /// no settle comes to no end.
-#[tactic(auto, using(crate::proofs::Refusing::refused_config, crate::proofs::Refusing::refused_link, crate::proofs::Refusing::refused_behind, crate::proofs::Refusing::whole, crate::proofs::Breaking::end_unbroken, crate::proofs::Stopping::end_no_disconnect, crate::proofs::Stopping::config_no_disconnect, crate::proofs::Stopping::new_no_disconnect))]
+#[tactic(auto, using(crate::proofs::Refusing::refused_config, crate::proofs::Refusing::refused_link, crate::proofs::Refusing::refused_behind, crate::proofs::Refusing::whole, crate::proofs::Breaking::end_unbroken, crate::proofs::Stopping::end_no_disconnect, crate::proofs::Stopping::config_no_disconnect, crate::proofs::Stopping::new_no_disconnect, crate::proofs::Stopping::end_stopped, crate::proofs::Stopping::config_caused, crate::proofs::Stopping::new_caused))]
 pub fn run_channels<'c, A: Agreement, H: HostKeys, G: GroupLookup, R: Rng>(
     alloc: Global,
     setup: &Setup<'c>,
@@ -73,6 +78,19 @@ pub fn run_channels<'c, A: Agreement, H: HostKeys, G: GroupLookup, R: Rng>(
         → H.lawful server_parts.old.hosts (between setup.now.client.now setup.now.server.now)
         → G.lawful server_parts.old.groups (between setup.now.client.now setup.now.server.now)
         → IfErr result (λ end. IsNoDisconnect end.fault) }
+    ensures causes { A.lawful client_parts.old.agreement (between setup.now.client.now setup.now.server.now)
+        → A.lawful server_parts.old.agreement (between setup.now.client.now setup.now.server.now)
+        → H.lawful client_parts.old.hosts (between setup.now.client.now setup.now.server.now)
+        → H.lawful server_parts.old.hosts (between setup.now.client.now setup.now.server.now)
+        → G.lawful server_parts.old.groups (between setup.now.client.now setup.now.server.now)
+        → IfErr result (λ end. WhereStopped end.fault (IsLinkCause (rises_by
+        (⟦<Parts<A, H, G, R> as Asked>⟧.unobliged (between setup.now.client.now setup.now.server.now)
+        server_parts.old client_parts.old client_parts.new)
+        (⟦<Parts<A, H, G, R> as Asked>⟧.unobliged (between setup.now.client.now setup.now.server.now)
+        server_parts.old server_parts.old server_parts.new))
+        (config_of (between setup.now.client.now setup.now.server.now))
+        (offered_on (A.offered client_parts.old.agreement) (A.offered server_parts.old.agreement))
+        (G.group server_parts.old.groups setup.now.client.now.gex))) }
 {
     see_config(setup.client);
     see_config(setup.server);
@@ -107,13 +125,14 @@ fn refused(fault: RunFault) -> MuxEnd
 }
 
 /// The report, if there was memory for it.
-#[tactic(auto, using(crate::proofs::Breaking::end_unbroken, crate::proofs::Stopping::end_no_disconnect))]
+#[tactic(auto, using(crate::proofs::Breaking::end_unbroken, crate::proofs::Stopping::end_no_disconnect, crate::proofs::Stopping::end_wanting))]
 fn ended(report: Result<MuxReport, RunFault>) -> Result<MuxReport, MuxEnd>
     requires { IfErr report IsLinkFault }
     ensures ran { IfOk result (λ r. report ≡ Ok r) }
     ensures refused { IfErr result (λ end. IsLinkFault end.fault × (end.before ≡ None)) }
     ensures unbroken { IfErr report IsNoMessageFault → IfErr result (λ end. IsNoMessageFault end.fault) }
     ensures ends { IfErr report IsNoDisconnect → IfErr result (λ end. IsNoDisconnect end.fault) }
+    ensures wants { IfErr report IsWanting → IfErr result (λ end. IsWanting end.fault) }
 {
     match report {
         Ok(report) => Ok(report),
@@ -122,12 +141,13 @@ fn ended(report: Result<MuxReport, RunFault>) -> Result<MuxReport, MuxEnd>
 }
 
 /// The end of a run that is refused: with the report of the steps before where a side refused a call.
-#[tactic(auto, using(crate::proofs::Refusing::ended_untold, crate::proofs::Breaking::end_unbroken, crate::proofs::Stopping::end_no_disconnect))]
+#[tactic(auto, using(crate::proofs::Refusing::ended_untold, crate::proofs::Breaking::end_unbroken, crate::proofs::Stopping::end_no_disconnect, crate::proofs::Stopping::end_wanting))]
 fn broken_off(alloc: Global, link: Link<'_>, pair: &Pair, fault: RunFault) -> MuxEnd
     requires { fault ≡ config_fault → ⊥ }
     ensures ended { IsEndBehind fault (on_link pair.now link.entry) result }
     ensures unbroken { IsNoMessageFault fault → IsNoMessageFault result.fault }
     ensures ends { IsNoDisconnect fault → IsNoDisconnect result.fault }
+    ensures wants { (result.fault ≡ fault) ⊎ IsWanting result.fault }
 {
     if is_call_refused(&fault) {
         return end_before(alloc, link, pair, fault);
@@ -136,12 +156,13 @@ fn broken_off(alloc: Global, link: Link<'_>, pair: &Pair, fault: RunFault) -> Mu
 }
 
 /// The end of a run in which a side refused a call.
-#[tactic(auto, using(crate::proofs::Refusing::ended_told, crate::proofs::Refusing::ended_wanting, crate::proofs::Breaking::end_unbroken, crate::proofs::Stopping::end_no_disconnect))]
+#[tactic(auto, using(crate::proofs::Refusing::ended_told, crate::proofs::Refusing::ended_wanting, crate::proofs::Breaking::end_unbroken, crate::proofs::Stopping::end_no_disconnect, crate::proofs::Stopping::end_wanting))]
 fn end_before(alloc: Global, link: Link<'_>, pair: &Pair, fault: RunFault) -> MuxEnd
     requires { is_call_refused fault ≡ true }
     ensures ended { IsEndBehind fault (on_link pair.now link.entry) result }
     ensures unbroken { IsNoMessageFault fault → IsNoMessageFault result.fault }
     ensures ends { IsNoDisconnect fault → IsNoDisconnect result.fault }
+    ensures wants { (result.fault ≡ fault) ⊎ IsWanting result.fault }
 {
     match report_of(alloc, link, pair) {
         Ok(report) => MuxEnd {
@@ -201,10 +222,11 @@ fn run_steps<'c, A: Agreement, H: HostKeys, G: GroupLookup, R: Rng>(
         → BreaksRun fault (on_link pair.old link.old) link.new
         × ⟦<Parts<A, H, G, R> as Linked>⟧.goes_on link.old client_parts.old server_parts.old link.new) }
     ensures stops { IfErr result (λ fault. WhereStopped fault
-        ((RunsOut 2 (on_link pair.old link.old) (on_link pair.new link.new)
+        (λ e. MakesGood (both_of pair.old)
+        → ((e ≡ Disconnect) × RunsOut 2 (on_link pair.old link.old) (on_link pair.new link.new)
         × ⟦<Parts<A, H, G, R> as Linked>⟧.goes_on link.old client_parts.old server_parts.old link.new)
         ⊎ ⟦<Parts<A, H, G, R> as Linked>⟧.refuses_on link.old client_parts.old client_parts.new
-        server_parts.old server_parts.new)) }
+        server_parts.old server_parts.new e)) }
     ensures client_keeps { ⟦<Parts<A, H, G, R> as Handed>⟧.keeps client_parts.old client_parts.new }
     ensures server_keeps { ⟦<Parts<A, H, G, R> as Handed>⟧.keeps server_parts.old server_parts.new }
 {
@@ -239,10 +261,11 @@ fn run_step<'c, A: Agreement, H: HostKeys, G: GroupLookup, R: Rng>(
         → BreaksRun fault (on_link pair.old link.old) link.new
         × ⟦<Parts<A, H, G, R> as Linked>⟧.goes_on link.old client_parts.old server_parts.old link.new) }
     ensures stops { IfErr result (λ fault. WhereStopped fault
-        ((TurnsOut turns step.now (on_link pair.old link.old) (on_link pair.new link.new)
+        (λ e. MakesGood (both_of pair.old)
+        → ((e ≡ Disconnect) × TurnsOut turns step.now (on_link pair.old link.old) (on_link pair.new link.new)
         × ⟦<Parts<A, H, G, R> as Linked>⟧.goes_on link.old client_parts.old server_parts.old link.new)
         ⊎ ⟦<Parts<A, H, G, R> as Linked>⟧.refuses_on link.old client_parts.old client_parts.new
-        server_parts.old server_parts.new)) }
+        server_parts.old server_parts.new e)) }
     ensures client_keeps { ⟦<Parts<A, H, G, R> as Handed>⟧.keeps client_parts.old client_parts.new }
     ensures server_keeps { ⟦<Parts<A, H, G, R> as Handed>⟧.keeps server_parts.old server_parts.new }
 {
@@ -269,10 +292,11 @@ fn carry<'c, A: Agreement, H: HostKeys, G: GroupLookup, R: Rng>(
         → BreaksAt fault (on_link pair.old link.old) link.new
         × ⟦<Parts<A, H, G, R> as Linked>⟧.goes_on link.old client_parts.old server_parts.old link.new) }
     ensures stops { IfErr result (λ fault. WhereStopped fault
-        ((TurnsOn turns (on_link pair.old link.old) (on_link pair.new link.new)
+        (λ e. MakesGood (both_of pair.old)
+        → ((e ≡ Disconnect) × TurnsOn turns (on_link pair.old link.old) (on_link pair.new link.new)
         × ⟦<Parts<A, H, G, R> as Linked>⟧.goes_on link.old client_parts.old server_parts.old link.new)
         ⊎ ⟦<Parts<A, H, G, R> as Linked>⟧.refuses_on link.old client_parts.old client_parts.new
-        server_parts.old server_parts.new)) }
+        server_parts.old server_parts.new e)) }
     ensures client_keeps { ⟦<Parts<A, H, G, R> as Handed>⟧.keeps client_parts.old client_parts.new }
     ensures server_keeps { ⟦<Parts<A, H, G, R> as Handed>⟧.keeps server_parts.old server_parts.new }
 {
@@ -313,10 +337,11 @@ fn settle<'c, A: Agreement, H: HostKeys, G: GroupLookup, R: Rng>(
         → BreaksAt fault (on_link pair.old link.old) link.new
         × ⟦<Parts<A, H, G, R> as Linked>⟧.goes_on link.old client_parts.old server_parts.old link.new) }
     ensures stops { IfErr result (λ fault. WhereStopped fault
-        ((TurnsOn turns (on_link pair.old link.old) (on_link pair.new link.new)
+        (λ e. MakesGood (both_of pair.old)
+        → ((e ≡ Disconnect) × TurnsOn turns (on_link pair.old link.old) (on_link pair.new link.new)
         × ⟦<Parts<A, H, G, R> as Linked>⟧.goes_on link.old client_parts.old server_parts.old link.new)
         ⊎ ⟦<Parts<A, H, G, R> as Linked>⟧.refuses_on link.old client_parts.old client_parts.new
-        server_parts.old server_parts.new)) }
+        server_parts.old server_parts.new e)) }
     ensures client_keeps { ⟦<Parts<A, H, G, R> as Handed>⟧.keeps client_parts.old client_parts.new }
     ensures server_keeps { ⟦<Parts<A, H, G, R> as Handed>⟧.keeps server_parts.old server_parts.new }
 {

@@ -5,7 +5,7 @@ ghost use Rattle.std.specs.Option.{option_map};
 ghost use Rattle.ssh_mux.specs.Breaking.{IsNoMessageFault};
 ghost use Rattle.ssh_mux.specs.Summing.{all_channels, both_flows, channel_of, channels_from, flows_of, granted_channel, granted_number, is_refused_in, is_shut, lone_flows, next_number, one_channel, refusal_in, refusals_in, submitted_by_step, flow_between};
 ghost use Rattle.ssh_mux.specs.Running.{IsLinkFault, TellsRun, on_link};
-ghost use Rattle.ssh_mux.specs.Stopping.{IsNoDisconnect};
+ghost use Rattle.ssh_mux.specs.Stopping.{IsNoDisconnect, IsWanting};
 
 use crate::fault::RunFault;
 use crate::pair::Pair;
@@ -22,6 +22,7 @@ pub(crate) fn report_of(alloc: Global, link: Link<'_>, pair: &Pair) -> Result<Mu
     ensures want { IfErr result IsLinkFault }
     ensures unbroken { IfErr result IsNoMessageFault }
     ensures ends { IfErr result IsNoDisconnect }
+    ensures wants { IfErr result IsWanting }
 {
     match link.report() {
         Ok((steps, report)) => with_channels(alloc, steps, report, pair),
@@ -43,6 +44,7 @@ fn with_channels(
     ensures want { IfErr result IsLinkFault }
     ensures unbroken { IfErr result IsNoMessageFault }
     ensures ends { IfErr result IsNoDisconnect }
+    ensures wants { IfErr result IsWanting }
 {
     match channels_of(alloc, steps.as_slice(), pair) {
         Ok(channels) => Ok(MuxReport {

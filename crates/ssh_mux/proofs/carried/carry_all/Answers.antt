@@ -3,6 +3,7 @@ use Rattle.ssh_mux.specs.Running.{both_of, on_link}
 use Rattle.ssh_mux.proofs.Breaking.{breaks_behind, broken_so}
 use Rattle.ssh_mux.proofs.Carrying.{carries_then, carries_three, steps_on}
 use Rattle.ssh_mux.proofs.Doing.{settles_once}
+use Rattle.ssh_mux.proofs.Good.{carries_good}
 use Rattle.ssh_mux.proofs.Linking.{goes_then}
 use Rattle.ssh_mux.proofs.Stopping.{refused_then, stopped_so}
 use Rattle.ssh_mux.proofs.Turning.{turned_once}
@@ -38,17 +39,21 @@ returns-in_err-server-clause-breaks g c = broken_so c.from_residual-in_err-serve
           (goes_then g.A.Agreement.client_makes g.A.Agreement.server_makes g.A.Agreement.agrees g.H.HostKeys.makes c.step_link.new.link c.receive_delivered.new.link c.receive_delivered-2.new.link c.receive_delivered.ensures.client_keeps c.receive_delivered.ensures.server_keeps c.in_ok-client.ensures.goes b.1),
     ))
 
+pub returns-in_err-step_link-clause-stops : goal.returns-in_err-step_link-clause-stops
+returns-in_err-step_link-clause-stops g c = stopped_so c.from_residual.result c.in_err-step_link.field-0.0 _ (search rules) (λ e d good. c.in_err-step_link.ensures.stops e d refl)
+
 pub returns-in_err-client-clause-stops : goal.returns-in_err-client-clause-stops
 returns-in_err-client-clause-stops g c = stopped_so c.from_residual-in_err-client.result c.in_err-client.field-0.0 _ (search rules)
-    (λ d. refused_then g.A.Agreement.client_makes g.A.Agreement.server_makes g.A.Agreement.agrees g.H.HostKeys.makes c.args.link.now c.step_link.new.link c.args.client_parts.now c.step_link.new.client_parts c.receive_delivered.new.client_parts c.args.server_parts.now c.step_link.new.server_parts c.receive_delivered.new.server_parts
-    c.step_link.ensures.client_keeps c.step_link.ensures.server_keeps c.in_ok-step_link.ensures.goes (c.in_err-client.ensures.stops d))
+    (λ e d good. refused_then g.A.Agreement.client_makes g.A.Agreement.server_makes g.A.Agreement.agrees g.H.HostKeys.makes c.args.link.now c.step_link.new.link c.args.client_parts.now c.step_link.new.client_parts c.receive_delivered.new.client_parts c.args.server_parts.now c.step_link.new.server_parts c.receive_delivered.new.server_parts e
+    c.step_link.ensures.client_keeps c.step_link.ensures.server_keeps c.in_ok-step_link.ensures.goes (c.in_err-client.ensures.stops e d good))
 
 pub returns-in_err-server-clause-stops : goal.returns-in_err-server-clause-stops
 returns-in_err-server-clause-stops g c = stopped_so c.from_residual-in_err-server.result c.in_err-server.field-0.0 _ (search rules)
-    (λ d. refused_then g.A.Agreement.client_makes g.A.Agreement.server_makes g.A.Agreement.agrees g.H.HostKeys.makes c.args.link.now c.step_link.new.link c.args.client_parts.now c.step_link.new.client_parts c.receive_delivered-2.new.client_parts c.args.server_parts.now c.step_link.new.server_parts c.receive_delivered-2.new.server_parts
+    (λ e d good. refused_then g.A.Agreement.client_makes g.A.Agreement.server_makes g.A.Agreement.agrees g.H.HostKeys.makes c.args.link.now c.step_link.new.link c.args.client_parts.now c.step_link.new.client_parts c.receive_delivered-2.new.client_parts c.args.server_parts.now c.step_link.new.server_parts c.receive_delivered-2.new.server_parts e
     c.step_link.ensures.client_keeps c.step_link.ensures.server_keeps c.in_ok-step_link.ensures.goes
-    (refused_then g.A.Agreement.client_makes g.A.Agreement.server_makes g.A.Agreement.agrees g.H.HostKeys.makes c.step_link.new.link c.receive_delivered.new.link c.step_link.new.client_parts c.receive_delivered.new.client_parts c.receive_delivered-2.new.client_parts c.step_link.new.server_parts c.receive_delivered.new.server_parts c.receive_delivered-2.new.server_parts
-    c.receive_delivered.ensures.client_keeps c.receive_delivered.ensures.server_keeps c.in_ok-client.ensures.goes (c.in_err-server.ensures.stops d)))
+    (refused_then g.A.Agreement.client_makes g.A.Agreement.server_makes g.A.Agreement.agrees g.H.HostKeys.makes c.step_link.new.link c.receive_delivered.new.link c.step_link.new.client_parts c.receive_delivered.new.client_parts c.receive_delivered-2.new.client_parts c.step_link.new.server_parts c.receive_delivered.new.server_parts c.receive_delivered-2.new.server_parts e
+    c.receive_delivered.ensures.client_keeps c.receive_delivered.ensures.server_keeps c.in_ok-client.ensures.goes (c.in_err-server.ensures.stops e d
+    (carries_good (on_link c.args.pair.now c.step_link.new.link) (on_link c.receive_delivered.new.pair c.receive_delivered.new.link) c.in_ok-client.ensures.carries good))))
 
 pub returns-clause-turns : goal.returns-clause-turns
 returns-clause-turns g c = λ e.

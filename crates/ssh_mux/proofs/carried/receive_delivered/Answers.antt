@@ -3,8 +3,9 @@ use Rattle.ssh_mux.specs.Running.{both_of, on_link}
 use Rattle.ssh_mux.specs.declared.fault.RunFault.TheVariants.{Mux}
 use Rattle.ssh_mux.proofs.Breaking.{broken_so, receive_breaks}
 use Rattle.ssh_mux.proofs.Carrying.{carries_then, receives}
+use Rattle.ssh_mux.proofs.Good.{receives_good}
 use Rattle.ssh_mux.proofs.Linking.{none_taken}
-use Rattle.ssh_mux.proofs.Stopping.{call_stopped}
+use Rattle.ssh_mux.proofs.Stopping.{call_stopped, stopped_so}
 use Rattle.ssh_mux.proofs.carried.receive_delivered.Goals as goal
 
 pub returns-clause-carries : goal.returns-clause-carries
@@ -17,3 +18,7 @@ returns-in_err-receive-clause-breaks g c = broken_so c.from_residual.result (Mux
 
 pub returns-in_err-receive-clause-stops : goal.returns-in_err-receive-clause-stops
 returns-in_err-receive-clause-stops g c = call_stopped c.from_residual.result c.in_err-receive.field-0.0 _ (search rules)
+
+pub returns-in_err-made-clause-stops : goal.returns-in_err-made-clause-stops
+returns-in_err-made-clause-stops g c = stopped_so c.from_residual-in_err-made.result c.in_err-made.field-0.0 _ (search rules)
+    (λ e d good. c.in_err-made.ensures.stops e d (receives_good _ _ (both_of c.args.pair.now) (both_of c.receive.new.self) c.in_ok-receive.ensures.received good))

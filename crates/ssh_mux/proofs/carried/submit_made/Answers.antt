@@ -1,6 +1,7 @@
-use Rattle.ssh_mux.specs.Running.{both_of}
+use Rattle.ssh_mux.specs.Running.{both_of, on_link}
 use Rattle.ssh_mux.proofs.Carrying.{next_submitted, some_left}
 use Rattle.ssh_mux.proofs.Doing.{next_only}
+use Rattle.ssh_mux.proofs.Good.{carries_good, left_good}
 use Rattle.ssh_mux.proofs.Linking.{goes_then, parts_after}
 use Rattle.std.proofs.Common.{rules}
 use Rattle.ssh_mux.proofs.Stopping.{refused_then, stopped_so}
@@ -23,5 +24,6 @@ loop-payload-preserved g c = record {
 
 pub returns-in_err-submit_one-clause-stops : goal.returns-in_err-submit_one-clause-stops
 returns-in_err-submit_one-clause-stops g c = stopped_so c.from_residual.result c.in_err-submit_one.field-0.0 _ (search rules)
-    (λ d. refused_then g.A.Agreement.client_makes g.A.Agreement.server_makes g.A.Agreement.agrees g.H.HostKeys.makes c.args.link.now c.loop-payload.link c.args.client_parts.now c.loop-payload.client_parts c.submit_one.new.client_parts c.args.server_parts.now c.loop-payload.server_parts c.submit_one.new.server_parts
-    c.loop-payload.invariant.client_keeps c.loop-payload.invariant.server_keeps c.loop-payload.invariant.goes (c.in_err-submit_one.ensures.stops d))
+    (λ e d good. refused_then g.A.Agreement.client_makes g.A.Agreement.server_makes g.A.Agreement.agrees g.H.HostKeys.makes c.args.link.now c.loop-payload.link c.args.client_parts.now c.loop-payload.client_parts c.submit_one.new.client_parts c.args.server_parts.now c.loop-payload.server_parts c.submit_one.new.server_parts e
+    c.loop-payload.invariant.client_keeps c.loop-payload.invariant.server_keeps c.loop-payload.invariant.goes (c.in_err-submit_one.ensures.stops e d
+    (left_good c.args.side c.loop-payload.payload-iterator.rest.items c.next.new.self.rest.items c.in-Some.payload (both_of c.take_output.new.self) c.in-Some.ensures.steps.0 (carries_good (on_link c.args.pair.now c.args.link.now) _ c.loop-payload.invariant.carries good))))

@@ -41,15 +41,15 @@ returns-in_err-receive_delivered-in-Deliver-clause-breaks g c = broken_so c.from
     ))
 
 pub returns-in_err-submit_made-in-Submit-clause-stops : goal.returns-in_err-submit_made-in-Submit-clause-stops
-returns-in_err-submit_made-in-Submit-clause-stops g c = stopped_right c.from_residual.result c.in_err-submit_made-in-Submit.field-0.0 _ _ (search rules) c.in_err-submit_made-in-Submit.ensures.stops
+returns-in_err-submit_made-in-Submit-clause-stops g c = stopped_right c.from_residual.result c.in_err-submit_made-in-Submit.field-0.0 _ _ _ (search rules) c.in_err-submit_made-in-Submit.ensures.stops
 
 pub returns-in_err-step_link-in-Deliver-clause-stops : goal.returns-in_err-step_link-in-Deliver-clause-stops
-returns-in_err-step_link-in-Deliver-clause-stops g c = stopped_right c.from_residual-in_err-step_link-in-Deliver.result c.in_err-step_link-in-Deliver.field-0.0 _ _ (search rules) c.in_err-step_link-in-Deliver.ensures.stops
+returns-in_err-step_link-in-Deliver-clause-stops g c = stopped_right c.from_residual-in_err-step_link-in-Deliver.result c.in_err-step_link-in-Deliver.field-0.0 _ _ _ (search rules) (λ e d good. c.in_err-step_link-in-Deliver.ensures.stops e d refl)
 
 pub returns-in_err-receive_delivered-in-Deliver-clause-stops : goal.returns-in_err-receive_delivered-in-Deliver-clause-stops
-returns-in_err-receive_delivered-in-Deliver-clause-stops g c = stopped_right c.from_residual-in_err-receive_delivered-in-Deliver.result c.in_err-receive_delivered-in-Deliver.field-0.0 _ _ (search rules)
-    (λ d. refused_then g.A.Agreement.client_makes g.A.Agreement.server_makes g.A.Agreement.agrees g.H.HostKeys.makes c.args.link.now c.step_link.new.link c.args.client_parts.now c.step_link.new.client_parts c.receive_delivered.new.client_parts c.args.server_parts.now c.step_link.new.server_parts c.receive_delivered.new.server_parts
-    c.step_link.ensures.client_keeps c.step_link.ensures.server_keeps c.in_ok-step_link-in-Deliver.ensures.goes (c.in_err-receive_delivered-in-Deliver.ensures.stops d))
+returns-in_err-receive_delivered-in-Deliver-clause-stops g c = stopped_right c.from_residual-in_err-receive_delivered-in-Deliver.result c.in_err-receive_delivered-in-Deliver.field-0.0 _ _ _ (search rules)
+    (λ e d good. refused_then g.A.Agreement.client_makes g.A.Agreement.server_makes g.A.Agreement.agrees g.H.HostKeys.makes c.args.link.now c.step_link.new.link c.args.client_parts.now c.step_link.new.client_parts c.receive_delivered.new.client_parts c.args.server_parts.now c.step_link.new.server_parts c.receive_delivered.new.server_parts e
+    c.step_link.ensures.client_keeps c.step_link.ensures.server_keeps c.in_ok-step_link-in-Deliver.ensures.goes (c.in_err-receive_delivered-in-Deliver.ensures.stops e d good))
 
 pub returns-in_err-step_link-in-Rekey-clause-stops : goal.returns-in_err-step_link-in-Rekey-clause-stops
-returns-in_err-step_link-in-Rekey-clause-stops g c = stopped_right c.from_residual-in_err-step_link-in-Rekey.result c.in_err-step_link-in-Rekey.field-0.0 _ _ (search rules) c.in_err-step_link-in-Rekey.ensures.stops
+returns-in_err-step_link-in-Rekey-clause-stops g c = stopped_right c.from_residual-in_err-step_link-in-Rekey.result c.in_err-step_link-in-Rekey.field-0.0 _ _ _ (search rules) (λ e d good. c.in_err-step_link-in-Rekey.ensures.stops e d refl)

@@ -1,4 +1,4 @@
-use Rattle.std.proofs.Common.{◌≡◌, ◌<◌, ◌++◌, ◌^◌, ◌∷◌, [], None, inl, inr, length, subst, sym}
+use Rattle.std.proofs.Common.{◌≡◌, ◌<◌, ◌++◌, ◌^◌, ◌∷◌, [], None, inl, inr, length, subst, sym, ◌∙◌}
 use Rattle.ssh_wire.specs.declared.error.Error.TheVariants.{Disconnect}
 use Rattle.ssh_wire.specs.declared.side.Side.{Side}
 use Rattle.ssh_wire.specs.declared.side.Side.TheVariants.{Client, Server}
@@ -13,13 +13,15 @@ use Rattle.ssh_rules.proofs.Lemmas.{AreLawful}
 use Rattle.ssh_run.specs.RefusedCarrying.{Telling, telling_of}
 use Rattle.ssh_run.specs.RunCauses.{offered_on, rises_by}
 use Rattle.ssh_run.proofs.Lemmas.{lawful_causes, of_sides, run_cause, says_in, tells_by, whole_id}
-use Rattle.ssh_mux.specs.Running.{on_link}
+use Rattle.ssh_mux.specs.Running.{both_of, on_link}
+use Rattle.ssh_mux.specs.Stopping.{MakesGood}
+use Rattle.ssh_mux.proofs.Good.{new_good}
 use Rattle.ssh_mux.proofs.Breaking.{first_breaks, never_message}
 use Rattle.ssh_mux.proofs.Honesty.{run_unbroken}
 use Rattle.ssh_mux.proofs.Linking.{run_is_link, so_far_is_link, told_of}
 use Rattle.ssh_mux.proofs.OnTime.{link_honest}
 use Rattle.ssh_mux.proofs.Refusing.{whole_told}
-use Rattle.ssh_mux.proofs.Stopping.{first_out, keeps_of, no_cause, parts_later, refuses_link, tells_of}
+use Rattle.ssh_mux.proofs.Stopping.{first_out, keeps_of, link_cause, no_cause, parts_later, refused_good, refuses_link, tells_of}
 use Rattle.ssh_mux.proofs.Turning.{never_out}
 use Rattle.ssh_mux.proofs.run.run_channels.Goals as goal
 
@@ -62,12 +64,13 @@ returns-clause-unrefused g c = λ la lb lg.
     c.in-Ok.ensures.new c.in-Ok.ensures.first b.1))
     (first_breaks c.args.setup.now.channels c.new-pair.result c.in-Ok.link c.in-Err-run_steps.fault c.run_steps.new.link c.new-pair.ensures c.in-Ok.ensures.first b.0)))
 
-pub returns-clause-ends : goal.returns-clause-ends
-returns-clause-ends g c = λ la lb lh li lg.
+pub returns-clause-causes : goal.returns-clause-causes
+returns-clause-causes g c = λ la lb lh li lg.
     let t : Setup = record { client = c.args.setup.now.client.now; server = c.args.setup.now.server.now } in
     let a = c.args.client_parts.now.agreement in
     let vc = c.in-Ok.ensures.client in
     let vs = c.in-Ok.ensures.server in
+    let keeps = keeps_of g.A.Agreement.lawful g.A.Agreement.obliging g.A.Agreement.offered g.A.Agreement.refusals g.A.Agreement.calls g.H.HostKeys.lawful g.H.HostKeys.signs g.H.HostKeys.judges g.H.HostKeys.accepts g.H.HostKeys.trusts g.H.HostKeys.refused_sign g.H.HostKeys.refused_verify g.H.HostKeys.refused_check g.H.HostKeys.calls g.G.GroupLookup.lawful g.G.GroupLookup.obliging g.G.GroupLookup.group g.G.GroupLookup.refusals g.G.GroupLookup.calls in
     let tells = tells_of g.A.Agreement.lawful g.A.Agreement.obliging g.A.Agreement.offered g.A.Agreement.client_makes g.A.Agreement.server_makes g.A.Agreement.agrees g.A.Agreement.refusals g.H.HostKeys.lawful g.H.HostKeys.signs g.H.HostKeys.judges g.H.HostKeys.accepts g.H.HostKeys.trusts g.H.HostKeys.makes g.H.HostKeys.refused_sign g.H.HostKeys.refused_verify g.H.HostKeys.refused_check g.G.GroupLookup.lawful g.G.GroupLookup.obliging g.G.GroupLookup.group g.G.GroupLookup.refusals in
     let tell : Side → Telling = tells_by (telling_of g.A.Agreement.lawful g.A.Agreement.obliging g.A.Agreement.offered g.A.Agreement.client_makes g.A.Agreement.server_makes g.A.Agreement.agrees g.A.Agreement.refusals g.H.HostKeys.lawful g.H.HostKeys.signs g.H.HostKeys.judges g.H.HostKeys.accepts g.H.HostKeys.trusts g.H.HostKeys.makes g.H.HostKeys.refused_sign g.H.HostKeys.refused_verify g.H.HostKeys.refused_check g.G.GroupLookup.lawful g.G.GroupLookup.obliging g.G.GroupLookup.group g.G.GroupLookup.refusals t.client c.args.client_parts.now.agreement c.run_steps.new.client_parts.agreement c.args.client_parts.now.hosts c.run_steps.new.client_parts.hosts c.args.client_parts.now.groups c.run_steps.new.client_parts.groups) (telling_of g.A.Agreement.lawful g.A.Agreement.obliging g.A.Agreement.offered g.A.Agreement.client_makes g.A.Agreement.server_makes g.A.Agreement.agrees g.A.Agreement.refusals g.H.HostKeys.lawful g.H.HostKeys.signs g.H.HostKeys.judges g.H.HostKeys.accepts g.H.HostKeys.trusts g.H.HostKeys.makes g.H.HostKeys.refused_sign g.H.HostKeys.refused_verify g.H.HostKeys.refused_check g.G.GroupLookup.lawful g.G.GroupLookup.obliging g.G.GroupLookup.group g.G.GroupLookup.refusals t.server c.args.server_parts.now.agreement c.run_steps.new.server_parts.agreement c.args.server_parts.now.hosts c.run_steps.new.server_parts.hosts c.args.server_parts.now.groups c.run_steps.new.server_parts.groups) in
     let un = unobliged_of g.A.Agreement.obliging g.A.Agreement.refusals g.H.HostKeys.signs g.H.HostKeys.judges g.H.HostKeys.refused_sign g.H.HostKeys.refused_verify g.H.HostKeys.refused_check g.G.GroupLookup.obliging g.G.GroupLookup.refusals t c.args.server_parts.now.hosts in
@@ -82,24 +85,38 @@ returns-clause-ends g c = λ la lb lh li lg.
       secret = λ name group local client server p q cm sm cp sq. g.met.A.Agreement.one_secret a t name group local client server p q la (cm t la) (sm t lb) (cp t la) (sq t lb);
       canonical = λ sizes group f. (f t lg).1;
     } in m) in
-    c.broken_off.ensures.ends (λ d. elim (c.in-Err-run_steps.ensures.stops d) [
-      | inl out ↦ never_out c.args.setup.now.channels (sym c.if-not-is_within.ensures) c.in-Ok.link.carried (on_link c.run_steps.new.pair c.run_steps.new.link)
-          (link_honest g.A.Agreement.client_makes g.A.Agreement.server_makes g.A.Agreement.agrees t.client t.server c.run_steps.new.link
-          (so_far_is_link (λ q. says_of g.A.Agreement.lawful g.A.Agreement.offered g.A.Agreement.client_makes g.A.Agreement.server_makes g.A.Agreement.agrees g.H.HostKeys.lawful g.H.HostKeys.signs g.H.HostKeys.judges g.H.HostKeys.accepts g.H.HostKeys.trusts g.H.HostKeys.makes g.G.GroupLookup.lawful g.G.GroupLookup.group q c.args.client_parts.now.agreement c.args.client_parts.now.hosts c.args.client_parts.now.groups) (λ q. says_of g.A.Agreement.lawful g.A.Agreement.offered g.A.Agreement.client_makes g.A.Agreement.server_makes g.A.Agreement.agrees g.H.HostKeys.lawful g.H.HostKeys.signs g.H.HostKeys.judges g.H.HostKeys.accepts g.H.HostKeys.trusts g.H.HostKeys.makes g.G.GroupLookup.lawful g.G.GroupLookup.group q c.args.server_parts.now.agreement c.args.server_parts.now.hosts c.args.server_parts.now.groups) t.client t.server g.A.Agreement.client_makes g.A.Agreement.server_makes g.A.Agreement.agrees c.in-Ok.link c.run_steps.new.link
-          vc vs c.see_config.ensures.sizes c.see_config-2.ensures.sizes c.see_config.ensures.text c.see_config-2.ensures.text
-          (subst (λ l. length l < 2 ^ 64) c.steps-in-Err-run_steps.ensures c.see_steps-in-Err-run_steps.ensures.few)
-          (record { for_client = λ name group local public e. e t la; for_server = λ name group public e. e t lb; for_secret = λ name group x y secret e. e t la })
-          (λ name group local client server p q cm sm cp sq. g.met.A.Agreement.one_secret a t name group local client server p q la (cm t la) (sm t lb) (cp t la) (sq t lb))
-          (λ sizes group f. (f t lg).1)
-          c.in-Ok.ensures.new c.in-Ok.ensures.first out.1))
-          (subst (λ l. length l < 2 ^ 63) c.steps-in-Err-run_steps.ensures c.see_steps-in-Err-run_steps.ensures.fewer)
-          (first_out c.args.setup.now.channels c.new-pair.result c.in-Ok.link (on_link c.run_steps.new.pair c.run_steps.new.link) c.new-pair.ensures c.in-Ok.ensures.first out.0)
-      | inr r ↦ no_cause rises (config_of t) offered found (r.mid.steps ++ r.step ∷ [])
-          (run_cause tell (config_of t) rises offered found (r.mid.steps ++ r.step ∷ []) Disconnect lawful
-          (λ v. lawful_causes g.A.Agreement.lawful g.A.Agreement.obliging g.A.Agreement.offered g.A.Agreement.client_makes g.A.Agreement.server_makes g.A.Agreement.agrees g.A.Agreement.refusals g.H.HostKeys.lawful g.H.HostKeys.signs g.H.HostKeys.judges g.H.HostKeys.accepts g.H.HostKeys.trusts g.H.HostKeys.makes g.H.HostKeys.refused_sign g.H.HostKeys.refused_verify g.H.HostKeys.refused_check g.G.GroupLookup.lawful g.G.GroupLookup.obliging g.G.GroupLookup.group g.G.GroupLookup.refusals (record { agreement = g.met.A.Agreement.obliging_lawful; lookup = g.met.G.GroupLookup.obliging_lawful; fits = g.met.G.GroupLookup.fitting; accepted = g.met.H.HostKeys.judges_accepts; trusted = g.met.H.HostKeys.judges_trusts }) g.met.G.GroupLookup.small t
-          c.args.client_parts.now.agreement c.run_steps.new.client_parts.agreement c.args.server_parts.now.agreement c.run_steps.new.server_parts.agreement c.args.client_parts.now.hosts c.run_steps.new.client_parts.hosts c.args.server_parts.now.hosts c.run_steps.new.server_parts.hosts
-          c.args.client_parts.now.groups c.run_steps.new.client_parts.groups c.args.server_parts.now.groups c.run_steps.new.server_parts.groups la lb lh li lg (lawful v))
-          (λ v. whole)
-          (refuses_link (keeps_of g.A.Agreement.lawful g.A.Agreement.obliging g.A.Agreement.offered g.A.Agreement.refusals g.A.Agreement.calls g.H.HostKeys.lawful g.H.HostKeys.signs g.H.HostKeys.judges g.H.HostKeys.accepts g.H.HostKeys.trusts g.H.HostKeys.refused_sign g.H.HostKeys.refused_verify g.H.HostKeys.refused_check g.H.HostKeys.calls g.G.GroupLookup.lawful g.G.GroupLookup.obliging g.G.GroupLookup.group g.G.GroupLookup.refusals g.G.GroupLookup.calls) tells t.client t.server c.in-Ok.link c.args.client_parts.now c.run_steps.new.client_parts c.args.server_parts.now c.run_steps.new.server_parts
-          (parts_later g.A.Agreement.lawful g.A.Agreement.obliging g.A.Agreement.offered g.A.Agreement.client_makes g.A.Agreement.server_makes g.A.Agreement.agrees g.A.Agreement.refusals g.A.Agreement.calls g.H.HostKeys.lawful g.H.HostKeys.signs g.H.HostKeys.judges g.H.HostKeys.accepts g.H.HostKeys.trusts g.H.HostKeys.makes g.H.HostKeys.refused_sign g.H.HostKeys.refused_verify g.H.HostKeys.refused_check g.H.HostKeys.calls g.G.GroupLookup.lawful g.G.GroupLookup.obliging g.G.GroupLookup.group g.G.GroupLookup.refusals g.G.GroupLookup.calls) vc vs c.in-Ok.ensures.new c.in-Ok.ensures.first r))
-    ])
+    let made = subst (λ p. MakesGood (both_of p)) (sym c.new-pair.ensures) (new_good c.args.setup.now.channels) in
+    λ e d. elim c.broken_off.ensures.wants [
+      | inr wants ↦ inl (wants e d)
+      | inl same ↦ elim (c.in-Err-run_steps.ensures.stops e (sym same ∙ d) made) [
+        | inl out ↦ absurd (never_out c.args.setup.now.channels (sym c.if-not-is_within.ensures) c.in-Ok.link.carried (on_link c.run_steps.new.pair c.run_steps.new.link)
+            (link_honest g.A.Agreement.client_makes g.A.Agreement.server_makes g.A.Agreement.agrees t.client t.server c.run_steps.new.link
+            (so_far_is_link (λ q. says_of g.A.Agreement.lawful g.A.Agreement.offered g.A.Agreement.client_makes g.A.Agreement.server_makes g.A.Agreement.agrees g.H.HostKeys.lawful g.H.HostKeys.signs g.H.HostKeys.judges g.H.HostKeys.accepts g.H.HostKeys.trusts g.H.HostKeys.makes g.G.GroupLookup.lawful g.G.GroupLookup.group q c.args.client_parts.now.agreement c.args.client_parts.now.hosts c.args.client_parts.now.groups) (λ q. says_of g.A.Agreement.lawful g.A.Agreement.offered g.A.Agreement.client_makes g.A.Agreement.server_makes g.A.Agreement.agrees g.H.HostKeys.lawful g.H.HostKeys.signs g.H.HostKeys.judges g.H.HostKeys.accepts g.H.HostKeys.trusts g.H.HostKeys.makes g.G.GroupLookup.lawful g.G.GroupLookup.group q c.args.server_parts.now.agreement c.args.server_parts.now.hosts c.args.server_parts.now.groups) t.client t.server g.A.Agreement.client_makes g.A.Agreement.server_makes g.A.Agreement.agrees c.in-Ok.link c.run_steps.new.link
+            vc vs c.see_config.ensures.sizes c.see_config-2.ensures.sizes c.see_config.ensures.text c.see_config-2.ensures.text
+            (subst (λ l. length l < 2 ^ 64) c.steps-in-Err-run_steps.ensures c.see_steps-in-Err-run_steps.ensures.few)
+            (record { for_client = λ name group local public e. e t la; for_server = λ name group public e. e t lb; for_secret = λ name group x y secret e. e t la })
+            (λ name group local client server p q cm sm cp sq. g.met.A.Agreement.one_secret a t name group local client server p q la (cm t la) (sm t lb) (cp t la) (sq t lb))
+            (λ sizes group f. (f t lg).1)
+            c.in-Ok.ensures.new c.in-Ok.ensures.first out.2))
+            (subst (λ l. length l < 2 ^ 63) c.steps-in-Err-run_steps.ensures c.see_steps-in-Err-run_steps.ensures.fewer)
+            (first_out c.args.setup.now.channels c.new-pair.result c.in-Ok.link (on_link c.run_steps.new.pair c.run_steps.new.link) c.new-pair.ensures c.in-Ok.ensures.first out.1))
+        | inr r ↦ link_cause rises (config_of t) offered found (r.mid.steps ++ r.step ∷ []) e
+            (refused_good keeps tells c.in-Ok.link c.args.client_parts.now c.run_steps.new.client_parts c.args.server_parts.now c.run_steps.new.server_parts e c.in-Ok.ensures.first r)
+            (run_cause tell (config_of t) rises offered found (r.mid.steps ++ r.step ∷ []) e lawful
+            (λ v. lawful_causes g.A.Agreement.lawful g.A.Agreement.obliging g.A.Agreement.offered g.A.Agreement.client_makes g.A.Agreement.server_makes g.A.Agreement.agrees g.A.Agreement.refusals g.H.HostKeys.lawful g.H.HostKeys.signs g.H.HostKeys.judges g.H.HostKeys.accepts g.H.HostKeys.trusts g.H.HostKeys.makes g.H.HostKeys.refused_sign g.H.HostKeys.refused_verify g.H.HostKeys.refused_check g.G.GroupLookup.lawful g.G.GroupLookup.obliging g.G.GroupLookup.group g.G.GroupLookup.refusals (record { agreement = g.met.A.Agreement.obliging_lawful; lookup = g.met.G.GroupLookup.obliging_lawful; fits = g.met.G.GroupLookup.fitting; accepted = g.met.H.HostKeys.judges_accepts; trusted = g.met.H.HostKeys.judges_trusts }) g.met.G.GroupLookup.small t
+            c.args.client_parts.now.agreement c.run_steps.new.client_parts.agreement c.args.server_parts.now.agreement c.run_steps.new.server_parts.agreement c.args.client_parts.now.hosts c.run_steps.new.client_parts.hosts c.args.server_parts.now.hosts c.run_steps.new.server_parts.hosts
+            c.args.client_parts.now.groups c.run_steps.new.client_parts.groups c.args.server_parts.now.groups c.run_steps.new.server_parts.groups la lb lh li lg (lawful v))
+            (λ v. whole)
+            (refuses_link keeps tells t.client t.server c.in-Ok.link c.args.client_parts.now c.run_steps.new.client_parts c.args.server_parts.now c.run_steps.new.server_parts e
+            (parts_later g.A.Agreement.lawful g.A.Agreement.obliging g.A.Agreement.offered g.A.Agreement.client_makes g.A.Agreement.server_makes g.A.Agreement.agrees g.A.Agreement.refusals g.A.Agreement.calls g.H.HostKeys.lawful g.H.HostKeys.signs g.H.HostKeys.judges g.H.HostKeys.accepts g.H.HostKeys.trusts g.H.HostKeys.makes g.H.HostKeys.refused_sign g.H.HostKeys.refused_verify g.H.HostKeys.refused_check g.H.HostKeys.calls g.G.GroupLookup.lawful g.G.GroupLookup.obliging g.G.GroupLookup.group g.G.GroupLookup.refusals g.G.GroupLookup.calls) vc vs c.in-Ok.ensures.new c.in-Ok.ensures.first r))
+      ]
+    ]
+
+pub returns-clause-ends : goal.returns-clause-ends
+returns-clause-ends g c = λ la lb lh li lg.
+    let t : Setup = record { client = c.args.setup.now.client.now; server = c.args.setup.now.server.now } in
+    let un = unobliged_of g.A.Agreement.obliging g.A.Agreement.refusals g.H.HostKeys.signs g.H.HostKeys.judges g.H.HostKeys.refused_sign g.H.HostKeys.refused_verify g.H.HostKeys.refused_check g.G.GroupLookup.obliging g.G.GroupLookup.refusals t c.args.server_parts.now.hosts in
+    let rises : Side → Rises = rises_by (un c.args.client_parts.now.agreement c.run_steps.new.client_parts.agreement c.args.client_parts.now.hosts c.run_steps.new.client_parts.hosts c.args.client_parts.now.groups c.run_steps.new.client_parts.groups) (un c.args.server_parts.now.agreement c.run_steps.new.server_parts.agreement c.args.server_parts.now.hosts c.run_steps.new.server_parts.hosts c.args.server_parts.now.groups c.run_steps.new.server_parts.groups) in
+    let offered = offered_on (g.A.Agreement.offered c.args.client_parts.now.agreement) (g.A.Agreement.offered c.args.server_parts.now.agreement) in
+    let found = g.G.GroupLookup.group c.args.server_parts.now.groups t.client.gex in
+    λ d. no_cause rises (config_of t) offered found (returns-clause-causes g c la lb lh li lg Disconnect d)

@@ -2,6 +2,7 @@ use Rattle.std.proofs.Common.{refl, ap, inl, inr, take, ◌∙◌}
 use Rattle.ssh_mux.specs.Running.{on_link}
 use Rattle.ssh_mux.proofs.Breaking.{run_breaks}
 use Rattle.ssh_mux.proofs.Carrying.{breaks, next_runs, next_settled}
+use Rattle.ssh_mux.proofs.Good.{runs_good}
 use Rattle.ssh_mux.proofs.Linking.{goes_then, parts_after}
 use Rattle.ssh_mux.specs.declared.step.ChannelStep.TheVariants.{Settle}
 use Rattle.ssh_mux.proofs.Stopping.{refused_then, run_out}
@@ -29,12 +30,13 @@ returns-in-Err-clause-breaks g c = λ m. let b = c.in-Err.ensures.breaks m in (
 )
 
 pub returns-in-Err-clause-stops : goal.returns-in-Err-clause-stops
-returns-in-Err-clause-stops g c = λ d. elim (c.in-Err.ensures.stops d) [
+returns-in-Err-clause-stops g c = λ e d good. elim (c.in-Err.ensures.stops e d (runs_good _ (on_link c.args.pair.now c.args.link.now) (on_link c.loop-step.pair c.loop-step.link) c.loop-step.invariant.runs good)) [
   | inl t ↦ inl (
+    t.0,
     run_out (take c.loop-step.step-index c.args.steps.now) c.step-item.result 2 c.turns_behind-turns.result (on_link c.args.pair.now c.args.link.now) (on_link c.loop-step.pair c.loop-step.link) (on_link c.run_step.new.pair c.run_step.new.link)
-        (c.turns_behind-turns.ensures ∙ ap (turns_behind c.step-item.result) c.loop-step.invariant.turns) c.loop-step.invariant.runs t.0,
-    goes_then g.A.Agreement.client_makes g.A.Agreement.server_makes g.A.Agreement.agrees g.H.HostKeys.makes c.args.link.now c.loop-step.link c.run_step.new.link c.loop-step.invariant.client_keeps c.loop-step.invariant.server_keeps c.loop-step.invariant.goes t.1,
+        (c.turns_behind-turns.ensures ∙ ap (turns_behind c.step-item.result) c.loop-step.invariant.turns) c.loop-step.invariant.runs t.1,
+    goes_then g.A.Agreement.client_makes g.A.Agreement.server_makes g.A.Agreement.agrees g.H.HostKeys.makes c.args.link.now c.loop-step.link c.run_step.new.link c.loop-step.invariant.client_keeps c.loop-step.invariant.server_keeps c.loop-step.invariant.goes t.2,
   )
-  | inr r ↦ inr (refused_then g.A.Agreement.client_makes g.A.Agreement.server_makes g.A.Agreement.agrees g.H.HostKeys.makes c.args.link.now c.loop-step.link c.args.client_parts.now c.loop-step.client_parts c.run_step.new.client_parts c.args.server_parts.now c.loop-step.server_parts c.run_step.new.server_parts
+  | inr r ↦ inr (refused_then g.A.Agreement.client_makes g.A.Agreement.server_makes g.A.Agreement.agrees g.H.HostKeys.makes c.args.link.now c.loop-step.link c.args.client_parts.now c.loop-step.client_parts c.run_step.new.client_parts c.args.server_parts.now c.loop-step.server_parts c.run_step.new.server_parts e
       c.loop-step.invariant.client_keeps c.loop-step.invariant.server_keeps c.loop-step.invariant.goes r)
 ]

@@ -1,10 +1,12 @@
-use Rattle.std.proofs.Common.{inl, rules}
+use Rattle.std.proofs.Common.{inl, rules, sym}
+use Rattle.ssh_wire.specs.declared.error.Error.TheVariants as errors
 use Rattle.ssh_mux.specs.Running.{on_link}
 use Rattle.ssh_mux.proofs.Breaking.{breaks_behind, broken_so}
 use Rattle.ssh_mux.proofs.Carrying.{carries_then}
 use Rattle.ssh_mux.proofs.Doing.{any_more, some_more}
+use Rattle.ssh_mux.proofs.Good.{carries_good}
 use Rattle.ssh_mux.proofs.Linking.{goes_then, parts_after}
-use Rattle.ssh_mux.proofs.Stopping.{refused_then, stopped_right}
+use Rattle.ssh_mux.proofs.Stopping.{one_error, refused_then, stopped_right}
 use Rattle.ssh_mux.proofs.Turning.{turns_all, turns_more}
 use Rattle.ssh_mux.proofs.run.settle.Goals as goal
 
@@ -35,9 +37,10 @@ returns-in_err-carry_all-clause-breaks g c = broken_so c.from_residual.result c.
     ))
 
 pub returns-in_err-carry_all-clause-stops : goal.returns-in_err-carry_all-clause-stops
-returns-in_err-carry_all-clause-stops g c = stopped_right c.from_residual.result c.in_err-carry_all.field-0.0 _ _ (search rules)
-    (λ d. refused_then g.A.Agreement.client_makes g.A.Agreement.server_makes g.A.Agreement.agrees g.H.HostKeys.makes c.args.link.now c.loop-turn.link c.args.client_parts.now c.loop-turn.client_parts c.carry_all.new.client_parts c.args.server_parts.now c.loop-turn.server_parts c.carry_all.new.server_parts
-    c.loop-turn.invariant.client_keeps c.loop-turn.invariant.server_keeps c.loop-turn.invariant.goes (c.in_err-carry_all.ensures.stops d))
+returns-in_err-carry_all-clause-stops g c = stopped_right c.from_residual.result c.in_err-carry_all.field-0.0 _ _ _ (search rules)
+    (λ e d good. refused_then g.A.Agreement.client_makes g.A.Agreement.server_makes g.A.Agreement.agrees g.H.HostKeys.makes c.args.link.now c.loop-turn.link c.args.client_parts.now c.loop-turn.client_parts c.carry_all.new.client_parts c.args.server_parts.now c.loop-turn.server_parts c.carry_all.new.server_parts e
+    c.loop-turn.invariant.client_keeps c.loop-turn.invariant.server_keeps c.loop-turn.invariant.goes (c.in_err-carry_all.ensures.stops e d
+    (carries_good (on_link c.args.pair.now c.args.link.now) (on_link c.loop-turn.pair c.loop-turn.link) c.loop-turn.invariant.carries good)))
 
 pub returns-clause-stops : goal.returns-clause-stops
-returns-clause-stops g c = λ d. inl (turns_all c.loop-turn._turn c.args.turns (on_link c.args.pair.now c.args.link.now) (on_link c.loop-turn.pair c.loop-turn.link) c.loop-turn.auto._turn-end c.loop-turn-test.false c.loop-turn.invariant.turns, c.loop-turn.invariant.goes)
+returns-clause-stops g c = λ e d good. inl (sym (one_error errors.Disconnect e d), turns_all c.loop-turn._turn c.args.turns (on_link c.args.pair.now c.args.link.now) (on_link c.loop-turn.pair c.loop-turn.link) c.loop-turn.auto._turn-end c.loop-turn-test.false c.loop-turn.invariant.turns, c.loop-turn.invariant.goes)
