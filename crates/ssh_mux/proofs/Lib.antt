@@ -12,3 +12,4 @@ pub mod Turning
 pub mod Good
 pub mod Stopping
 pub mod Finishing
+pub mod Obliging

@@ -5,7 +5,7 @@ ghost use Rattle.ssh_kex.specs.Parts.{between};
 ghost use Rattle.ssh_wire.specs.declared.error.Error.TheVariants.{Disconnect};
 ghost use Rattle.ssh_rules.specs.Headline.{IsLink};
 ghost use Rattle.ssh_rules.specs.RunLaws.{config_of};
-ghost use Rattle.ssh_run.specs.RunCauses.{offered_on, rises_by};
+ghost use Rattle.ssh_run.specs.RunCauses.{IsValidRun, offered_on, rises_by};
 ghost use Rattle.ssh_channels.specs.Asking.{IsRefused};
 ghost use Rattle.ssh_mux.specs.Breaking.{BreaksAt, BreaksRun, IsNoMessageFault, is_message_refused};
 ghost use Rattle.ssh_mux.specs.Causes.{IsLinkCause};
@@ -53,7 +53,8 @@ pub struct Setup<'c> {
 ///
 /// Of lawful parts the link of the report is a link between both sides, no run is refused for a message that comes, and
 /// no settle comes to no end. The link refuses such a run only for a configuration, for what a part decides, or for want
-/// of memory.
+/// of memory. Where the parts oblige and the configurations are valid and offer what they choose, that is for want of
+/// memory alone.
 #[tactic(auto, using(crate::proofs::Refusing::refused_config, crate::proofs::Refusing::refused_link, crate::proofs::Refusing::refused_behind, crate::proofs::Refusing::whole, crate::proofs::Breaking::end_unbroken, crate::proofs::Stopping::end_no_disconnect, crate::proofs::Stopping::config_no_disconnect, crate::proofs::Stopping::new_no_disconnect, crate::proofs::Stopping::end_stopped, crate::proofs::Stopping::config_caused, crate::proofs::Stopping::new_caused))]
 pub fn run_channels<'c, A: Agreement, H: HostKeys, G: GroupLookup, R: Rng>(
     alloc: Global,
@@ -92,6 +93,17 @@ pub fn run_channels<'c, A: Agreement, H: HostKeys, G: GroupLookup, R: Rng>(
         (config_of (between setup.now.client.now setup.now.server.now))
         (offered_on (A.offered client_parts.old.agreement) (A.offered server_parts.old.agreement))
         (G.group server_parts.old.groups setup.now.client.now.gex))) }
+    ensures complete { IsValidRun (config_of (between setup.now.client.now setup.now.server.now))
+        (offered_on (A.offered client_parts.old.agreement) (A.offered server_parts.old.agreement)) []
+        → A.obliging client_parts.old.agreement client_parts.new.agreement
+        (between setup.now.client.now setup.now.server.now)
+        → A.obliging server_parts.old.agreement server_parts.new.agreement
+        (between setup.now.client.now setup.now.server.now)
+        → H.judges client_parts.old.hosts client_parts.new.hosts (between setup.now.client.now setup.now.server.now)
+        → H.signs server_parts.old.hosts server_parts.new.hosts (between setup.now.client.now setup.now.server.now)
+        → G.obliging server_parts.old.groups server_parts.new.groups
+        (between setup.now.client.now setup.now.server.now)
+        → IfErr result (λ end. IsWanting end.fault) }
 {
     see_config(setup.client);
     see_config(setup.server);

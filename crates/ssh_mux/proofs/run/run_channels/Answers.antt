@@ -1,4 +1,4 @@
-use Rattle.std.proofs.Common.{◌≡◌, ◌<◌, ◌++◌, ◌^◌, ◌∷◌, [], None, inl, inr, length, subst, sym, ◌∙◌}
+use Rattle.std.proofs.Common.{◌≡◌, ◌<◌, ◌++◌, ◌^◌, ◌∷◌, [], None, inl, inr, length, subst, sym, ◌∙◌, arith}
 use Rattle.ssh_wire.specs.declared.error.Error.TheVariants.{Disconnect}
 use Rattle.ssh_wire.specs.declared.side.Side.{Side}
 use Rattle.ssh_wire.specs.declared.side.Side.TheVariants.{Client, Server}
@@ -15,13 +15,16 @@ use Rattle.ssh_run.specs.RunCauses.{offered_on, rises_by}
 use Rattle.ssh_run.proofs.Lemmas.{lawful_causes, of_sides, run_cause, says_in, tells_by, whole_id}
 use Rattle.ssh_mux.specs.Running.{both_of, on_link}
 use Rattle.ssh_mux.specs.Stopping.{MakesGood}
+use Rattle.ssh_mux.specs.declared.fault.RunFault.TheVariants.{Link}
 use Rattle.ssh_mux.proofs.Good.{new_good}
 use Rattle.ssh_mux.proofs.Breaking.{first_breaks, never_message}
 use Rattle.ssh_mux.proofs.Honesty.{run_unbroken}
 use Rattle.ssh_mux.proofs.Linking.{run_is_link, so_far_is_link, told_of}
+use Rattle.ssh_kex.specs.Fields.{IsOutside}
+use Rattle.ssh_mux.proofs.Obliging.{NoneRises, memory_only, new_wanting}
 use Rattle.ssh_mux.proofs.OnTime.{link_honest}
 use Rattle.ssh_mux.proofs.Refusing.{whole_told}
-use Rattle.ssh_mux.proofs.Stopping.{first_out, keeps_of, link_cause, no_cause, parts_later, refused_good, refuses_link, tells_of}
+use Rattle.ssh_mux.proofs.Stopping.{end_wanting, first_out, keeps_of, link_cause, no_cause, parts_later, refused_good, refuses_link, tells_of}
 use Rattle.ssh_mux.proofs.Turning.{never_out}
 use Rattle.ssh_mux.proofs.run.run_channels.Goals as goal
 
@@ -120,3 +123,33 @@ returns-clause-ends g c = λ la lb lh li lg.
     let offered = offered_on (g.A.Agreement.offered c.args.client_parts.now.agreement) (g.A.Agreement.offered c.args.server_parts.now.agreement) in
     let found = g.G.GroupLookup.group c.args.server_parts.now.groups t.client.gex in
     λ d. no_cause rises (config_of t) offered found (returns-clause-causes g c la lb lh li lg Disconnect d)
+
+pub returns-clause-complete : goal.returns-clause-complete
+returns-clause-complete g c = λ v oa ob jh si oj.
+    let t : Setup = record { client = c.args.setup.now.client.now; server = c.args.setup.now.server.now } in
+    let un = unobliged_of g.A.Agreement.obliging g.A.Agreement.refusals g.H.HostKeys.signs g.H.HostKeys.judges g.H.HostKeys.refused_sign g.H.HostKeys.refused_verify g.H.HostKeys.refused_check g.G.GroupLookup.obliging g.G.GroupLookup.refusals t c.args.server_parts.now.hosts in
+    let rises : Side → Rises = rises_by (un c.args.client_parts.now.agreement c.run_steps.new.client_parts.agreement c.args.client_parts.now.hosts c.run_steps.new.client_parts.hosts c.args.client_parts.now.groups c.run_steps.new.client_parts.groups) (un c.args.server_parts.now.agreement c.run_steps.new.server_parts.agreement c.args.server_parts.now.hosts c.run_steps.new.server_parts.hosts c.args.server_parts.now.groups c.run_steps.new.server_parts.groups) in
+    let offered = offered_on (g.A.Agreement.offered c.args.client_parts.now.agreement) (g.A.Agreement.offered c.args.server_parts.now.agreement) in
+    let found = g.G.GroupLookup.group c.args.server_parts.now.groups t.client.gex in
+    let p = c.args.client_parts.now in
+    let p' = c.run_steps.new.client_parts in
+    let q = c.args.server_parts.now in
+    let q' = c.run_steps.new.server_parts in
+    let none : NoneRises rises = record {
+      agreement = of_sides (λ s. (rises s).agreement → ⊥) (λ r. r.1 oa) (λ r. r.1 ob);
+      lookup = λ r. r.1 oj;
+      signing = λ r. r.1 si;
+      verifying = λ r. r.1 q'.hosts jh si;
+      checking = λ r. r.1 jh;
+    } in
+    let fits = g.met.G.GroupLookup.fitting q.groups q'.groups t oj in
+    let inside : IsOutside t.client.gex found → ⊥ = λ o. elim o [ inl l ↦ (let f = fits.0 in omega (arith, l, f)) | inr l ↦ (let f = fits.1 in omega (arith, l, f)) ] in
+    λ e d. memory_only rises (config_of t) offered found e v none inside
+    (returns-clause-causes g c (g.met.A.Agreement.obliging_lawful p.agreement p'.agreement t oa) (g.met.A.Agreement.obliging_lawful q.agreement q'.agreement t ob)
+    (g.met.H.HostKeys.judges_lawful p.hosts p'.hosts t jh) (g.met.H.HostKeys.signs_lawful q.hosts q'.hosts t si) (g.met.G.GroupLookup.obliging_lawful q.groups q'.groups t oj) e d)
+
+pub returns-in-Err-clause-complete : goal.returns-in-Err-clause-complete
+returns-in-Err-clause-complete g c = λ v oa ob jh si oj.
+    let t : Setup = record { client = c.args.setup.now.client.now; server = c.args.setup.now.server.now } in
+    let offered = offered_on (g.A.Agreement.offered c.args.client_parts.now.agreement) (g.A.Agreement.offered c.args.server_parts.now.agreement) in
+    end_wanting c.refused-in-Err.result (Link c.in-Err.error) c.refused-in-Err.ensures (new_wanting (config_of t) offered c.in-Err.error v c.in-Err.ensures.refused)
