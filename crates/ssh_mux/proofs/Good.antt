@@ -1,5 +1,5 @@
 -- Each payload that a side makes may be submitted.
-use Rattle.std.proofs.Common.{◌≡◌, ◌⊎◌, inl, inr, ℕ, suc, ◌+◌, ◌≤◌, min, nat_lt, Bool, true, false, not, ◌&&◌, ◌||◌, ◌==◌, if◌then◌else◌, List, [], ◌∷◌, ◌++◌, length, map, codes, Option, Some, None, refl, sym, ap, ◌∙◌, subst, length-append, arith}
+use Rattle.std.proofs.Common.{◌≡◌, inl, inr, ℕ, suc, ◌+◌, ◌≤◌, min, nat_lt, Bool, true, false, not, ◌&&◌, ◌||◌, ◌==◌, if◌then◌else◌, List, [], ◌∷◌, ◌++◌, length, map, codes, Option, Some, None, refl, sym, subst, length-append, arith}
 use Rattle.std.proofs.lemmas.Bool.Decides.{nat_tests}
 use Rattle.ssh_wire.specs.Forms.{string, u32be}
 use Rattle.ssh_wire.specs.Sides.{other_side}
@@ -8,14 +8,14 @@ use Rattle.ssh_wire.specs.declared.side.Side.TheVariants.{Client, Server}
 use Rattle.ssh_packet.specs.Sealing.{longest_payload}
 use Rattle.ssh_rules.specs.MessageTypes.{is_payload_type}
 use Rattle.ssh_rules.specs.Valid.{is_good_payload}
-use Rattle.ssh_channels.specs.Asking.{Answers, MuxState, ReceivesAll, TakesPacket}
+use Rattle.ssh_channels.specs.Asking.{MuxState, ReceivesAll}
 use Rattle.ssh_channels.specs.Ends.{ArePieces, Call, CallClose, CallEof, Calls, Read, Receives, Sends, Write, after_eof, close_messages, closes_now, data_messages, ends_now, eof_messages, fresh, taken, tells}
 use Rattle.ssh_channels.specs.Formats.{packet_text, recipient, text_of}
-use Rattle.ssh_channels.specs.Muxes.{Asks, Mux, On, Packet, Request, Start, Takes, TakesAt, addressed, told_number}
+use Rattle.ssh_channels.specs.Muxes.{Asks, Mux, On, Packet, Request, Start, TakesAt, addressed, told_number}
 use Rattle.ssh_channels.specs.Phases.{Adjust, Close, Confirmation, Data, Eof, Failure, Message, Open, is_live}
 use Rattle.ssh_channels.specs.declared.end.End.{End}
 use Rattle.ssh_channels.specs.declared.end.Phase.TheVariants.{Silent}
-use Rattle.ssh_mux.specs.Running.{Both, Called, CalledAs, Carried, Carries, CarriesBy, IsCall, PairOnLink, Received, ReceivesNew, RunsSteps, Stepped, Submitted, request_of, side_at, state_at, with_state}
+use Rattle.ssh_mux.specs.Running.{Both, Called, CalledAs, Carried, Carries, CarriesBy, PairOnLink, Received, ReceivesNew, RunsSteps, Stepped, Submitted, request_of, side_at, state_at, with_state}
 use Rattle.ssh_mux.specs.Pairs.{new_pair}
 use Rattle.ssh_mux.specs.Running.{both_of}
 use Rattle.ssh_mux.specs.Stopping.{AllGood, MakesGood}

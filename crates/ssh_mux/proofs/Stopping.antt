@@ -1,5 +1,5 @@
 -- Where the parts of a run are lawful, each refusal of its link has its cause, and none is Disconnect.
-use Rattle.std.proofs.Common.{◌≡◌, ◌⊎◌, inl, inr, ℕ, ◌+◌, ◌<◌, ◌≤◌, ◌^◌, Bool, true, false, List, [], ◌∷◌, ◌++◌, length, Option, None, Result, Ok, Err, IfErr, not, ◌&&◌, refl, sym, ap, ◌∙◌, subst, length-append, arith}
+use Rattle.std.proofs.Common.{◌≡◌, ◌⊎◌, inl, inr, ℕ, ◌<◌, ◌≤◌, ◌^◌, Bool, true, false, List, [], ◌∷◌, ◌++◌, length, Option, None, Result, Ok, Err, IfErr, not, ◌&&◌, refl, sym, ap, ◌∙◌, subst, length-append, arith}
 use Rattle.ssh_wire.specs.declared.error.Error.{Error}
 use Rattle.ssh_wire.specs.declared.error.Error.TheVariants as errors
 use Rattle.ssh_wire.specs.declared.side.Side.{Side}
@@ -24,8 +24,7 @@ use Rattle.ssh_run.specs.Carrying.{CarriedLink, IsNewLink, StepsLink, both_marks
 use Rattle.ssh_run.specs.RefusedCarrying.{IsConfigFault, RefusesLink, RefusesLinkStep, RefusesSubmit, Telling, telling_of}
 use Rattle.ssh_run.specs.RunCauses.{IsBadSubmit, IsRunCause, all_submits_good, submits_good}
 use Rattle.ssh_run.specs.Stepping.{LinkState, WhereLive, first_link_state}
-use Rattle.ssh_run.proofs.Lemmas.{TellsLater, all_refused, bound_on, later_tells, new_live, none_run, run_refused}
-use Rattle.ssh_mux.specs.Breaking.{IsNoMessageFault}
+use Rattle.ssh_run.proofs.Lemmas.{TellsLater, all_refused, bound_on, later_tells, none_run, run_refused}
 use Rattle.ssh_mux.specs.Linking.{TakesEach, TakesSteps}
 use Rattle.ssh_mux.specs.Running.{Both, Called, PairOnLink, RunsSteps, first_on_link, on_link}
 use Rattle.ssh_mux.specs.Pairs.{new_pair}
@@ -299,9 +298,6 @@ end_stopped end fault T is h e d = h e (sym (ap (λ (x : MuxEnd). x.fault) is) �
 
 pub memory_wanting : (e : Error) → e ≡ errors.Memory → IsWanting (Link e)
 memory_wanting e m x d = sym (one_error e x d) ∙ m
-
-pub mux_wanting : (fault : MuxFault) → IsWanting (Mux fault)
-mux_wanting fault e d = absurd (mux_no_link fault e d)
 
 pub end_wanting : (end : MuxEnd) (fault : RunFault) → end ≡ record { fault = fault; before = None } → IsWanting fault → IsWanting end.fault
 end_wanting end fault is h = end_stopped end fault (λ e. e ≡ errors.Memory) is h

@@ -52,9 +52,9 @@ pub struct Setup<'c> {
 /// call that a side refuses, with the report of the steps before. Link where the link refuses a step. Memory.
 ///
 /// Of lawful parts the link of the report is a link between both sides, no run is refused for a message that comes, and
-/// no settle comes to no end. The link refuses such a run only for a configuration, for what a part decides, or for want
-/// of memory. Where the parts oblige and the configurations are valid and offer what they choose, that is for want of
-/// memory alone.
+/// no settle comes to no end. The link refuses such a run only for a configuration, for what a part decides, or for
+/// want of memory. Where the parts oblige and the configurations are valid and offer what they choose, that is for want
+/// of memory alone.
 #[tactic(auto, using(crate::proofs::Refusing::refused_config, crate::proofs::Refusing::refused_link, crate::proofs::Refusing::refused_behind, crate::proofs::Refusing::whole, crate::proofs::Breaking::end_unbroken, crate::proofs::Stopping::end_no_disconnect, crate::proofs::Stopping::config_no_disconnect, crate::proofs::Stopping::new_no_disconnect, crate::proofs::Stopping::end_stopped, crate::proofs::Stopping::config_caused, crate::proofs::Stopping::new_caused))]
 pub fn run_channels<'c, A: Agreement, H: HostKeys, G: GroupLookup, R: Rng>(
     alloc: Global,
