@@ -30,7 +30,7 @@ impl Agreement for ZeroAgreement {
 
     ghost client_makes = { λ name group local public. ⊥ };
 
-    ghost server_makes = { λ name group public. ⊥ };
+    ghost server_makes = { λ name group client public. ⊥ };
 
     ghost agrees = { λ name group client server secret. ⊥ };
 
@@ -40,7 +40,7 @@ impl Agreement for ZeroAgreement {
 
     ghost lawful = { λ zero setup. ⊥ };
 
-    ghost obliging = { λ zero later setup. ⊥ };
+    ghost obliging = { λ zero later setup group. ⊥ };
 
     ghost refusals = { λ zero. 0 };
 
@@ -96,5 +96,5 @@ impl Agreement for ZeroAgreement {
 
     ghost one_secret = { λ v s name group local client server x y lawful. absurd lawful };
 
-    ghost obliging_lawful = { λ v later s obliging. obliging };
+    ghost obliging_lawful = { λ v later s group obliging. obliging };
 }

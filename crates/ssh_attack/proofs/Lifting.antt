@@ -22,7 +22,7 @@ by_denying t u d w = record {
 }
 
 -- from the states behind some calls to those before them
-pub earlier_lifts : {A H G : Type 0} (lawful : A → Setup → Type 0) (obliging : A → A → Setup → Type 0) (offered : A → KexName → Bool) (client_makes : KexName → Option DhGroup → List ℕ → List ℕ → Type 0) (server_makes : KexName → Option DhGroup → List ℕ → Type 0) (agrees : KexName → Option DhGroup → List ℕ → List ℕ → List ℕ → Type 0) (refusals calls : A → ℕ)
+pub earlier_lifts : {A H G : Type 0} (lawful : A → Setup → Type 0) (obliging : A → A → Setup → Option DhGroup → Type 0) (offered : A → KexName → Bool) (client_makes : KexName → Option DhGroup → List ℕ → List ℕ → Type 0) (server_makes : KexName → Option DhGroup → List ℕ → List ℕ → Type 0) (agrees : KexName → Option DhGroup → List ℕ → List ℕ → List ℕ → Type 0) (refusals calls : A → ℕ)
     (lawful_hosts : H → Setup → Type 0) (signs judges : H → H → Setup → Type 0) (accepts : H → ServerHost → List ℕ → List ℕ → Bool) (trusts : H → ServerHost → Bool) (makes : Config → ServerHost → List ℕ → List ℕ → Type 0) (refused_sign refused_verify refused_check asked : H → ℕ)
     (lawful_groups : G → Setup → Type 0) (obliging_groups : G → G → Setup → Type 0) (group : G → GexParams → DhGroup) (refused_lookup looked : G → ℕ)
     → (config : Config) (a a' a'' : A) (h h' h'' : H) (g g' g'' : G)
@@ -38,7 +38,7 @@ same_weaker : (a : Says) → Weaker a a
 same_weaker a = record {
   agrees = λ n q c v x k. k;
   client_makes = λ n q l c k. k;
-  server_makes = λ n q v k. k;
+  server_makes = λ n q c v k. k;
   reply = λ n q l c v x k m. k m;
   finds = λ sizes q k. k;
   signs = λ host hash signature k. k;
@@ -51,7 +51,7 @@ rose_more : (x y z : ℕ) → Rose x y → y ≤ z → Rose x z
 rose_more x y z r h = omega (arith, h, r)
 
 -- and what was denied behind some calls was denied behind more
-pub later_lifts : {A H G : Type 0} (lawful : A → Setup → Type 0) (obliging : A → A → Setup → Type 0) (offered : A → KexName → Bool) (client_makes : KexName → Option DhGroup → List ℕ → List ℕ → Type 0) (server_makes : KexName → Option DhGroup → List ℕ → Type 0) (agrees : KexName → Option DhGroup → List ℕ → List ℕ → List ℕ → Type 0) (refusals calls : A → ℕ)
+pub later_lifts : {A H G : Type 0} (lawful : A → Setup → Type 0) (obliging : A → A → Setup → Option DhGroup → Type 0) (offered : A → KexName → Bool) (client_makes : KexName → Option DhGroup → List ℕ → List ℕ → Type 0) (server_makes : KexName → Option DhGroup → List ℕ → List ℕ → Type 0) (agrees : KexName → Option DhGroup → List ℕ → List ℕ → List ℕ → Type 0) (refusals calls : A → ℕ)
     (lawful_hosts : H → Setup → Type 0) (signs judges : H → H → Setup → Type 0) (accepts : H → ServerHost → List ℕ → List ℕ → Bool) (trusts : H → ServerHost → Bool) (makes : Config → ServerHost → List ℕ → List ℕ → Type 0) (refused_sign refused_verify refused_check asked : H → ℕ)
     (lawful_groups : G → Setup → Type 0) (obliging_groups : G → G → Setup → Type 0) (group : G → GexParams → DhGroup) (refused_lookup looked : G → ℕ)
     → (config : Config) (a a' a'' : A) (h h' h'' : H) (g g' g'' : G)
@@ -65,9 +65,9 @@ later_lifts lawful obliging offered cm sm ag refusals calls lh sg jd accepts tru
       offers = λ n o. o;
       value_small = λ v k. k;
       signature_small = λ v k. k;
-      start = λ n q k. (rose_more (refusals a) (refusals a') (refusals a'') k.0 ka.refusals_later, λ s o. k.1 s (ka.obliging_sooner a s o));
-      value = λ n q v k. (rose_more (refusals a) (refusals a') (refusals a'') k.0 ka.refusals_later, λ s l o. k.1 s l (ka.obliging_sooner a s o));
-      reply = λ n q l v k. (rose_more (refusals a) (refusals a') (refusals a'') k.0 ka.refusals_later, λ s c o. k.1 s c (ka.obliging_sooner a s o));
+      start = λ n q k. (rose_more (refusals a) (refusals a') (refusals a'') k.0 ka.refusals_later, λ s o. k.1 s (ka.obliging_sooner a s q o));
+      value = λ n q v k. (rose_more (refusals a) (refusals a') (refusals a'') k.0 ka.refusals_later, λ s l o. k.1 s l (ka.obliging_sooner a s q o));
+      reply = λ n q l v k. (rose_more (refusals a) (refusals a') (refusals a'') k.0 ka.refusals_later, λ s c o. k.1 s c (ka.obliging_sooner a s q o));
       lookup = λ sizes k. (rose_more (rl g) (rl g') (rl g'') k.0 kg.refusals_later, λ s o. k.1 s (kg.obliging_sooner g s o));
       sign = λ config k. (rose_more (rs h) (rs h') (rs h'') k.0 kh.sign_later, λ s e o. k.1 s e (kh.signs_sooner h s o));
       verify = λ host hash signature k. (rose_more (rv h) (rv h') (rv h'') k.0 kh.verify_later, λ s o. k.1 s (kh.judges_sooner h s o));

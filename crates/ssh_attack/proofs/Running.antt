@@ -51,7 +51,7 @@ config_kept t side (Submit s p) a old new h = own_config (same_side s side) _ ol
 config_kept t side (Feed s bytes) a old new h = own_config (same_side s side) _ old new (λ f. feeds_config t old.transport.failed old bytes a new f.does) h
 config_kept t side (Rekey s) a old new h = own_config (same_side s side) _ old new (rekeys_config t old.transport.failed old a new) h
 
-pub side_more : {A H G : Type 0} (lawful : A → Setup → Type 0) (obliging : A → A → Setup → Type 0) (offered : A → KexName → Bool) (client_makes : KexName → Option DhGroup → List ℕ → List ℕ → Type 0) (server_makes : KexName → Option DhGroup → List ℕ → Type 0) (agrees : KexName → Option DhGroup → List ℕ → List ℕ → List ℕ → Type 0) (refusals calls : A → ℕ)
+pub side_more : {A H G : Type 0} (lawful : A → Setup → Type 0) (obliging : A → A → Setup → Option DhGroup → Type 0) (offered : A → KexName → Bool) (client_makes : KexName → Option DhGroup → List ℕ → List ℕ → Type 0) (server_makes : KexName → Option DhGroup → List ℕ → List ℕ → Type 0) (agrees : KexName → Option DhGroup → List ℕ → List ℕ → List ℕ → Type 0) (refusals calls : A → ℕ)
     (lawful_hosts : H → Setup → Type 0) (signs judges : H → H → Setup → Type 0) (accepts : H → ServerHost → List ℕ → List ℕ → Bool) (trusts : H → ServerHost → Bool) (makes : Config → ServerHost → List ℕ → List ℕ → Type 0) (refused_sign refused_verify refused_check asked : H → ℕ)
     (lawful_groups : G → Setup → Type 0) (obliging_groups : G → G → Setup → Type 0) (group : G → GexParams → DhGroup) (refused_lookup looked : G → ℕ)
     → (config : Config) (a a' a'' : A) (h h' h'' : H) (g g' g'' : G) (side : Side) (steps steps' : List AttackStep) (answers answers' : List (Result (Unit {0}) Error)) (step : AttackStep) (answer : Result (Unit {0}) Error) (old mid new : AttackedEnd)

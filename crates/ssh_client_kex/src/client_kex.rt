@@ -19,7 +19,7 @@ ghost use Rattle.ssh_client_kex.specs.declared.client_kex.ClientState.TheVariant
 ghost use Rattle.ssh_kex.specs.declared.progress.KexProgress.TheVariants.{NeedsReply};
 ghost use Rattle.ssh_kex.specs.Drawing.{DrawnByClient, StartsFrom, ValueDrawn};
 ghost use Rattle.ssh_kex.specs.Messages.{is_gex, request_message};
-ghost use Rattle.ssh_kex.specs.Parts.{IsSmall, KeepsAgreement, Setup};
+ghost use Rattle.ssh_kex.specs.Parts.{HasItsGroup, IsSmall, KeepsAgreement, Setup};
 ghost use Rattle.ssh_kex.specs.Fields.{IsInside, IsOutside};
 ghost use Rattle.ssh_kex.specs.Setting.{offers_of};
 ghost use Rattle.ssh_kex.specs.Stages.{Created as created, has_ignored, names_in_stage, is_strict};
@@ -312,8 +312,8 @@ fn send_value<A: Agreement, R: Rng>(
     ensures err { IfErr result (ClientRefusesValue (λ l v. (s : Setup) → A.lawful agreement.old s
         → A.client_makes algorithm.old.name algorithm.old.group l v) (λ v. (s : Setup) → A.lawful agreement.old s
         → IsSmall v) (Rose (A.refusals agreement.old) (A.refusals agreement.new)
-        × ((s : Setup) → A.obliging agreement.old agreement.new s → A.offered agreement.old algorithm.old.name ≡ true
-        → ⊥))) }
+        × ((s : Setup) → A.obliging agreement.old agreement.new s algorithm.old.group
+        → HasItsGroup algorithm.old.name algorithm.old.group → A.offered agreement.old algorithm.old.name ≡ true → ⊥))) }
     ensures drawn { OnOk result (ValueDrawn (A.client_draws algorithm.old.name algorithm.old.group) (R.stream rng.old)
         algorithm.new.local client_ephemeral.new) }
     ensures unchanged { OnErr result (SameButRoom output.old output.new) }
@@ -384,7 +384,8 @@ fn open_with_value<'c, A: Agreement, R: Rng>(
     ensures err { IfErr result (ClientRefusesValue (λ l v. (s : Setup) → A.lawful agreement.old s
         → A.client_makes names.kex None l v) (λ v. (s : Setup) → A.lawful agreement.old s
         → IsSmall v) (Rose (A.refusals agreement.old) (A.refusals agreement.new)
-        × ((s : Setup) → A.obliging agreement.old agreement.new s → A.offered agreement.old names.kex ≡ true → ⊥))) }
+        × ((s : Setup) → A.obliging agreement.old agreement.new s None → HasItsGroup names.kex None
+        → A.offered agreement.old names.kex ≡ true → ⊥))) }
     ensures drawn { IfSome (next_of result) (StartsFrom A.client_draws (R.stream rng.old)) }
     ensures unchanged { OnErr result (SameButRoom output.old output.new) }
     ensures late { asks_nobody false result ≡ false }
@@ -430,8 +431,8 @@ fn take_kexinit<'c, A: Agreement, R: Rng>(
     ensures err { IfErr result (ClientRefusesKexinit (λ n. A.offered agreement.old n ≡ true) (λ n l v. (s : Setup)
         → A.lawful agreement.old s → A.client_makes n None l v) (λ v. (s : Setup) → A.lawful agreement.old s
         → IsSmall v) (λ n. Rose (A.refusals agreement.old) (A.refusals agreement.new)
-        × ((s : Setup) → A.obliging agreement.old agreement.new s → A.offered agreement.old n ≡ true
-        → ⊥)) base.entry.config.now base.entry.cause incoming.entry) }
+        × ((s : Setup) → A.obliging agreement.old agreement.new s None → HasItsGroup n None
+        → A.offered agreement.old n ≡ true → ⊥)) base.entry.config.now base.entry.cause incoming.entry) }
     ensures drawn { IfSome (next_of result) (StartsFrom A.client_draws (R.stream rng.old)) }
     ensures unchanged { OnErr result (SameButRoom output.old output.new) }
     ensures unasked { asks_nobody false result ≡ true → agreement.new ≡ agreement.old }
@@ -492,7 +493,8 @@ fn answer_group<'c, A: Agreement, R: Rng>(
     ensures err { IfErr result (ClientRefusesValue (λ l v. (s : Setup) → A.lawful agreement.old s
         → A.client_makes names.kex (Some group) l v) (λ v. (s : Setup) → A.lawful agreement.old s
         → IsSmall v) (Rose (A.refusals agreement.old) (A.refusals agreement.new)
-        × ((s : Setup) → A.obliging agreement.old agreement.new s → A.offered agreement.old names.kex ≡ true → ⊥))) }
+        × ((s : Setup) → A.obliging agreement.old agreement.new s (Some group)
+        → HasItsGroup names.kex (Some group) → A.offered agreement.old names.kex ≡ true → ⊥))) }
     ensures drawn { IfSome (next_of result) (StartsFrom A.client_draws (R.stream rng.old)) }
     ensures unchanged { OnErr result (SameButRoom output.old output.new) }
     ensures late { asks_nobody false result ≡ false }
@@ -544,8 +546,8 @@ fn take_group<'c, A: Agreement, R: Rng>(
     ensures err { IfErr result (RefusesGroup (λ g l v. (s : Setup) → A.lawful agreement.old s
         → A.client_makes names.kex (Some g) l v) (λ v. (s : Setup) → A.lawful agreement.old s
         → IsSmall v) (λ g. Rose (A.refusals agreement.old) (A.refusals agreement.new)
-        × ((s : Setup) → A.obliging agreement.old agreement.new s → A.offered agreement.old names.kex ≡ true
-        → ⊥)) base.entry.config.now payload.now) }
+        × ((s : Setup) → A.obliging agreement.old agreement.new s (Some g) → HasItsGroup names.kex (Some g)
+        → A.offered agreement.old names.kex ≡ true → ⊥)) base.entry.config.now payload.now) }
     ensures drawn { IfSome (next_of result) (StartsFrom A.client_draws (R.stream rng.old)) }
     ensures unchanged { OnErr result (SameButRoom output.old output.new) }
     ensures unasked { asks_nobody false result ≡ true → agreement.new ≡ agreement.old }

@@ -13,7 +13,7 @@ ghost use Rattle.ssh_kex.specs.Agreeing.{IsWhole};
 ghost use Rattle.ssh_kex.specs.Fields.{fields, reply_front};
 ghost use Rattle.ssh_kex.specs.Signature.{judged, or_same};
 ghost use Rattle.ssh_kex.specs.Messages.{host_with, is_gex, reply_message};
-ghost use Rattle.ssh_kex.specs.Parts.{KeepsAgreement, KeepsHosts, Setup};
+ghost use Rattle.ssh_kex.specs.Parts.{HasItsGroup, KeepsAgreement, KeepsHosts, Setup};
 ghost use Rattle.ssh_kex.specs.Unasked.{asks_nobody, is_early};
 ghost use Rattle.ssh_kex.specs.Views.{HasShortSides};
 
@@ -67,10 +67,10 @@ fn agree_on_reply<'a, A: Agreement>(
         → A.agrees algorithm.old.name algorithm.old.group public v x) algorithm.old algorithm.new payload.now r.host.now
         r.value.now r.signature.now) }
     ensures err { IfErr result (RefusesToAgree (λ l v. Rose (A.refusals agreement.old) (A.refusals agreement.new)
-        × ((s : Setup) (public : List ℕ) → A.obliging agreement.old agreement.new s
-        → A.offered agreement.old algorithm.old.name ≡ true
+        × ((s : Setup) (public : List ℕ) → A.obliging agreement.old agreement.new s algorithm.old.group
+        → HasItsGroup algorithm.old.name algorithm.old.group → A.offered agreement.old algorithm.old.name ≡ true
         → A.client_makes algorithm.old.name algorithm.old.group l public
-        → A.server_makes algorithm.old.name algorithm.old.group v → ⊥)) (λ l v x. (s : Setup) (public : List ℕ)
+        → A.server_makes algorithm.old.name algorithm.old.group public v → ⊥)) (λ l v x. (s : Setup) (public : List ℕ)
         → A.lawful agreement.old s → A.client_makes algorithm.old.name algorithm.old.group l public
         → A.agrees algorithm.old.name algorithm.old.group public v x) algorithm.old payload.now) }
     ensures unasked { IfErr result (λ e. is_early (is_ok (reply_front (fields payload.now))) e ≡ true
@@ -225,9 +225,9 @@ pub(crate) fn take_reply<'c, A: Agreement, H: HostKeys, G, R: Rng>(
         output.new) }
     ensures err { IfErr result (RefusesReply (λ l v. Rose (A.refusals parts.old.agreement)
         (A.refusals parts.new.agreement) × ((s : Setup) (public : List ℕ) → A.obliging parts.old.agreement
-        parts.new.agreement s
-        → A.offered parts.old.agreement algorithm.name ≡ true → A.client_makes algorithm.name algorithm.group l public
-        → A.server_makes algorithm.name algorithm.group v → ⊥)) (λ l v x. (s : Setup) (public : List ℕ)
+        parts.new.agreement s algorithm.group
+        → HasItsGroup algorithm.name algorithm.group → A.offered parts.old.agreement algorithm.name ≡ true → A.client_makes algorithm.name algorithm.group l public
+        → A.server_makes algorithm.name algorithm.group public v → ⊥)) (λ l v x. (s : Setup) (public : List ℕ)
         → A.lawful parts.old.agreement s → A.client_makes algorithm.name algorithm.group l public
         → A.agrees algorithm.name algorithm.group public v x) (λ h d g. Rose (H.refused_verify parts.old.hosts)
         (H.refused_verify parts.new.hosts) × ((s : Setup) → H.judges parts.old.hosts parts.new.hosts s

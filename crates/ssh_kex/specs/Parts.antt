@@ -1,10 +1,10 @@
 -- What is said of the handed-in parts.
-use Rattle.std.specs.Prelude.{◌≡◌, ℕ, ◌+◌, ◌^◌, ◌<◌, ◌≤◌, Bool, List, length, Some, Result, Ok, Err}
+use Rattle.std.specs.Prelude.{◌≡◌, ℕ, ◌+◌, ◌^◌, ◌<◌, ◌≤◌, Bool, List, length, is_some, Option, Some, Result, Ok, Err}
 use Rattle.ssh_negotiate.specs.declared.kex.Name as kexes
 use Rattle.ssh_negotiate.specs.declared.preferred.HostKey.{HostKey}
 use Rattle.ssh_wire.specs.Outside.{Rose}
 use Rattle.ssh_wire.specs.declared.algorithm.Algorithm.{Algorithm}
-use Rattle.ssh_kex.specs.Messages.{presented}
+use Rattle.ssh_kex.specs.Messages.{is_gex, presented}
 use Rattle.ssh_kex.specs.declared.config.Config.{Config}
 use Rattle.ssh_kex.specs.declared.exchange.ServerHost.{ServerHost}
 use Rattle.ssh_kex.specs.declared.group.DhGroup.{DhGroup}
@@ -39,15 +39,21 @@ IsValue bytes = length bytes < 2 ^ 31
 abbrev pub IsSmall : List ℕ → Type 0
 IsSmall bytes = length bytes ≤ 65536
 
--- what each call of an agreement keeps: no count falls, and what obliges between two states does so between any states
--- between these
-pub record KeepsAgreement {A : Type 0} (lawful : A → Setup → Type 0) (obliging : A → A → Setup → Type 0)
+-- a group is handed over in a group exchange, and in no other exchange
+abbrev pub HasItsGroup : kexes.Name → Option DhGroup → Type 0
+HasItsGroup name group = is_gex name ≡ is_some group
+
+-- what each call of an agreement keeps: no count falls, and what obliges in a group between two states does so between
+-- any states between these
+pub record KeepsAgreement {A : Type 0} (lawful : A → Setup → Type 0) (obliging : A → A → Setup → Option DhGroup → Type 0)
     (offered : A → kexes.Name → Bool) (refusals calls : A → ℕ) (old new : A) : Type 0 where
   pub refusals_later : refusals old ≤ refusals new
   pub calls_later : calls old ≤ calls new
   pub lawful_kept : (s : Setup) → lawful old s → lawful new s
-  pub obliging_kept : (later : A) (s : Setup) → obliging old later s → obliging new later s
-  pub obliging_sooner : (before : A) (s : Setup) → obliging before new s → obliging before old s
+  pub obliging_kept : (later : A) (s : Setup) (group : Option DhGroup) → obliging old later s group
+      → obliging new later s group
+  pub obliging_sooner : (before : A) (s : Setup) (group : Option DhGroup) → obliging before new s group
+      → obliging before old s group
   pub offered_kept : offered new ≡ offered old
 
 -- what each call of host keys keeps

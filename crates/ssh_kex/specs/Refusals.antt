@@ -191,7 +191,7 @@ pub record IsLongReply (says : Says) (s : Setting) (o : Opened) (gex : Option Ge
   pub signature : List ℕ
   pub read : value_in (fields payload) ≡ Ok value
   pub presents : presented s.config.host o.names.host_key_is_certificate o.names.key ≡ Some shown
-  pub makes : says.server_makes o.names.kex (group_of gex) own_value
+  pub makes : says.server_makes o.names.kex (group_of gex) value own_value
   pub value_small : says.value_small own_value
   pub signature_small : says.signature_small signature
   pub size : n ≡ length (reply_message (is_gex o.names.kex) shown.blob own_value signature)

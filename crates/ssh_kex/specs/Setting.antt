@@ -23,7 +23,8 @@ pub record Says : Type 1 where
   pub agrees : kexes.Name → Option DhGroup → List ℕ → List ℕ → List ℕ → Type 0
   -- name, group, local value, client's value
   pub client_makes : kexes.Name → Option DhGroup → List ℕ → List ℕ → Type 0
-  pub server_makes : kexes.Name → Option DhGroup → List ℕ → Type 0
+  -- name, group, client's value, server's value
+  pub server_makes : kexes.Name → Option DhGroup → List ℕ → List ℕ → Type 0
   pub finds : GexParams → DhGroup → Type 0
   -- host, hash, signature in its canonical form
   pub signs : ServerHost → List ℕ → List ℕ → Type 0

@@ -135,7 +135,7 @@ pub record TakesValue (says : Says) (s : Setting) (o : Opened) (gex : Option Gex
   pub host_short : length shown.blob < 2 ^ 31
   pub signature_short : length signature < 2 ^ 31
   pub agrees : says.agrees o.names.kex (group_of gex) value own_value secret
-  pub makes : says.server_makes o.names.kex (group_of gex) own_value
+  pub makes : says.server_makes o.names.kex (group_of gex) value own_value
   pub presents : presented s.config.host o.names.host_key_is_certificate o.names.key ≡ Some shown
   pub signs : says.signs (host_with o.names shown.blob)
       (made_of s.cause o.names (exchange_of s o gex value own_value) shown.blob (Some secret)).hash (judged signature)

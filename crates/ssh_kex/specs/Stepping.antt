@@ -14,7 +14,7 @@ use Rattle.ssh_wire.specs.declared.side.Side.{Side}
 use Rattle.ssh_wire.specs.declared.side.Side.TheVariants.{Client, Server}
 use Rattle.ssh_kex.specs.Exchange.{sealing_after}
 use Rattle.ssh_kex.specs.Messages.{IsCanonical, is_gex, reply_message}
-use Rattle.ssh_kex.specs.Parts.{IsSmall, Setup}
+use Rattle.ssh_kex.specs.Parts.{HasItsGroup, IsSmall, Setup}
 use Rattle.ssh_kex.specs.Refusals.{Denies, RefusesMessage}
 use Rattle.ssh_kex.specs.Setting.{Says, Opened}
 use Rattle.ssh_kex.specs.Stages.{Stage, Created, AwaitsGroup, AwaitsReply, AwaitsRequest, AwaitsValue, AwaitsNewkeys, Machine, Takes, Finishes, Skips, drops_guess, guess_dropped, resets}
@@ -34,7 +34,7 @@ use Rattle.ssh_kex.specs.declared.progress.KexProgress.TheVariants.{NeedsReply, 
 -- What parts say, from the members of their traits: what is lawful says so under any setup that it is lawful under.
 abbrev pub says_of : {A H G : Type 0} (lawful : A → Setup → Type 0) (offered : A → kexes.Name → Bool)
     (client_makes : kexes.Name → Option DhGroup → List ℕ → List ℕ → Type 0) (server_makes : kexes.Name
-    → Option DhGroup → List ℕ → Type 0) (agrees : kexes.Name → Option DhGroup → List ℕ → List ℕ → List ℕ → Type 0)
+    → Option DhGroup → List ℕ → List ℕ → Type 0) (agrees : kexes.Name → Option DhGroup → List ℕ → List ℕ → List ℕ → Type 0)
     (lawful_hosts : H → Setup → Type 0) (signs judges : H → H → Setup → Type 0)
     (accepts : H → ServerHost → List ℕ → List ℕ → Bool) (trusts : H → ServerHost → Bool) (makes : Config → ServerHost → List ℕ → List ℕ → Type 0)
     (lawful_groups : G → Setup → Type 0) (group : G → GexParams → DhGroup)
@@ -43,7 +43,7 @@ says_of {A} {H} {G} lawful offered client_makes server_makes agrees lawful_hosts
     lawful_groups group config a h g = record {
       agrees = λ name q c v x. (s : Setup) → lawful a s → agrees name q c v x;
       client_makes = λ name q l c. (s : Setup) → lawful a s → client_makes name q l c;
-      server_makes = λ name q v. (s : Setup) → lawful a s → server_makes name q v;
+      server_makes = λ name q c v. (s : Setup) → lawful a s → server_makes name q c v;
       finds = λ sizes q. (s : Setup) → lawful_groups g s → (q ≡ group g sizes) × IsCanonical q;
       signs = λ host hash signature. (later : H) (s : Setup) → s.server ≡ config → signs h later s
           → makes config host hash signature;
@@ -55,21 +55,24 @@ says_of {A} {H} {G} lawful offered client_makes server_makes agrees lawful_hosts
     }
 
 -- What it means that a part refused between two states.
-abbrev pub denies_of : {A H G : Type 0} (obliging : A → A → Setup → Type 0) (offered : A → kexes.Name → Bool)
+abbrev pub denies_of : {A H G : Type 0} (obliging : A → A → Setup → Option DhGroup → Type 0) (offered : A → kexes.Name → Bool)
     (client_makes : kexes.Name → Option DhGroup → List ℕ → List ℕ → Type 0) (server_makes : kexes.Name
-    → Option DhGroup → List ℕ → Type 0) (refusals : A → ℕ)
+    → Option DhGroup → List ℕ → List ℕ → Type 0) (refusals : A → ℕ)
     (signs judges : H → H → Setup → Type 0) (accepts : H → ServerHost → List ℕ → List ℕ
     → Bool) (refused_sign refused_verify : H → ℕ)
     (obliging_groups : G → G → Setup → Type 0) (refused_lookup : G → ℕ)
     → A → A → H → H → G → G → Denies
 denies_of obliging offered client_makes server_makes refusals signs judges accepts refused_sign refused_verify
     obliging_groups refused_lookup a a' h h' g g' = record {
-      start = λ name q. Rose (refusals a) (refusals a') × ((s : Setup) → obliging a a' s → offered a name ≡ true → ⊥);
+      start = λ name q. Rose (refusals a) (refusals a') × ((s : Setup) → obliging a a' s q → HasItsGroup name q
+          → offered a name ≡ true → ⊥);
       value = λ name q c. Rose (refusals a) (refusals a')
-          × ((s : Setup) (l : List ℕ) → obliging a a' s → offered a name ≡ true → client_makes name q l c → ⊥);
+          × ((s : Setup) (l : List ℕ) → obliging a a' s q → HasItsGroup name q → offered a name ≡ true
+          → client_makes name q l c → ⊥);
       reply = λ name q l v. Rose (refusals a) (refusals a')
-          × ((s : Setup) (c : List ℕ) → obliging a a' s → offered a name ≡ true → client_makes name q l c
-          → server_makes name q v → ⊥);
+          × ((s : Setup) (c : List ℕ) → obliging a a' s q → HasItsGroup name q → offered a name ≡ true
+          → client_makes name q l c
+          → server_makes name q c v → ⊥);
       lookup = λ sizes. Rose (refused_lookup g) (refused_lookup g') × ((s : Setup) → obliging_groups g g' s → ⊥);
       sign = λ config. Rose (refused_sign h) (refused_sign h') × ((s : Setup) → s.server ≡ config → signs h h' s → ⊥);
       verify = λ host hash signature. Rose (refused_verify h) (refused_verify h')

@@ -11,7 +11,7 @@ ghost use Rattle.ssh_kex.specs.Agreeing.{Agreeing, ClientAgrees, ClientStarts, I
 ghost use Rattle.ssh_kex.specs.Drawing.{DrawsLocal, DrawsSecret};
 ghost use Rattle.ssh_kex.specs.Exchange.{exchange_hash, keys_of, sealing_after, secret_of, secret_text, side_if};
 ghost use Rattle.ssh_kex.specs.Messages.{is_gex, request_message, value_message};
-ghost use Rattle.ssh_kex.specs.Parts.{IsSmall, KeepsAgreement, Setup};
+ghost use Rattle.ssh_kex.specs.Parts.{HasItsGroup, IsSmall, KeepsAgreement, Setup};
 
 use crate::exchange::{Exchange, NewCiphers, SharedSecret};
 use crate::group::{DhGroup, GexParams};
@@ -150,7 +150,7 @@ impl KexAlgorithm {
         ensures calls { A.calls agreement.new ≤ A.calls agreement.old
             + (if (shape_of self.old.name).skip then 0 else 1) }
         ensures agrees { OnOk result (ServerAgrees (shape_of self.old.name).skip (λ v x. (s : Setup)
-            → A.lawful agreement.old s → A.server_makes self.old.name self.old.group v
+            → A.lawful agreement.old s → A.server_makes self.old.name self.old.group exchange.old.client_ephemeral v
             × A.agrees self.old.name self.old.group exchange.old.client_ephemeral v x × IsSmall v) self.old self.new
             exchange.old exchange.new) }
         ensures drawn { OnOk result (DrawsSecret (shape_of self.old.name).skip (A.server_draws self.old.name
@@ -159,8 +159,8 @@ impl KexAlgorithm {
         ensures unchanged { OnErr result ((self.new ≡ self.old) × (exchange.new ≡ exchange.old)) }
         ensures causes { IfErr result (λ e. (e ≡ Kex) ⊎ (e ≡ Memory)) }
         ensures rose { result ≡ Err Kex → Rose (A.refusals agreement.old) (A.refusals agreement.new) }
-        ensures owed { result ≡ Err Kex → (s : Setup) (local : List ℕ) → A.obliging agreement.old agreement.new s
-            → A.offered agreement.old self.old.name ≡ true
+        ensures owed { result ≡ Err Kex → (s : Setup) (local : List ℕ) → A.obliging agreement.old agreement.new s self.old.group
+            → HasItsGroup self.old.name self.old.group → A.offered agreement.old self.old.name ≡ true
             → A.client_makes self.old.name self.old.group local exchange.old.client_ephemeral → ⊥ }
         ensures none { (shape_of self.old.name).skip ≡ true → (result ≡ Ok tt) × (agreement.new ≡ agreement.old)
             × (rng.new ≡ rng.old) }
@@ -208,8 +208,8 @@ impl KexAlgorithm {
             → IsSmall client_ephemeral.new) }
         ensures causes { IfErr result (λ e. (e ≡ Kex) ⊎ (e ≡ Memory)) }
         ensures rose { result ≡ Err Kex → Rose (A.refusals agreement.old) (A.refusals agreement.new) }
-        ensures owed { result ≡ Err Kex → (s : Setup) → A.obliging agreement.old agreement.new s
-            → A.offered agreement.old self.old.name ≡ true → ⊥ }
+        ensures owed { result ≡ Err Kex → (s : Setup) → A.obliging agreement.old agreement.new s self.old.group
+            → HasItsGroup self.old.name self.old.group → A.offered agreement.old self.old.name ≡ true → ⊥ }
         ensures none { (shape_of self.old.name).skip ≡ true → (result ≡ Ok tt) × (agreement.new ≡ agreement.old)
             × (rng.new ≡ rng.old) }
     {
@@ -251,9 +251,10 @@ impl KexAlgorithm {
             × (agreement.new ≡ agreement.old) }
         ensures rose { result ≡ Err Kex → Rose (A.refusals agreement.old) (A.refusals agreement.new) }
         ensures owed { result ≡ Err Kex → (s : Setup) (local public : List ℕ) → self.old.local ≡ Some local
-            → A.obliging agreement.old agreement.new s → A.offered agreement.old self.old.name ≡ true
+            → A.obliging agreement.old agreement.new s self.old.group
+            → HasItsGroup self.old.name self.old.group → A.offered agreement.old self.old.name ≡ true
             → A.client_makes self.old.name self.old.group local public
-            → A.server_makes self.old.name self.old.group server_public.now → ⊥ }
+            → A.server_makes self.old.name self.old.group public server_public.now → ⊥ }
         ensures none { (shape_of self.old.name).skip ≡ true → (result ≡ Ok tt) × (agreement.new ≡ agreement.old) }
     {
         if self.skip_exchange() {

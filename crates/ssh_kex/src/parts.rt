@@ -4,7 +4,7 @@ ghost use Rattle.std.specs.Prelude.{◌≡◌, ℕ, ◌≤◌, codes, List, Bool
 ghost use Rattle.rand_core.specs.Stream.{Stream};
 ghost use Rattle.std.specs.Option.{option_copied};
 ghost use Rattle.ssh_kex.specs.Messages.{IsCanonical, bit_size};
-ghost use Rattle.ssh_kex.specs.Parts.{Counted, IsRefused, IsSmall, IsValue, KeepsAgreement, KeepsGroups, KeepsHosts, Presents, Setup};
+ghost use Rattle.ssh_kex.specs.Parts.{Counted, HasItsGroup, IsRefused, IsSmall, IsValue, KeepsAgreement, KeepsGroups, KeepsHosts, Presents, Setup};
 ghost use Rattle.ssh_kex.specs.Signature.{judged};
 ghost use Rattle.ssh_kex.specs.declared.config.Config.{Config};
 ghost use Rattle.ssh_kex.specs.declared.exchange.ServerHost.{ServerHost};
@@ -71,10 +71,10 @@ pub trait Agreement {
     // Which names it offers.
     ghost offered: { Self → kexes.Name → Bool };
 
-    // Which pairs of a local and a public value a client makes, and which public values a server makes.
+    // Which pairs of a local and a public value a client makes, and which public values a server makes for a client's.
     ghost client_makes: { kexes.Name → Option DhGroup → List ℕ → List ℕ → Type 0 };
 
-    ghost server_makes: { kexes.Name → Option DhGroup → List ℕ → Type 0 };
+    ghost server_makes: { kexes.Name → Option DhGroup → List ℕ → List ℕ → Type 0 };
 
     // Name, group, the client's and the server's public value, and a secret.
     ghost agrees: { kexes.Name → Option DhGroup → List ℕ → List ℕ → List ℕ → Type 0 };
@@ -86,10 +86,11 @@ pub trait Agreement {
     ghost server_draws: { kexes.Name → Option DhGroup → List ℕ → Stream → List ℕ → List ℕ → Stream → Type 0 };
 
     // What it keeps under two sides' configurations; and that besides, from one of its states to a later one, it
-    // refuses nothing that it owes an answer to.
+    // refuses nothing that it owes an answer to in this group, which is None where no group is exchanged. Of other
+    // groups it says nothing: an agreement may refuse those that aren't in its list.
     ghost lawful: { Self → Setup → Type 0 };
 
-    ghost obliging: { Self → Self → Setup → Type 0 };
+    ghost obliging: { Self → Self → Setup → Option DhGroup → Type 0 };
 
     ghost refusals: { Self → ℕ };
 
@@ -115,8 +116,8 @@ pub trait Agreement {
         ensures made { (s : Setup) → lawful self.old s
             → IfOk result (λ v. client_makes name (option_copied group.entry) v.local v.public × IsSmall v.public
             × IsSmall v.local) }
-        ensures never { (s : Setup) → obliging self.old self.new s → offered self.old name ≡ true
-            → IsRefused result → ⊥ };
+        ensures never { (s : Setup) → obliging self.old self.new s (option_copied group.entry)
+            → HasItsGroup name (option_copied group.entry) → offered self.old name ≡ true → IsRefused result → ⊥ };
 
     /// A server's value for a client's, and the secret.
     fn server_agree<R: Rng>(
@@ -133,10 +134,11 @@ pub trait Agreement {
         ensures drawn { IfOk result (λ v. server_draws name (option_copied group.entry) client_public.now
             (R.stream rng.old) v.public v.secret (R.stream rng.new)) }
         ensures made { (s : Setup) → lawful self.old s
-            → IfOk result (λ v. server_makes name (option_copied group.entry) v.public
+            → IfOk result (λ v. server_makes name (option_copied group.entry) client_public.now v.public
             × agrees name (option_copied group.entry) client_public.now v.public v.secret × IsSmall v.public
             × IsSmall v.secret) }
-        ensures never { (s : Setup) (local : List ℕ) → obliging self.old self.new s → offered self.old name ≡ true
+        ensures never { (s : Setup) (local : List ℕ) → obliging self.old self.new s (option_copied group.entry)
+            → HasItsGroup name (option_copied group.entry) → offered self.old name ≡ true
             → client_makes name (option_copied group.entry) local client_public.now → IsRefused result → ⊥ };
 
     /// The secret of a client's own value and a server's.
@@ -154,18 +156,19 @@ pub trait Agreement {
         ensures made { (s : Setup) (public : List ℕ) → lawful self.old s
             → client_makes name (option_copied group.entry) local.now public
             → IfOk result (λ v. agrees name (option_copied group.entry) public server_public.now v × IsSmall v) }
-        ensures never { (s : Setup) (public : List ℕ) → obliging self.old self.new s → offered self.old name ≡ true
+        ensures never { (s : Setup) (public : List ℕ) → obliging self.old self.new s (option_copied group.entry)
+            → HasItsGroup name (option_copied group.entry) → offered self.old name ≡ true
             → client_makes name (option_copied group.entry) local.now public
-            → server_makes name (option_copied group.entry) server_public.now → IsRefused result → ⊥ };
+            → server_makes name (option_copied group.entry) public server_public.now → IsRefused result → ⊥ };
 
     // What both sides made leaves one secret.
     ghost one_secret: { (v : Self) (s : Setup) (name : kexes.Name) (group : Option DhGroup)
         (local client server x y : List ℕ) → lawful v s → client_makes name group local client
-        → server_makes name group server → agrees name group client server x → agrees name group client server y
+        → server_makes name group client server → agrees name group client server x → agrees name group client server y
         → x ≡ y };
 
-    // What is obliging is lawful.
-    ghost obliging_lawful: { (v w : Self) (s : Setup) → obliging v w s → lawful v s };
+    // What is obliging in some group is lawful.
+    ghost obliging_lawful: { (v w : Self) (s : Setup) (group : Option DhGroup) → obliging v w s group → lawful v s };
 }
 
 /// Finds the group of a group exchange.

@@ -8,6 +8,7 @@ use Rattle.ssh_wire.specs.declared.side.Side.TheVariants.{Client, Server}
 use Rattle.ssh_packet.specs.Sealing.{Item}
 use Rattle.ssh_kex.specs.declared.config.Config.{Config}
 use Rattle.ssh_kex.specs.declared.exchange.FinishedExchange.{FinishedExchange}
+use Rattle.ssh_kex.specs.declared.group.DhGroup.{DhGroup}
 use Rattle.ssh_rules.specs.Asking.{PartCalls}
 use Rattle.ssh_rules.specs.AttackCauses.{Due, GroupDue, IsAnsweredSide, IsAttackedRun, IsTooLongNow, KexinitDue, NewkeysDue, PartDeniesNow, PartsDo, RefusesNow, ReplyDue, RequestDue, Seen, ValueDue, due_in, seen_in}
 use Rattle.ssh_rules.specs.Attacked.{fed_to}
@@ -27,18 +28,18 @@ use Rattle.ssh_link.specs.PlanRun.{IsAttackedPlan}
 
 -- ---- which part refused isn't told
 
-abbrev untold : PartsDo → (O S : Type 0) → PartsDo
+abbrev untold : PartsDo → (Option DhGroup → Type 0) → Type 0 → PartsDo
 untold p O S = record p { rises = untold_rises; obliging = O; signs = S }
 
-denies_untold : (p : PartsDo) (O S : Type 0) (f : O → p.obliging) (g : S → p.signs) (v : Seen) (items : List Item) (i : Item) (due : Due) → PartDeniesNow p v items i due → PartDeniesNow (untold p O S) v items i due
-denies_untold p O S f g v items i KexinitDue (n, reads, plain, d) = (n, reads, plain, record { client = d.client; rose = tt; only = λ o. d.only (f o) })
-denies_untold p O S f g v items i GroupDue (q, read, inside, d) = (q, read, inside, record { client = d.client; rose = tt; only = λ o. d.only (f o) })
+denies_untold : (p : PartsDo) (O : Option DhGroup → Type 0) (S : Type 0) (f : (q : Option DhGroup) → O q → p.obliging q) (g : S → p.signs) (v : Seen) (items : List Item) (i : Item) (due : Due) → PartDeniesNow p v items i due → PartDeniesNow (untold p O S) v items i due
+denies_untold p O S f g v items i KexinitDue (n, reads, plain, d) = (n, reads, plain, record { client = d.client; rose = tt; only = λ o. d.only (f _ o) })
+denies_untold p O S f g v items i GroupDue (q, read, inside, d) = (q, read, inside, record { client = d.client; rose = tt; only = λ o. d.only (f _ o) })
 denies_untold p O S f g v items i RequestDue (sizes, read, rose, only) = (sizes, read, tt, only)
-denies_untold p O S f g v items i ValueDue (n, names, d) = (n, names, record { exchange = d.exchange; host = d.host; signature = d.signature; speaks = d.speaks; value_is = d.value_is; rose = tt; only = λ o. d.only (f o) })
-denies_untold p O S f g v items i ReplyDue (n, names, d) = (n, names, record { front = d.front; read = d.read; exchange = d.exchange; host = d.host; signature = d.signature; speaks = d.speaks; value_is = d.value_is; rose = tt; only = λ o. d.only (f o) })
+denies_untold p O S f g v items i ValueDue (n, names, d) = (n, names, record { exchange = d.exchange; host = d.host; signature = d.signature; speaks = d.speaks; value_is = d.value_is; rose = tt; only = λ o. d.only (f _ o) })
+denies_untold p O S f g v items i ReplyDue (n, names, d) = (n, names, record { front = d.front; read = d.read; exchange = d.exchange; host = d.host; signature = d.signature; speaks = d.speaks; value_is = d.value_is; rose = tt; only = λ o. d.only (f _ o) })
 denies_untold p O S f g v items i NewkeysDue d = d
 
-long_untold : (p : PartsDo) (O S : Type 0) (i : Item) (n : ℕ) (due : Due) → IsTooLongNow p i n due → IsTooLongNow (untold p O S) i n due
+long_untold : (p : PartsDo) (O : Option DhGroup → Type 0) (S : Type 0) (i : Item) (n : ℕ) (due : Due) → IsTooLongNow p i n due → IsTooLongNow (untold p O S) i n due
 long_untold p O S i n KexinitDue h = h
 long_untold p O S i n GroupDue h = h
 long_untold p O S i n RequestDue h = h
@@ -46,7 +47,7 @@ long_untold p O S i n ValueDue h = h
 long_untold p O S i n ReplyDue h = h
 long_untold p O S i n NewkeysDue h = h
 
-refuses_untold : (p : PartsDo) (O S : Type 0) (f : O → p.obliging) (g : S → p.signs) (v : Seen) (items : List Item) (i : Item) (e : Error) → RefusesNow p v items i e → RefusesNow (untold p O S) v items i e
+refuses_untold : (p : PartsDo) (O : Option DhGroup → Type 0) (S : Type 0) (f : (q : Option DhGroup) → O q → p.obliging q) (g : S → p.signs) (v : Seen) (items : List Item) (i : Item) (e : Error) → RefusesNow p v items i e → RefusesNow (untold p O S) v items i e
 refuses_untold p O S f g v items i errors.Disconnect h = h
 refuses_untold p O S f g v items i (errors.StrictKeyExchangeViolation type place) h = h
 refuses_untold p O S f g v items i errors.KexInit h = h
@@ -68,7 +69,7 @@ refuses_untold p O S f g v items i errors.IO h = h
 refuses_untold p O S f g v items i (errors.InvalidConfig fault) h = h
 refuses_untold p O S f g v items i errors.Memory h = h
 
-answered_untold : (p : PartsDo) (O S : Type 0) (f : O → p.obliging) (g : S → p.signs) (side : Side) (config : Config) (steps : List AttackStep) (answers : List (Result (Unit {0}) Error)) (xs : List FinishedExchange) (own handled : List Item) (ending : Ending)
+answered_untold : (p : PartsDo) (O : Option DhGroup → Type 0) (S : Type 0) (f : (q : Option DhGroup) → O q → p.obliging q) (g : S → p.signs) (side : Side) (config : Config) (steps : List AttackStep) (answers : List (Result (Unit {0}) Error)) (xs : List FinishedExchange) (own handled : List Item) (ending : Ending)
     → IsAnsweredSide p side config steps answers xs own handled ending → IsAnsweredSide (untold p O S) side config steps answers xs own handled ending
 answered_untold p O S f g side config steps answers xs own handled ending h = record {
   answered = answers_weaker _ _ side _ steps answers (λ items k. k) (λ items i e r. refuses_untold p O S f g (seen_in side config (fed_to side steps) xs own) items i e r) h.answered;
@@ -76,7 +77,7 @@ answered_untold p O S f g side config steps answers xs own handled ending h = re
   asked = h.asked;
 }
 
-run_untold : (p q : PartsDo) (O S P T : Type 0) → (O → p.obliging) → (S → p.signs) → (P → q.obliging) → (T → q.signs) → (client server : Config) (steps : List AttackStep) (report : AttackReport) → IsAttackedRun p q client server steps report → IsAttackedRun (untold p O S) (untold q P T) client server steps report
+run_untold : (p q : PartsDo) (O : Option DhGroup → Type 0) (S : Type 0) (P : Option DhGroup → Type 0) (T : Type 0) → ((r : Option DhGroup) → O r → p.obliging r) → (S → p.signs) → ((r : Option DhGroup) → P r → q.obliging r) → (T → q.signs) → (client server : Config) (steps : List AttackStep) (report : AttackReport) → IsAttackedRun p q client server steps report → IsAttackedRun (untold p O S) (untold q P T) client server steps report
 run_untold p q O S P T f g k l client server steps report h = record {
   link = h.link;
   client_answered = answered_untold p O S f g Client client steps report.answers report.client.exchanges _ _ _ h.client_answered;
@@ -103,7 +104,7 @@ parts_by plan b rises calls = record {
   lawful = Unit {0};
   lawful_hosts = Unit {0};
   lawful_lookup = IsLawful b.bits plan.client.config.gex;
-  obliging = Unit {0} × (IsBetween b.calls.agreement calls.agreement b.agreement → ⊥);
+  obliging = λ group. Unit {0} × (IsBetween b.calls.agreement calls.agreement b.agreement → ⊥);
   signs = Unit {0} × (IsBetween b.calls.hosts calls.hosts b.hosts → ⊥);
   judges = TrustsAll b.trusted plan.server.config × (IsBetween b.calls.hosts calls.hosts b.hosts → ⊥);
   obliging_lookup = IsObliging b.bits plan.client.config.gex × (IsBetween b.calls.lookups calls.lookups b.groups → ⊥);
@@ -136,7 +137,7 @@ pub attacked_plan : (plan : Plan) (steps : List AttackStep) (b d : Begins) (r s 
 attacked_plan plan steps b d r s cc sc report e f g h = record {
   client_calls = cc;
   server_calls = sc;
-  run = run_untold (parts_by plan (begins_of plan plan.client) r cc) (parts_by plan (begins_of plan plan.server) s sc) _ _ _ _ (λ o. (tt, o)) (λ o. (tt, o)) (λ o. (tt, o)) (λ o. (tt, o)) plan.client.config plan.server.config plan.attack report
+  run = run_untold (parts_by plan (begins_of plan plan.client) r cc) (parts_by plan (begins_of plan plan.server) s sc) _ _ _ _ (λ q o. (tt, o)) (λ o. (tt, o)) (λ q o. (tt, o)) (λ o. (tt, o)) plan.client.config plan.server.config plan.attack report
       (subst (λ x. IsAttackedRun (parts_by plan x r cc) (parts_by plan (begins_of plan plan.server) s sc) plan.client.config plan.server.config plan.attack report) f
       (subst (λ x. IsAttackedRun (parts_by plan b r cc) (parts_by plan x s sc) plan.client.config plan.server.config plan.attack report) g
       (subst (λ x. IsAttackedRun (parts_by plan b r cc) (parts_by plan d s sc) plan.client.config plan.server.config x report) e h)));

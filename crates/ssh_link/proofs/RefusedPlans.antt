@@ -9,6 +9,7 @@ use Rattle.ssh_wire.specs.declared.side.Side.TheVariants.{Client, Server}
 use Rattle.ssh_negotiate.specs.declared.kex.Name.{Name as KexName}
 use Rattle.ssh_kex.specs.declared.config.Config.{Config}
 use Rattle.ssh_kex.specs.declared.group.DhGroup.{DhGroup}
+use Rattle.ssh_rules.specs.Headline.{chosen_by, kind_by}
 use Rattle.ssh_rules.specs.LinkCauses.{IsCauseOf, Rises}
 use Rattle.ssh_rules.specs.declared.link.LinkReport.{LinkReport}
 use Rattle.ssh_rules.specs.declared.link.Step.{Step}
@@ -87,7 +88,7 @@ HostsJudge plan p = TrustsAll p.trusted plan.server.config × ((p.hosts < p.host
 abbrev pub told_rises : (agreed looked signed judged checked unsigned : Type 0) → Plan → SideParts → Rises
 told_rises agreed looked signed judged checked unsigned plan p = record {
   agreement = agreed × (Unit {0} × ((p.agreement < p.agreement_at) × (p.agreement_at ≤ p.agreement') → ⊥) → ⊥);
-  lookup = looked × (IsObliging p.bits plan.client.config.gex × ((p.groups < p.groups_at) × (p.groups_at ≤ p.groups') → ⊥) → ⊥);
+  lookup = looked × (kind_by (chosen_by plan.client.config plan.server.config) ≡ true) × (IsObliging p.bits plan.client.config.gex × ((p.groups < p.groups_at) × (p.groups_at ≤ p.groups') → ⊥) → ⊥);
   signing = signed × (Unit {0} × ((p.hosts < p.hosts_at) × (p.hosts_at ≤ p.hosts') → ⊥) → ⊥);
   verifying = judged × unsigned;
   checking = checked × (HostsJudge plan p → ⊥);
@@ -108,7 +109,7 @@ all_trusted plan trusted same t = subst (λ z. TrustsAll z plan.server.config) (
 pub side_tells : (agreed looked signed judged checked unsigned : Type 0) (plan : Plan) (side : Side) (p : SideParts) → AreOf plan side p → (unsigned → HostsJudge plan p → ⊥) → Tell (told_rises agreed looked signed judged checked unsigned plan p) (refuses_of plan side)
 side_tells agreed looked signed judged checked unsigned plan side p o v = record {
   agreement = λ d. only_called (most_calls plan side) _ (blamed (most_calls plan side) (setup_of plan side).refuse_agreement p.agreement_at p.agreement p.agreement' o.agreement_at o.agreement o.agreement' d.1);
-  lookup = λ d. or_else (λ w. subst (λ n. IsObliging n plan.client.config.gex) (sym o.bits) w) (blamed (most_calls plan side) (setup_of plan side).refuse_groups p.groups_at p.groups p.groups' o.groups_at o.groups o.groups' d.1);
+  lookup = λ d. (d.1, or_else (λ w. subst (λ n. IsObliging n plan.client.config.gex) (sym o.bits) w) (blamed (most_calls plan side) (setup_of plan side).refuse_groups p.groups_at p.groups p.groups' o.groups_at o.groups o.groups' d.2));
   signing = λ d. only_called (most_calls plan side) _ (blamed (most_calls plan side) (setup_of plan side).refuse_hosts p.hosts_at p.hosts p.hosts' o.hosts_at o.hosts o.hosts' d.1);
   verifying = λ d. hosts (v d.1);
   checking = λ d. hosts d.1;

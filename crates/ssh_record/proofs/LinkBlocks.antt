@@ -269,7 +269,7 @@ made_next cm sm ag j before x ci si atc ats cb sb cr sr chosen sizes given nexts
     let s = given.given before m.exchange m.host nexts blocks in
     let secret : m.secret ≡ s.0 = s.2.one m.local m.secret
     (subst (λ (v : Names). cm v.kex (Rattle.ssh_kex.specs.Setting.group_of m.exchange.gex) m.local m.exchange.client_ephemeral) n m.by_client)
-    (subst (λ (v : Names). sm v.kex (Rattle.ssh_kex.specs.Setting.group_of m.exchange.gex) m.exchange.server_ephemeral) n m.by_server)
+    (subst (λ (v : Names). sm v.kex (Rattle.ssh_kex.specs.Setting.group_of m.exchange.gex) m.exchange.client_ephemeral m.exchange.server_ephemeral) n m.by_server)
     (subst (λ (v : Names). ag v.kex (Rattle.ssh_kex.specs.Setting.group_of m.exchange.gex) m.exchange.client_ephemeral m.exchange.server_ephemeral m.secret) n m.agree) in
     let h = exchange_hash j.names.kex m.exchange m.host (Some s.0) in
     let hash : x.hash ≡ h = m.hash ∙ same_hash x.names j.names m.exchange m.host m.secret s.0 n secret in

@@ -31,7 +31,7 @@ recording_of steps report secrets = record {
 -- the one secret on which both sides agree over these values, which they made
 pub record IsSecretOf (client_makes : ClientPairs) (server_makes : ServerValues) (agrees : Secrets) (names : Names) (e : Exchange) (secret : List ℕ) : Type 0 where
   pub one : (local other : List ℕ) → client_makes names.kex (group_of e.gex) local e.client_ephemeral
-      → server_makes names.kex (group_of e.gex) e.server_ephemeral
+      → server_makes names.kex (group_of e.gex) e.client_ephemeral e.server_ephemeral
       → agrees names.kex (group_of e.gex) e.client_ephemeral e.server_ephemeral other → other ≡ secret
 
 -- For each block that is whole on both wires, read under the exchanges before it, the record has the secret of its

@@ -65,3 +65,5 @@ pub use Rattle.ssh_rules.proofs.side.Epochs.{bytes_in, epoch_at, epoch_next}
 pub use Rattle.ssh_rules.proofs.side.Fronts.{block_grows}
 pub use Rattle.ssh_rules.proofs.side.OneMessage.{SameTalk, client_by, server_by, talk_one}
 pub use Rattle.ssh_rules.proofs.side.Tally.{bytes_ended, bytes_grown, kexinits_none, kexinits_one}
+pub use Rattle.ssh_rules.proofs.any_bytes.FedLines.{LineGoes, LineSoFar, behind_more, line_first, line_goes}
+pub use Rattle.ssh_rules.proofs.turns.CallTurns.{heard_stays, no_bytes}

@@ -180,13 +180,13 @@ pub record Speaks (v : Seen) (items : List Item) (e : Exchange) (host signature 
 
 -- ---- what the parts of the side do
 
--- Over the whole run, under both sides' configurations: what is lawful and obliging, which counts of refusals rose,
+-- Over the whole run, under both sides' configurations: what is lawful and obliging, the agreement in which group, which counts of refusals rose,
 -- what the types and the parts say, and how often each part had been asked before and after.
 pub record PartsDo : Type 1 where
   pub lawful : Type 0
   pub lawful_hosts : Type 0
   pub lawful_lookup : Type 0
-  pub obliging : Type 0
+  pub obliging : Option DhGroup → Type 0
   pub signs : Type 0
   pub judges : Type 0
   pub obliging_lookup : Type 0
@@ -202,7 +202,7 @@ pub record PartsDo : Type 1 where
   pub after : PartCalls
 
 -- by the members of the parts' traits, of one side, between the states before the run and behind it
-abbrev pub parts_of : {A H G : Type 0} (lawful : A → Setup → Type 0) (obliging : A → A → Setup → Type 0) (offered : A → KexName → Bool)
+abbrev pub parts_of : {A H G : Type 0} (lawful : A → Setup → Type 0) (obliging : A → A → Setup → Option DhGroup → Type 0) (offered : A → KexName → Bool)
     (client_makes : ClientPairs) (server_makes : ServerValues) (agrees : Secrets) (refusals calls : A → ℕ)
     (lawful_hosts : H → Setup → Type 0) (signs judges : H → H → Setup → Type 0) (accepts : H → ServerHost → List ℕ → List ℕ → Bool)
     (trusts : H → ServerHost → Bool) (refused_sign refused_verify refused_check asked : H → ℕ)
@@ -230,11 +230,11 @@ parts_of lawful obliging offered client_makes server_makes agrees refusals calls
       after = counted_by calls asked looked a' h' g';
     }
 
--- a part refuses: an obliging agreement only a value that the other side doesn't make
-pub record DeniesStart (p : PartsDo) (side : Side) : Type 0 where
+-- A part refuses: an agreement that obliges in the group, only a value that the other side doesn't make.
+pub record DeniesStart (p : PartsDo) (side : Side) (group : Option DhGroup) : Type 0 where
   pub client : side ≡ Client
   pub rose : p.rises.agreement
-  pub only : p.obliging → ⊥
+  pub only : p.obliging group → ⊥
 
 pub record DeniesValue (p : PartsDo) (v : Seen) (items : List Item) (i : Item) (n : Names) : Type 0 where
   pub exchange : Exchange
@@ -243,7 +243,7 @@ pub record DeniesValue (p : PartsDo) (v : Seen) (items : List Item) (i : Item) (
   pub speaks : Speaks v items exchange host signature
   pub value_is : value_in (fields i.payload) ≡ Ok exchange.client_ephemeral
   pub rose : p.rises.agreement
-  pub only : p.obliging → (local : List ℕ) → p.client_makes n.kex (group_of exchange.gex) local exchange.client_ephemeral → ⊥
+  pub only : p.obliging (group_of exchange.gex) → (local : List ℕ) → p.client_makes n.kex (group_of exchange.gex) local exchange.client_ephemeral → ⊥
 
 pub record DeniesReply (p : PartsDo) (v : Seen) (items : List Item) (i : Item) (n : Names) : Type 0 where
   pub front : ReplyFront
@@ -254,11 +254,12 @@ pub record DeniesReply (p : PartsDo) (v : Seen) (items : List Item) (i : Item) (
   pub speaks : Speaks v items exchange host signature
   pub value_is : exchange.server_ephemeral ≡ front.value
   pub rose : p.rises.agreement
-  pub only : p.obliging → p.server_makes n.kex (group_of exchange.gex) front.value → ⊥
+  pub only : p.obliging (group_of exchange.gex) → p.server_makes n.kex (group_of exchange.gex) exchange.client_ephemeral front.value
+      → ⊥
 
 abbrev pub PartDeniesNow : PartsDo → Seen → List Item → Item → Due → Type 0
-PartDeniesNow p v items i KexinitDue = (n : Names) × KexinitReads v items i (Ok n) × (is_gex n.kex ≡ false) × DeniesStart p v.side
-PartDeniesNow p v items i GroupDue = (g : DhGroup) × (group_in (fields i.payload) ≡ Ok g) × IsInside v.config.gex g × DeniesStart p v.side
+PartDeniesNow p v items i KexinitDue = (n : Names) × KexinitReads v items i (Ok n) × (is_gex n.kex ≡ false) × DeniesStart p v.side None
+PartDeniesNow p v items i GroupDue = (g : DhGroup) × (group_in (fields i.payload) ≡ Ok g) × IsInside v.config.gex g × DeniesStart p v.side (Some g)
 PartDeniesNow p v items i RequestDue = (sizes : GexParams) × (sizes_in (fields i.payload) ≡ Ok sizes) × p.rises.lookup × (p.obliging_lookup → ⊥)
 PartDeniesNow p v items i ValueDue = (n : Names) × (names_by v items ≡ Some n) × DeniesValue p v items i n
 PartDeniesNow p v items i ReplyDue = (n : Names) × (names_by v items ≡ Some n) × DeniesReply p v items i n

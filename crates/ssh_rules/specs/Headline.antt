@@ -111,7 +111,7 @@ pub record IsMadeOf (client_makes : ClientPairs) (server_makes : ServerValues) (
   pub secret : List ℕ
   pub local : List ℕ
   pub by_client : client_makes x.names.kex (group_of exchange.gex) local exchange.client_ephemeral
-  pub by_server : server_makes x.names.kex (group_of exchange.gex) exchange.server_ephemeral
+  pub by_server : server_makes x.names.kex (group_of exchange.gex) exchange.client_ephemeral exchange.server_ephemeral
   pub agree : agrees x.names.kex (group_of exchange.gex) exchange.client_ephemeral exchange.server_ephemeral secret
   pub hash : x.hash ≡ exchange_hash x.names.kex exchange host (Some secret)
   pub session : x.session_id ≡ first_hash before x.hash

@@ -17,7 +17,7 @@ use Rattle.ssh_rules.specs.Made.{MadeClient, MadeServer}
 -- what both sides made leaves one secret
 abbrev pub OneSecret : Says → Says → Type 0
 OneSecret c s = (name : kexes.Name) (group : Option DhGroup) (local client server x y : List ℕ)
-    → c.client_makes name group local client → s.server_makes name group server → c.agrees name group client server x
+    → c.client_makes name group local client → s.server_makes name group client server → c.agrees name group client server x
     → s.agrees name group client server y → x ≡ y
 
 -- a group that is found is written without leading zeros

@@ -1,5 +1,5 @@
 -- The causes of what a link refuses, by what the handed-in parts of both sides are.
-use Rattle.std.specs.Prelude.{◌≡◌, ◌⊎◌, ◌++◌, ℕ, Bool, true, false, List, Ok, Err, None}
+use Rattle.std.specs.Prelude.{◌≡◌, ◌⊎◌, ◌++◌, ℕ, Bool, true, false, List, Ok, Err, Option, None}
 use Rattle.ssh_wire.specs.Lines.{id_line}
 use Rattle.ssh_wire.specs.Outside.{Rose}
 use Rattle.ssh_wire.specs.Sides.{other_side}
@@ -21,7 +21,7 @@ use Rattle.ssh_kex.specs.declared.group.DhGroup.{DhGroup}
 use Rattle.ssh_kex.specs.declared.group.GexParams.{GexParams}
 use Rattle.ssh_rules.specs.Headline.{chosen_by, kind_by}
 use Rattle.ssh_rules.specs.Machine.{Event}
-use Rattle.ssh_rules.specs.Refused.{AreValid, one_of}
+use Rattle.ssh_rules.specs.Refused.{AreValid, group_due, one_of}
 use Rattle.ssh_rules.specs.RefusedTurn.{RefusesInLink}
 use Rattle.ssh_rules.specs.Refusing.{RefusesPiece}
 use Rattle.ssh_rules.specs.RunLaws.{config_of, says_by}
@@ -50,15 +50,19 @@ rises_of refusals refused_sign refused_verify refused_check refused_lookup a a' 
   checking = Rose (refused_check h) (refused_check h');
 }
 
--- And which rose of parts that don't oblige between these states, under both configurations. That a client's host keys
--- refuse a signature may lie with the server's, which are `signer`.
-abbrev pub unobliged_of : {A H G : Type 0} (obliging : A → A → Setup → Type 0) (refusals : A → ℕ)
+-- And which rose of parts that don't oblige between these states, under both configurations: an agreement in the group
+-- that is due, a lookup where both configurations give a group exchange. That a client's host keys refuse a signature may lie with the server's, which are `signer`. The server's
+-- lookup is `finder`.
+abbrev pub unobliged_of : {A H G : Type 0} (obliging : A → A → Setup → Option DhGroup → Type 0) (refusals : A → ℕ)
     (signs judges : H → H → Setup → Type 0) (refused_sign refused_verify refused_check : H → ℕ)
-    (obliging_groups : G → G → Setup → Type 0) (refused_lookup : G → ℕ) → Setup → H → A → A → H → H → G → G → Rises
-unobliged_of {A} {H} {G} obliging refusals signs judges refused_sign refused_verify refused_check obliging_groups
-    refused_lookup setup signer a a' h h' g g' = record {
-      agreement = Rose (refusals a) (refusals a') × (obliging a a' setup → ⊥);
-      lookup = Rose (refused_lookup g) (refused_lookup g') × (obliging_groups g g' setup → ⊥);
+    (obliging_groups : G → G → Setup → Type 0) (group : G → GexParams → DhGroup) (refused_lookup : G → ℕ)
+    → Setup → H → G → A → A → H → H → G → G → Rises
+unobliged_of {A} {H} {G} obliging refusals signs judges refused_sign refused_verify refused_check obliging_groups group
+    refused_lookup setup signer finder a a' h h' g g' = record {
+      agreement = Rose (refusals a) (refusals a')
+          × (obliging a a' setup (group_due setup (group finder setup.client.gex)) → ⊥);
+      lookup = Rose (refused_lookup g) (refused_lookup g') × (kind_by (chosen_by setup.client setup.server) ≡ true)
+          × (obliging_groups g g' setup → ⊥);
       signing = Rose (refused_sign h) (refused_sign h') × (signs h h' setup → ⊥);
       verifying = Rose (refused_verify h) (refused_verify h')
           × ((later : H) → judges h h' setup → signs signer later setup → ⊥);
@@ -167,7 +171,7 @@ AnyRefusals {A} {H} {G} says denies untrusted rises =
 abbrev pub RefusalsHaveCauses : {A H G : Type 0} → (A → Setup → Type 0) → (H → Setup → Type 0) → (G → Setup → Type 0)
     → (A → KexName → Bool) → (A → A → Type 0) → (G → GexParams → DhGroup) → (Config → A → H → G → Says)
     → (A → A → H → H → G → G → Denies) → (H → H → ServerHost → Type 0)
-    → (Setup → H → A → A → H → H → G → G → Rises) → Type 0
+    → (Setup → H → G → A → A → H → H → G → G → Rises) → Type 0
 RefusalsHaveCauses {A} {H} {G} lawful lawful_hosts lawful_groups offered keeps group says denies untrusted unobliged =
     (setup : Setup) (a b : A) (h i : H) (g j : G) (w : World) (cl sl : List Event) (side : Side) (took piece : List ℕ)
     (old new : Standing) (v v' : A) (x x' : H) (y y' : G) (error : Error)
@@ -176,20 +180,21 @@ RefusalsHaveCauses {A} {H} {G} lawful lawful_hosts lawful_groups offered keeps g
     → ((s : Side) → config_fault s (config_of setup s) ≡ None) → ((s : Side) → HasSizes (config_of setup s))
     → RefusesInLink (talkers (says_by says setup a b h i g j) (config_of setup)) (denies v v' x x' y y') (untrusted x x')
     w cl sl side took piece old error new
-    → IsCauseOf (unobliged setup i v v' x x' y y') side (config_of setup) (offered (one_of side a b))
+    → IsCauseOf (unobliged setup i j v v' x x' y y') side (config_of setup) (offered (one_of side a b))
     (group j setup.client.gex) error
 
 -- Where they are obliging, from the start to the answer, the configurations valid, and the chosen key exchange offered
 -- by the side's agreement, memory was wanting. The parts that are asked are those at the start, after some calls.
-abbrev pub NoneRefusedInLink : {A H G : Type 0} → (A → A → Setup → Type 0) → (signs judges : H → H → Setup → Type 0)
-    → (G → G → Setup → Type 0)
+abbrev pub NoneRefusedInLink : {A H G : Type 0} → (A → A → Setup → Option DhGroup → Type 0)
+    → (signs judges : H → H → Setup → Type 0) → (G → G → Setup → Type 0) → (G → GexParams → DhGroup)
     → (A → KexName → Bool) → (A → A → Type 0) → (H → H → Type 0) → (G → G → Type 0) → (Config → A → H → G → Says)
     → (A → A → H → H → G → G → Denies) → (H → H → ServerHost → Type 0) → Type 0
-NoneRefusedInLink {A} {H} {G} obliging signs judges obliging_groups offered keeps keeps_hosts keeps_groups says denies
-    untrusted =
+NoneRefusedInLink {A} {H} {G} obliging signs judges obliging_groups group offered keeps keeps_hosts keeps_groups says
+    denies untrusted =
     (setup : Setup) (a a' b b' : A) (h h' i i' : H) (g g' j j' : G) (names : Names) (w : World) (cl sl : List Event)
     (side : Side) (took piece : List ℕ) (old new : Standing) (v : A) (x : H) (y : G) (error : Error)
-    → obliging a a' setup → obliging b b' setup → judges h h' setup → signs i i' setup
+    → obliging a a' setup (group_due setup (group j setup.client.gex))
+    → obliging b b' setup (group_due setup (group j setup.client.gex)) → judges h h' setup → signs i i' setup
     → obliging_groups j j' setup
     → AreValid setup names → offered (one_of side a b) names.kex ≡ true
     → keeps (one_of side a b) v → keeps_hosts (one_of side h i) x → keeps_groups (one_of side g j) y

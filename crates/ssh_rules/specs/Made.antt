@@ -81,7 +81,7 @@ pub record MadeServer (says : Says) (s : Setting) (own theirs : List (List ℕ))
   pub offered : says.offers names.kex
   pub kind : is_gex names.kex ≡ is_some e.gex
   pub finds : IfSome e.gex (λ (g : GexChosen). says.finds g.params g.group)
-  pub makes : says.server_makes names.kex (group_of e.gex) e.server_ephemeral
+  pub makes : says.server_makes names.kex (group_of e.gex) e.client_ephemeral e.server_ephemeral
   pub secret : List ℕ
   pub agrees : says.agrees names.kex (group_of e.gex) e.client_ephemeral e.server_ephemeral secret
   pub presents : presented s.config.host names.host_key_is_certificate names.key ≡ Some shown

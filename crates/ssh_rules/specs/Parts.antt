@@ -10,7 +10,7 @@ ClientPairs = KexName → Option DhGroup → List ℕ → List ℕ → Type 0
 
 -- that a value is one of a server
 abbrev pub ServerValues : Type 1
-ServerValues = KexName → Option DhGroup → List ℕ → Type 0
+ServerValues = KexName → Option DhGroup → List ℕ → List ℕ → Type 0
 
 -- that a client's value and a server's agree on a secret
 abbrev pub Secrets : Type 1

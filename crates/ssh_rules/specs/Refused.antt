@@ -1,5 +1,5 @@
 -- What a link refuses of the messages of its exchanges, by what the handed-in parts of both sides are.
-use Rattle.std.specs.Prelude.{◌≡◌, ◌⊎◌, ℕ, true, Bool, List, [], Some, None, Ok}
+use Rattle.std.specs.Prelude.{◌≡◌, ◌⊎◌, ℕ, true, Bool, if◌then◌else◌, List, [], Option, Some, None, Ok}
 use Rattle.ssh_packet.specs.Front.{Whole, front_of}
 use Rattle.ssh_packet.specs.Sealing.{Item, next_number}
 use Rattle.ssh_wire.specs.Lines.{id_text}
@@ -18,7 +18,9 @@ use Rattle.ssh_kex.specs.declared.config.Config.{Config}
 use Rattle.ssh_kex.specs.declared.exchange.Exchange.{Exchange}
 use Rattle.ssh_kex.specs.declared.exchange.FinishedExchange.{FinishedExchange}
 use Rattle.ssh_kex.specs.declared.exchange.ServerHost.{ServerHost}
-use Rattle.ssh_rules.specs.Headline.{chosen_by}
+use Rattle.ssh_kex.specs.declared.group.DhGroup.{DhGroup}
+use Rattle.ssh_kex.specs.declared.group.GexParams.{GexParams}
+use Rattle.ssh_rules.specs.Headline.{chosen_by, kind_by}
 use Rattle.ssh_rules.specs.Machine.{Event, Inside, Outside, Where, setting}
 use Rattle.ssh_rules.specs.MessageTypes.{is_kex_type, type_of}
 use Rattle.ssh_rules.specs.RunLaws.{config_of, says_by}
@@ -86,6 +88,11 @@ pub record AreValid (setup : Setup) (names : Names) : Type 0 where
   pub sizes : (side : Side) → HasSizes (config_of setup side)
   pub chosen : chosen_by setup.client setup.server ≡ Ok names
 
+-- The group that the exchanges of a link are in: where both configurations give a group exchange, this one, which the
+-- server's lookup finds for the client's sizes.
+abbrev pub group_due : Setup → DhGroup → Option DhGroup
+group_due setup found = if kind_by (chosen_by setup.client setup.server) then Some found else None
+
 -- Where the parts of both sides are lawful, what they decide is all that is refused of an honest peer's message, and
 -- want of memory: nothing is too long, badly encoded, out of place or without a name in common.
 abbrev pub PartsRefuseAlone : {A H G : Type 0} → (A → Setup → Type 0) → (H → Setup → Type 0) → (G → Setup → Type 0)
@@ -102,17 +109,19 @@ PartsRefuseAlone {A} {H} {G} lawful lawful_hosts lawful_groups says denies =
     (setting side (config_of setup side) (id_text (config_of setup side).id) (one_of side w.client w.server).state)
     stage (next_number (one_of side w.client w.server).state.reading.number) item.payload error
 
--- Where the parts of both sides are obliging, from the start to the answer, which of host keys means that a client's
--- judge and a server's sign, and the reader's agreement offers the chosen name, nothing of an honest peer's message is
--- refused but for want of memory. The parts that are asked are those at the start, after some calls.
-abbrev pub NothingRefused : {A H G : Type 0} → (A → A → Setup → Type 0) → (signs judges : H → H → Setup → Type 0)
-    → (G → G → Setup → Type 0)
+-- Where the parts of both sides are obliging, from the start to the answer, agreements in the group that is due, which
+-- of host keys means that a client's judge and a server's sign, and the reader's agreement offers the chosen name,
+-- nothing of an honest peer's message is refused but for want of memory. The parts that are asked are those at the start, after some calls.
+abbrev pub NothingRefused : {A H G : Type 0} → (A → A → Setup → Option DhGroup → Type 0)
+    → (signs judges : H → H → Setup → Type 0) → (G → G → Setup → Type 0) → (G → GexParams → DhGroup)
     → (A → KexName → Bool) → (A → A → Type 0) → (H → H → Type 0) → (G → G → Type 0)
     → (Config → A → H → G → Says) → (A → A → H → H → G → G → Denies) → Type 0
-NothingRefused {A} {H} {G} obliging signs judges obliging_groups offered keeps keeps_hosts keeps_groups says denies =
+NothingRefused {A} {H} {G} obliging signs judges obliging_groups group offered keeps keeps_hosts keeps_groups says
+    denies =
     (setup : Setup) (a a' b b' : A) (h h' i i' : H) (g g' j j' : G) (names : Names) (w : World) (cl sl : List Event)
     (side : Side) (stage : Stage) (item : Item) (v : A) (x : H) (y : G) (error : Error)
-    → obliging a a' setup → obliging b b' setup → judges h h' setup → signs i i' setup
+    → obliging a a' setup (group_due setup (group j setup.client.gex))
+    → obliging b b' setup (group_due setup (group j setup.client.gex)) → judges h h' setup → signs i i' setup
     → obliging_groups j j' setup
     → AreValid setup names → offered (one_of side a b) names.kex ≡ true
     → keeps (one_of side a b) v → keeps_hosts (one_of side h i) x → keeps_groups (one_of side g j) y

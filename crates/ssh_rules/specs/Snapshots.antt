@@ -282,8 +282,8 @@ pub record TellsParts (client server : Says) (client_makes : ClientPairs) (serve
     (agrees : Secrets) : Type 0 where
   pub for_client : (name : KexName) (group : Option DhGroup) (local public : List ℕ)
       → client.client_makes name group local public → client_makes name group local public
-  pub for_server : (name : KexName) (group : Option DhGroup) (public : List ℕ) → server.server_makes name group public
-      → server_makes name group public
+  pub for_server : (name : KexName) (group : Option DhGroup) (client public : List ℕ)
+      → server.server_makes name group client public → server_makes name group client public
   pub for_secret : (name : KexName) (group : Option DhGroup) (c s secret : List ℕ)
       → client.agrees name group c s secret → agrees name group c s secret
 

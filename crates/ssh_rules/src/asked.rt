@@ -32,6 +32,6 @@ impl<A: Agreement, H: HostKeys, G: GroupLookup, R> Asked for Parts<A, H, G, R> {
         p.agreement q.agreement p.hosts q.hosts p.groups q.groups };
 
     ghost unobliged = { λ setup server p q. unobliged_of A.obliging A.refusals H.signs H.judges H.refused_sign
-        H.refused_verify H.refused_check G.obliging G.refusals setup server.hosts
+        H.refused_verify H.refused_check G.obliging G.group G.refusals setup server.hosts server.groups
         p.agreement q.agreement p.hosts q.hosts p.groups q.groups };
 }

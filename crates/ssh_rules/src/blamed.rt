@@ -22,9 +22,9 @@ pub trait Blamed {
     ghost rises: { Self.Agrees → Self.Agrees → Self.Hosts → Self.Hosts → Self.Groups → Self.Groups → Rises };
 
     // And which rose of parts that don't oblige between these states, under both configurations, beside the server's
-    // host keys.
-    ghost unobliged: { Setup → Self.Hosts → Self.Agrees → Self.Agrees → Self.Hosts → Self.Hosts → Self.Groups
-        → Self.Groups → Rises };
+    // host keys and its lookup.
+    ghost unobliged: { Setup → Self.Hosts → Self.Groups → Self.Agrees → Self.Agrees → Self.Hosts → Self.Hosts
+        → Self.Groups → Self.Groups → Rises };
 }
 
 impl<A: Agreement, H: HostKeys, G: GroupLookup> Blamed for (A, H, G) {
@@ -39,5 +39,5 @@ impl<A: Agreement, H: HostKeys, G: GroupLookup> Blamed for (A, H, G) {
     ghost rises = { rises_of A.refusals H.refused_sign H.refused_verify H.refused_check G.refusals };
 
     ghost unobliged = { unobliged_of A.obliging A.refusals H.signs H.judges H.refused_sign H.refused_verify
-        H.refused_check G.obliging G.refusals };
+        H.refused_check G.obliging G.group G.refusals };
 }

@@ -67,7 +67,7 @@ pub fn parts_refuse_alone<A: Agreement, H: HostKeys, G: GroupLookup>()
 
 /// Where they are obliging, and offer the name that is chosen, nothing is refused of it but for want of memory.
 pub fn nothing_refused<A: Agreement, H: HostKeys, G: GroupLookup>()
-    ensures { NothingRefused A.obliging H.signs H.judges G.obliging A.offered ⟦<(A, H, G) as Spoken>⟧.agreement_keeps
+    ensures { NothingRefused A.obliging H.signs H.judges G.obliging G.group A.offered ⟦<(A, H, G) as Spoken>⟧.agreement_keeps
         ⟦<(A, H, G) as Spoken>⟧.hosts_keep ⟦<(A, H, G) as Spoken>⟧.groups_keep ⟦<(A, H, G) as Spoken>⟧.says
         ⟦<(A, H, G) as Spoken>⟧.denies }
 {}
@@ -97,7 +97,7 @@ pub fn refusals_have_causes<A: Agreement, H: HostKeys, G: GroupLookup>()
 /// Where they are obliging, the configurations valid and the chosen key exchange offered, nothing of it is refused but
 /// for want of memory.
 pub fn none_refused_in_link<A: Agreement, H: HostKeys, G: GroupLookup>()
-    ensures { NoneRefusedInLink A.obliging H.signs H.judges G.obliging A.offered ⟦<(A, H, G) as Spoken>⟧.agreement_keeps
+    ensures { NoneRefusedInLink A.obliging H.signs H.judges G.obliging G.group A.offered ⟦<(A, H, G) as Spoken>⟧.agreement_keeps
         ⟦<(A, H, G) as Spoken>⟧.hosts_keep ⟦<(A, H, G) as Spoken>⟧.groups_keep ⟦<(A, H, G) as Spoken>⟧.says
         ⟦<(A, H, G) as Spoken>⟧.denies ⟦<(A, H, G) as Blamed>⟧.distrusts }
 {}

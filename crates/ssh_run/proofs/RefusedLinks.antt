@@ -20,6 +20,7 @@ use Rattle.ssh_rules.specs.RunLaws.{config_of}
 use Rattle.ssh_kex.specs.declared.config.Config.{Config}
 use Rattle.ssh_kex.specs.declared.group.DhGroup.{DhGroup}
 use Rattle.ssh_rules.specs.Headline.{bound_of, chosen_by, kind_by}
+use Rattle.ssh_rules.specs.Refused.{group_due}
 use Rattle.ssh_rules.specs.LinkCauses.{RefusesPlayed, Rises, unobliged_of}
 use Rattle.ssh_rules.specs.Machine.{Event}
 use Rattle.ssh_rules.specs.RefusedTurn.{RefusesInLink}
@@ -308,7 +309,7 @@ abbrev pub tells_by : Telling → Telling → Side → Telling
 tells_by client server Client = client
 tells_by client server Server = server
 
-pub lawful_causes : {A H G : Type 0} (lawful : A → Setup → Type 0) (obliging : A → A → Setup → Type 0) (offered : A → KexName → Bool) (client_makes : KexName → Option DhGroup → List ℕ → List ℕ → Type 0) (server_makes : KexName → Option DhGroup → List ℕ → Type 0) (agrees : KexName → Option DhGroup → List ℕ → List ℕ → List ℕ → Type 0) (refusals : A → ℕ)
+pub lawful_causes : {A H G : Type 0} (lawful : A → Setup → Type 0) (obliging : A → A → Setup → Option DhGroup → Type 0) (offered : A → KexName → Bool) (client_makes : KexName → Option DhGroup → List ℕ → List ℕ → Type 0) (server_makes : KexName → Option DhGroup → List ℕ → List ℕ → Type 0) (agrees : KexName → Option DhGroup → List ℕ → List ℕ → List ℕ → Type 0) (refusals : A → ℕ)
     (lawful_hosts : H → Setup → Type 0) (signs judges : H → H → Setup → Type 0) (accepts : H → ServerHost → List ℕ → List ℕ → Bool) (trusts : H → ServerHost → Bool) (makes : Config → ServerHost → List ℕ → List ℕ → Type 0) (refused_sign refused_verify refused_check : H → ℕ)
     (lawful_groups : G → Setup → Type 0) (obliging_groups : G → G → Setup → Type 0) (group : G → GexParams → DhGroup) (refused_lookup : G → ℕ)
     → PartLaws lawful obliging signs judges accepts trusts makes lawful_groups obliging_groups group
@@ -318,12 +319,12 @@ pub lawful_causes : {A H G : Type 0} (lawful : A → Setup → Type 0) (obliging
     → (side : Side) → Causes (says_in (tells_by (telling_of lawful obliging offered client_makes server_makes agrees refusals lawful_hosts signs judges accepts trusts makes refused_sign refused_verify refused_check lawful_groups obliging_groups group refused_lookup t.client a a' h h' g g') (telling_of lawful obliging offered client_makes server_makes agrees refusals lawful_hosts signs judges accepts trusts makes refused_sign refused_verify refused_check lawful_groups obliging_groups group refused_lookup t.server b b' i i' j j'))) (config_of t) side
     (tells_by (telling_of lawful obliging offered client_makes server_makes agrees refusals lawful_hosts signs judges accepts trusts makes refused_sign refused_verify refused_check lawful_groups obliging_groups group refused_lookup t.client a a' h h' g g') (telling_of lawful obliging offered client_makes server_makes agrees refusals lawful_hosts signs judges accepts trusts makes refused_sign refused_verify refused_check lawful_groups obliging_groups group refused_lookup t.server b b' i i' j j') side).denies
     (tells_by (telling_of lawful obliging offered client_makes server_makes agrees refusals lawful_hosts signs judges accepts trusts makes refused_sign refused_verify refused_check lawful_groups obliging_groups group refused_lookup t.client a a' h h' g g') (telling_of lawful obliging offered client_makes server_makes agrees refusals lawful_hosts signs judges accepts trusts makes refused_sign refused_verify refused_check lawful_groups obliging_groups group refused_lookup t.server b b' i i' j j') side).untrusted
-    (rises_by (unobliged_of obliging refusals signs judges refused_sign refused_verify refused_check obliging_groups refused_lookup t i a a' h h' g g') (unobliged_of obliging refusals signs judges refused_sign refused_verify refused_check obliging_groups refused_lookup t i b b' i i' j j') side) (offered_on (offered a) (offered b) side) (group j t.client.gex)
+    (rises_by (unobliged_of obliging refusals signs judges refused_sign refused_verify refused_check obliging_groups group refused_lookup t i j a a' h h' g g') (unobliged_of obliging refusals signs judges refused_sign refused_verify refused_check obliging_groups group refused_lookup t i j b b' i i' j j') side) (offered_on (offered a) (offered b) side) (group j t.client.gex)
 lawful_causes lawful obliging offered cm sm ag refusals lh sg jd accepts trusts makes rs rv rc lg og group rl laws small t a a' b b' h h' i i' g g' j j' la lb lhh li lj m Client = record {
   lawful = m;
   small = small_of lawful offered cm sm ag lh sg jd accepts trusts makes lg group small t a b h i g j Client la lb lhh li lj;
-  owes = λ kex. (
-      let d = owes_of lawful obliging offered cm sm ag refusals lh sg jd accepts trusts makes rs rv rc lg og group rl laws t a b h i g j kex Client a a' h h' g g' la lb refl in
+  owes = λ kex kind. (
+      let d = owes_of lawful obliging offered cm sm ag refusals lh sg jd accepts trusts makes rs rv rc lg og group rl laws t a b h i g j kex Client a a' h h' g g' la lb lj kind refl in
       record { start = d.start; value = d.value; reply = d.reply; lookup = d.lookup; sign = d.sign; verify = d.verify });
   checks = λ host key e p d. (d.0, λ o. d.1 t o (laws.trusted h h' t host key o p));
   offers = λ name o. o;
@@ -332,8 +333,8 @@ lawful_causes lawful obliging offered cm sm ag refusals lh sg jd accepts trusts 
 lawful_causes lawful obliging offered cm sm ag refusals lh sg jd accepts trusts makes rs rv rc lg og group rl laws small t a a' b b' h h' i i' g g' j j' la lb lhh li lj m Server = record {
   lawful = m;
   small = small_of lawful offered cm sm ag lh sg jd accepts trusts makes lg group small t a b h i g j Server la lb lhh li lj;
-  owes = λ kex. (
-      let d = owes_of lawful obliging offered cm sm ag refusals lh sg jd accepts trusts makes rs rv rc lg og group rl laws t a b h i g j kex Server b b' i i' j j' la lb refl in
+  owes = λ kex kind. (
+      let d = owes_of lawful obliging offered cm sm ag refusals lh sg jd accepts trusts makes rs rv rc lg og group rl laws t a b h i g j kex Server b b' i i' j j' la lb lj kind refl in
       record { start = d.start; value = d.value; reply = d.reply; lookup = d.lookup; sign = d.sign; verify = d.verify });
   checks = λ host key e p d. (d.0, λ o. d.1 t o (laws.trusted i i' t host key o p));
   offers = λ name o. o;
@@ -342,24 +343,24 @@ lawful_causes lawful obliging offered cm sm ag refusals lh sg jd accepts trusts 
 
 -- Where both sides' parts oblige, the lookup at least where it is asked, their configurations pass, their agreements
 -- offer what is chosen, and each payload is good.
-pub obliging_complete : {A H G : Type 0} (lawful : A → Setup → Type 0) (obliging : A → A → Setup → Type 0) (offered : A → KexName → Bool) (client_makes : KexName → Option DhGroup → List ℕ → List ℕ → Type 0) (server_makes : KexName → Option DhGroup → List ℕ → Type 0) (agrees : KexName → Option DhGroup → List ℕ → List ℕ → List ℕ → Type 0) (refusals : A → ℕ)
+pub obliging_complete : {A H G : Type 0} (lawful : A → Setup → Type 0) (obliging : A → A → Setup → Option DhGroup → Type 0) (offered : A → KexName → Bool) (client_makes : KexName → Option DhGroup → List ℕ → List ℕ → Type 0) (server_makes : KexName → Option DhGroup → List ℕ → List ℕ → Type 0) (agrees : KexName → Option DhGroup → List ℕ → List ℕ → List ℕ → Type 0) (refusals : A → ℕ)
     (lawful_hosts : H → Setup → Type 0) (signs judges : H → H → Setup → Type 0) (accepts : H → ServerHost → List ℕ → List ℕ → Bool) (trusts : H → ServerHost → Bool) (makes : Config → ServerHost → List ℕ → List ℕ → Type 0) (refused_sign refused_verify refused_check : H → ℕ)
     (lawful_groups : G → Setup → Type 0) (obliging_groups : G → G → Setup → Type 0) (group : G → GexParams → DhGroup) (refused_lookup : G → ℕ)
-    → ((v : A) (s : Setup) (name : KexName) (group : Option DhGroup) (local client server x y : List ℕ) → lawful v s → client_makes name group local client → server_makes name group server → agrees name group client server x → agrees name group client server y → x ≡ y)
+    → ((v : A) (s : Setup) (name : KexName) (group : Option DhGroup) (local client server x y : List ℕ) → lawful v s → client_makes name group local client → server_makes name group client server → agrees name group client server x → agrees name group client server y → x ≡ y)
     → PartLaws lawful obliging signs judges accepts trusts makes lawful_groups obliging_groups group
     → ((v w : H) (s : Setup) → judges v w s → lawful_hosts v s) → ((v w : H) (s : Setup) → signs v w s → lawful_hosts v s)
     → ((v : G) (s : Setup) → lawful_groups v s → IsSmall (group v s.client.gex).prime × IsSmall (group v s.client.gex).generator)
-    → (t : Setup) (a a' b b' : A) (h h' i i' : H) (g g' j j' : G) (steps : List Step) (e : Error) → IsValidRun (config_of t) (offered_on (offered a) (offered b)) steps → ((side : Side) → HasSizes (config_of t side)) → obliging a a' t → obliging b b' t → judges h h' t → signs i i' t → lawful_groups j t → (kind_by (chosen_by t.client t.server) ≡ true → obliging_groups j j' t) → ((side : Side) → IsWholeId (config_of t side))
+    → (t : Setup) (a a' b b' : A) (h h' i i' : H) (g g' j j' : G) (steps : List Step) (e : Error) → IsValidRun (config_of t) (offered_on (offered a) (offered b)) steps → ((side : Side) → HasSizes (config_of t side)) → obliging a a' t (group_due t (group j t.client.gex)) → obliging b b' t (group_due t (group j t.client.gex)) → judges h h' t → signs i i' t → lawful_groups j t → (kind_by (chosen_by t.client t.server) ≡ true → obliging_groups j j' t) → ((side : Side) → IsWholeId (config_of t side))
     → RefusesLink (telling_of lawful obliging offered client_makes server_makes agrees refusals lawful_hosts signs judges accepts trusts makes refused_sign refused_verify refused_check lawful_groups obliging_groups group refused_lookup t.client a a' h h' g g') (telling_of lawful obliging offered client_makes server_makes agrees refusals lawful_hosts signs judges accepts trusts makes refused_sign refused_verify refused_check lawful_groups obliging_groups group refused_lookup t.server b b' i i' j j') t.client t.server steps e → e ≡ errors.Memory
 obliging_complete lawful obliging offered cm sm ag refusals lh sg jd accepts trusts makes rs rv rc lg og group rl one laws judging_lawful signing_lawful small_group t a a' b b' h h' i i' g g' j j' steps e v sizes oa ob jh si lj oj whole r = run_complete tell (config_of t) v.names steps e met duties small known whole v.good r where
   tell : Side → Telling
   tell = tells_by (telling_of lawful obliging offered cm sm ag refusals lh sg jd accepts trusts makes rs rv rc lg og group rl t.client a a' h h' g g') (telling_of lawful obliging offered cm sm ag refusals lh sg jd accepts trusts makes rs rv rc lg og group rl t.server b b' i i' j j')
 
   la : lawful a t
-  la = laws.agreement a a' t oa
+  la = laws.agreement a a' t _ oa
 
   lb : lawful b t
-  lb = laws.agreement b b' t ob
+  lb = laws.agreement b b' t _ ob
 
   looks : is_gex v.names.kex ≡ true → og j j' t
   looks k = oj (ap kind_by v.chosen ∙ k)
@@ -375,10 +376,10 @@ obliging_complete lawful obliging offered cm sm ag refusals lh sg jd accepts tru
 
   duties : (side : Side) → Duties (says_in tell) (config_of t) side v.names.kex (tell side).denies
   duties Client = (
-      let d = duties_of lawful obliging offered cm sm ag refusals refusals lh sg jd accepts trusts makes rs rv rc rs lg og group rl rl laws t a a' b b' h h' i i' g g' j j' v.names.kex Client a h g oa ob jh si lj looks (v.offers Client) (agreement_same lawful obliging offered refusals refusals a) (hosts_same lh sg jd accepts trusts rs rv rc rs h) (groups_same lg og group rl rl g) in
+      let d = duties_of lawful obliging offered cm sm ag refusals refusals lh sg jd accepts trusts makes rs rv rc rs lg og group rl rl laws t a a' b b' h h' i i' g g' j j' v.names.kex Client a h g oa ob jh si lj (ap kind_by v.chosen) looks (v.offers Client) (agreement_same lawful obliging offered refusals refusals a) (hosts_same lh sg jd accepts trusts rs rv rc rs h) (groups_same lg og group rl rl g) in
       record { offered = d.offered; owes = record { start = d.owes.start; value = d.owes.value; reply = d.owes.reply; lookup = d.owes.lookup; sign = d.owes.sign; verify = d.owes.verify }; fits = d.fits })
   duties Server = (
-      let d = duties_of lawful obliging offered cm sm ag refusals refusals lh sg jd accepts trusts makes rs rv rc rs lg og group rl rl laws t a a' b b' h h' i i' g g' j j' v.names.kex Server b i j oa ob jh si lj looks (v.offers Server) (agreement_same lawful obliging offered refusals refusals b) (hosts_same lh sg jd accepts trusts rs rv rc rs i) (groups_same lg og group rl rl j) in
+      let d = duties_of lawful obliging offered cm sm ag refusals refusals lh sg jd accepts trusts makes rs rv rc rs lg og group rl rl laws t a a' b b' h h' i i' g g' j j' v.names.kex Server b i j oa ob jh si lj (ap kind_by v.chosen) looks (v.offers Server) (agreement_same lawful obliging offered refusals refusals b) (hosts_same lh sg jd accepts trusts rs rv rc rs i) (groups_same lg og group rl rl j) in
       record { offered = d.offered; owes = record { start = d.owes.start; value = d.owes.value; reply = d.owes.reply; lookup = d.owes.lookup; sign = d.owes.sign; verify = d.owes.verify }; fits = d.fits })
 
   small : (side : Side) → AreSmall (says_in tell side) side (config_of t (other_side side)).gex

@@ -12,6 +12,7 @@ ghost use Rattle.ssh_run.specs.Carrying.{IsCarried, text_of_id};
 ghost use Rattle.ssh_run.specs.Reports.{IsWholeReport};
 ghost use Rattle.ssh_run.specs.RefusedCarrying.{RefusesLink};
 ghost use Rattle.ssh_run.specs.RunCauses.{IsAnyRunCause, IsRunCause, IsValidRun, all_submits_good, offered_on, rises_by};
+ghost use Rattle.ssh_rules.specs.Refused.{group_due};
 ghost use Rattle.ssh_rules.specs.RunLaws.{config_of};
 ghost use Rattle.ssh_wire.specs.declared.error.Error.TheVariants.{InvalidConfig, Memory};
 ghost use Rattle.ssh_wire.specs.declared.side.Side.TheVariants.{Client as client_side, Server as server_side};
@@ -84,7 +85,9 @@ pub fn run_link<A: Agreement, H: HostKeys, G: GroupLookup, R: Rng>(
     ensures complete { IsValidRun (config_of (between client.now server.now))
         (offered_on (A.offered client_parts.old.agreement) (A.offered server_parts.old.agreement)) steps.now
         → A.obliging client_parts.old.agreement client_parts.new.agreement (between client.now server.now)
+        (group_due (between client.now server.now) (G.group server_parts.old.groups client.now.gex))
         → A.obliging server_parts.old.agreement server_parts.new.agreement (between client.now server.now)
+        (group_due (between client.now server.now) (G.group server_parts.old.groups client.now.gex))
         → H.judges client_parts.old.hosts client_parts.new.hosts (between client.now server.now)
         → H.signs server_parts.old.hosts server_parts.new.hosts (between client.now server.now)
         → G.lawful server_parts.old.groups (between client.now server.now)

@@ -190,11 +190,11 @@ pub unsigned_it : (Signs : Setup → Type 0) (config : Config) (n : Names) (p : 
 unsigned_it Signs config n p never shown s e o =
     never s (host_with n p.blob) o (record { shown = ap (λ (z : Config). presented z.host n.host_key_is_certificate n.key) e ∙ sym shown; same = refl })
 
-pub value_done : (Made : List ℕ → List ℕ → Type 0) (Makes : List ℕ → Type 0) (Agrees : List ℕ → List ℕ → List ℕ → Type 0) (Signs : ServerHost → List ℕ → List ℕ → Type 0) (config : Config) (cause : KexCause) (n : Names) (x y : Exchange) (payload : List ℕ) (old new : Writer) (f : FinishedExchange × Box CipherPair)
+pub value_done : (Made Makes : List ℕ → List ℕ → Type 0) (Agrees : List ℕ → List ℕ → List ℕ → Type 0) (Signs : ServerHost → List ℕ → List ℕ → Type 0) (config : Config) (cause : KexCause) (n : Names) (x y : Exchange) (payload : List ℕ) (old new : Writer) (f : FinishedExchange × Box CipherPair)
     (k : Agreeing) (p : Presented) (value copy host hash signature shown own sent reply : List ℕ) (gex : Bool)
     → gex ≡ is_gex n.kex → payload ≡ value_message gex value → length value < 2 ^ 31 → CanAnswer config n x
     → AgreesOn Made n.kex (record x { client_ephemeral = copy }) y k → copy ≡ value
-    → ((v w : List ℕ) → Made v w → Makes v) → ((v w : List ℕ) → Made v w → Agrees copy v w)
+    → ((v w : List ℕ) → Made v w → Makes copy v) → ((v w : List ℕ) → Made v w → Agrees copy v w)
     → Some p ≡ presented config.host n.host_key_is_certificate n.key
     → host ≡ p.blob → hash ≡ exchange_hash k.name y host k.secret → length signature < 2 ^ 31 → Signs (host_with n p.blob) hash (judged signature)
     → f.0 ≡ kept_of cause n k.secret hash → HasKeys Server f.0 f.1
@@ -237,18 +237,18 @@ pub sign_refused : (Denied : List ℕ → Type 0) (Unsigned : Type 0) (Long : �
 sign_refused Denied Unsigned Long n payload value gex g is read u =
     inr (value_typed (is_gex n.kex) payload value (is ∙ ap (λ b. value_message b value) g), inr (inl ((value, read), u, refl)))
 
-pub reply_refused : (Made : List ℕ → List ℕ → Type 0) (Denied : List ℕ → Type 0) (Unsigned : Type 0) (Makes ValueSmall SignatureSmall : List ℕ → Type 0) (config : Config) (n : Names) (x y : Exchange) (payload : List ℕ) (e : Error) (k : Agreeing) (p : Presented) (value signature shown own sent reply : List ℕ) (gex : Bool)
-    → gex ≡ is_gex n.kex → payload ≡ value_message gex value → value_in (drop 1 payload) ≡ Ok value
-    → AgreesOn Made n.kex x y k → ((v w : List ℕ) → Made v w → Makes v) → ((v w : List ℕ) → Made v w → ValueSmall v) → SignatureSmall signature
+pub reply_refused : (Made : List ℕ → List ℕ → Type 0) (Denied : List ℕ → Type 0) (Unsigned : Type 0) (Makes : List ℕ → List ℕ → Type 0) (ValueSmall SignatureSmall : List ℕ → Type 0) (config : Config) (n : Names) (x y : Exchange) (payload : List ℕ) (e : Error) (k : Agreeing) (p : Presented) (value copy signature shown own sent reply : List ℕ) (gex : Bool)
+    → gex ≡ is_gex n.kex → payload ≡ value_message gex value → value_in (drop 1 payload) ≡ Ok value → copy ≡ value
+    → AgreesOn Made n.kex x y k → ((v w : List ℕ) → Made v w → Makes copy v) → ((v w : List ℕ) → Made v w → ValueSmall v) → SignatureSmall signature
     → Some p ≡ presented config.host n.host_key_is_certificate n.key
     → shown ≡ p.blob → own ≡ y.server_ephemeral → sent ≡ signature → reply ≡ reply_message gex shown own sent → IsSizeOrMemory (length reply) e
     → ServerRefusesValue (is_gex n.kex) Denied Unsigned (IsLongAnswer Makes ValueSmall SignatureSmall config n payload) payload e
-reply_refused Made Denied Unsigned Makes ValueSmall SignatureSmall config n x y payload e k p value signature shown own sent reply gex g is read a makes small signed presents shown_is own_is sent_is reply_is cause =
+reply_refused Made Denied Unsigned Makes ValueSmall SignatureSmall config n x y payload e k p value copy signature shown own sent reply gex g is read copied a makes small signed presents shown_is own_is sent_is reply_is cause =
     inr (value_typed (is_gex n.kex) payload value (is ∙ ap (λ b. value_message b value) g), by cause)
   where
     by : IsSizeOrMemory (length reply) e → RefusesAnswer Denied Unsigned (IsLongAnswer Makes ValueSmall SignatureSmall config n payload) payload e
     by (inl h) =
         let own_value : own ≡ a.value = own_is ∙ ap (λ (z : Exchange). z.server_ephemeral) a.exchange_is in
         let replied : reply ≡ reply_message (is_gex n.kex) p.blob a.value signature = reply_is ∙ ap (λ b. reply_message b shown own sent) g ∙ ap (λ b. reply_message (is_gex n.kex) b own sent) shown_is ∙ ap (λ b. reply_message (is_gex n.kex) p.blob b sent) own_value ∙ ap (λ b. reply_message (is_gex n.kex) p.blob a.value b) sent_is in
-        inr (inr (inl (length reply, h.0, record { value = value; own_value = a.value; shown = p; signature = signature; read = read; presents = sym presents; makes = makes a.value a.secret a.made; value_small = small a.value a.secret a.made; signature_small = signed; size_is = ap length replied }, h.1)))
+        inr (inr (inl (length reply, h.0, record { value = value; own_value = a.value; shown = p; signature = signature; read = read; presents = sym presents; makes = subst (λ v. Makes v a.value) copied (makes a.value a.secret a.made); value_small = small a.value a.secret a.made; signature_small = signed; size_is = ap length replied }, h.1)))
     by (inr h) = inr (inr (inr h))

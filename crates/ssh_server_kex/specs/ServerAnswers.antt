@@ -46,7 +46,7 @@ pub record AnswersSizes (Finds : GexParams → DhGroup
   pub done : p ≡ NeedsReply (server_machine config cause (record x { gex = Some gex }) (states.AwaitsValue n)) false
 
 -- a client's value
-pub record AnswersClient (Makes : List ℕ → Type 0) (Agrees : List ℕ → List ℕ → List ℕ → Type 0) (Signs : ServerHost
+pub record AnswersClient (Makes : List ℕ → List ℕ → Type 0) (Agrees : List ℕ → List ℕ → List ℕ → Type 0) (Signs : ServerHost
     → List ℕ → List ℕ
     → Type 0) (config : Config) (cause : KexCause) (x : Exchange) (n : Names) (payload : List ℕ) (p : KexProgress Machine) (w w' : Writer) : Type 0 where
   pub exchange : Exchange

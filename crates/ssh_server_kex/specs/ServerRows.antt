@@ -99,7 +99,7 @@ pub record AgreesOn (Made : List ℕ → List ℕ → Type 0) (name : kexes.Name
   pub exchange_is : y ≡ record x { server_ephemeral = value }
 
 -- the value, what was agreed on and signed, and what was written
-pub record AnswersValue (Makes : List ℕ → Type 0) (Agrees : List ℕ → List ℕ → List ℕ → Type 0) (Signs : ServerHost
+pub record AnswersValue (Makes : List ℕ → List ℕ → Type 0) (Agrees : List ℕ → List ℕ → List ℕ → Type 0) (Signs : ServerHost
     → List ℕ → List ℕ → Type 0) (config : Config) (cause : KexCause) (n : Names) (x y : Exchange) (payload : List ℕ) (old new : Writer) (made : FinishedExchange × Box CipherPair) : Type 0 where
   pub value : List ℕ
   pub own_value : List ℕ
@@ -112,7 +112,7 @@ pub record AnswersValue (Makes : List ℕ → Type 0) (Agrees : List ℕ → Lis
   pub host_short : length shown.blob < 2 ^ 31
   pub signature_short : length signature < 2 ^ 31
   pub agrees : Agrees value own_value secret
-  pub makes : Makes own_value
+  pub makes : Makes value own_value
   pub presents : presented config.host n.host_key_is_certificate n.key ≡ Some shown
   pub signs : Signs (host_with n shown.blob) made.0.hash (judged signature)
   pub exchange_is : y ≡ record x { client_ephemeral = value; server_ephemeral = own_value }
@@ -121,7 +121,7 @@ pub record AnswersValue (Makes : List ℕ → Type 0) (Agrees : List ℕ → Lis
   pub puts : PutsAll old (reply_message (is_gex n.kex) shown.blob own_value signature ∷ newkeys ∷ []) new
 
 -- a reply that is too long
-pub record IsLongAnswer (Makes : List ℕ → Type 0) (ValueSmall SignatureSmall : List ℕ
+pub record IsLongAnswer (Makes : List ℕ → List ℕ → Type 0) (ValueSmall SignatureSmall : List ℕ
     → Type 0) (config : Config) (n : Names) (payload : List ℕ) (size : ℕ) : Type 0 where
   pub value : List ℕ
   pub own_value : List ℕ
@@ -129,7 +129,7 @@ pub record IsLongAnswer (Makes : List ℕ → Type 0) (ValueSmall SignatureSmall
   pub signature : List ℕ
   pub read : value_in (drop 1 payload) ≡ Ok value
   pub presents : presented config.host n.host_key_is_certificate n.key ≡ Some shown
-  pub makes : Makes own_value
+  pub makes : Makes value own_value
   pub value_small : ValueSmall own_value
   pub signature_small : SignatureSmall signature
   pub size_is : size ≡ length (reply_message (is_gex n.kex) shown.blob own_value signature)

@@ -14,7 +14,7 @@ ghost use Rattle.ssh_kex.specs.Refusals.{IsCreated};
 ghost use Rattle.ssh_wire.specs.Lines.{id_text};
 ghost use Rattle.ssh_wire.specs.declared.error.Error.TheVariants.{Memory};
 ghost use Rattle.ssh_wire.specs.declared.side.Side.TheVariants.{Server as server_side};
-ghost use Rattle.ssh_kex.specs.Parts.{IsSmall, KeepsAgreement, KeepsGroups, KeepsHosts, Setup};
+ghost use Rattle.ssh_kex.specs.Parts.{HasItsGroup, IsSmall, KeepsAgreement, KeepsGroups, KeepsHosts, Setup};
 ghost use Rattle.ssh_server_kex.specs.ServerRows.{AreShortBlobs, CanAnswer, IsLongAnswer, RefusesRequest, ServerRefusesValue};
 ghost use Rattle.ssh_server_kex.specs.ServerAnswers.{AnswersClient, AnswersOpening, AnswersSizes, ServerRefusesKexinit};
 ghost use Rattle.ssh_wire.specs.Outside.{Rose};
@@ -368,8 +368,8 @@ fn take_value<'c, A: Agreement, H: HostKeys, G, R: Rng>(
     ensures agreement_calls { A.calls parts.new.agreement ≤ A.calls parts.old.agreement + 1 }
     ensures hosts_calls { H.calls parts.new.hosts ≤ H.calls parts.old.hosts + 1 }
     ensures ok { IfOk result (λ p. AnswersClient
-        (λ v. (s : Setup) → A.lawful parts.old.agreement s → A.server_makes names.kex (group_of base.entry.exchange.gex)
-        v)
+        (λ c v. (s : Setup) → A.lawful parts.old.agreement s
+        → A.server_makes names.kex (group_of base.entry.exchange.gex) c v)
         (λ c v x. (s : Setup) → A.lawful parts.old.agreement s
         → A.agrees names.kex (group_of base.entry.exchange.gex) c v x)
         (λ host hash signature. (later : H) (s : Setup) → s.server ≡ base.entry.config.now → H.signs parts.old.hosts
@@ -378,13 +378,14 @@ fn take_value<'c, A: Agreement, H: HostKeys, G, R: Rng>(
         base.entry.config.now base.entry.cause base.entry.exchange names payload.now p output.old output.new) }
     ensures causes { IfErr result (ServerRefusesValue (is_gex names.kex)
         (λ c. Rose (A.refusals parts.old.agreement) (A.refusals parts.new.agreement) × ((s : Setup) (l : List ℕ)
-        → A.obliging parts.old.agreement parts.new.agreement s → A.offered parts.old.agreement names.kex ≡ true
+        → A.obliging parts.old.agreement parts.new.agreement s (group_of base.entry.exchange.gex)
+        → HasItsGroup names.kex (group_of base.entry.exchange.gex) → A.offered parts.old.agreement names.kex ≡ true
         → A.client_makes names.kex (group_of base.entry.exchange.gex) l c → ⊥))
         (Rose (H.refused_sign parts.old.hosts) (H.refused_sign parts.new.hosts) × ((s : Setup)
         → s.server ≡ base.entry.config.now → H.signs parts.old.hosts parts.new.hosts s → ⊥))
         (IsLongAnswer
-        (λ v. (s : Setup) → A.lawful parts.old.agreement s → A.server_makes names.kex (group_of base.entry.exchange.gex)
-        v)
+        (λ c v. (s : Setup) → A.lawful parts.old.agreement s
+        → A.server_makes names.kex (group_of base.entry.exchange.gex) c v)
         (λ v. (s : Setup) → A.lawful parts.old.agreement s → IsSmall v)
         (λ v. (s : Setup) → H.lawful parts.old.hosts s → IsSmall v) base.entry.config.now names payload.now)
         payload.now) }

@@ -9,7 +9,7 @@ ghost use Rattle.ssh_wire.specs.Outside.{Rose};
 ghost use Rattle.ssh_wire.specs.declared.error.Error.TheVariants.{Kex, Memory};
 ghost use Rattle.ssh_kex.specs.Drawing.{AnswerDrawn, SecretDrawn};
 ghost use Rattle.ssh_kex.specs.Messages.{is_gex, reply_message, value_message};
-ghost use Rattle.ssh_kex.specs.Parts.{IsSmall, KeepsAgreement, KeepsHosts, Setup};
+ghost use Rattle.ssh_kex.specs.Parts.{HasItsGroup, IsSmall, KeepsAgreement, KeepsHosts, Setup};
 ghost use Rattle.ssh_kex.specs.Fields.{value_in};
 ghost use Rattle.ssh_server_kex.specs.ServerRows.{AgreesOn, AnswersValue, CanAnswer, IsLongAnswer, RefusesText, ServerRefusesValue};
 ghost use Rattle.ssh_kex.specs.Setting.{group_of};
@@ -104,7 +104,7 @@ fn agree<A: Agreement, R: Rng>(
     ensures keeps { KeepsAgreement A.lawful A.obliging A.offered A.refusals A.calls agreement.old agreement.new }
     ensures calls { A.calls agreement.new ≤ A.calls agreement.old + 1 }
     ensures ok { IfOk result (AgreesOn (λ v x. (s : Setup) → A.lawful agreement.old s
-        → A.server_makes name (group_of exchange.old.gex) v
+        → A.server_makes name (group_of exchange.old.gex) exchange.old.client_ephemeral v
         × A.agrees name (group_of exchange.old.gex) exchange.old.client_ephemeral v x
         × IsSmall v) name exchange.old exchange.new) }
     ensures drawn { IfOk result (λ k. SecretDrawn (A.server_draws name (group_of exchange.old.gex)
@@ -112,6 +112,7 @@ fn agree<A: Agreement, R: Rng>(
     ensures causes { IfErr result (λ e. (e ≡ Kex) ⊎ (e ≡ Memory)) }
     ensures rose { IfErr result (λ e. e ≡ Kex → Rose (A.refusals agreement.old) (A.refusals agreement.new)) }
     ensures owed { IfErr result (λ e. e ≡ Kex → (s : Setup) (local : List ℕ) → A.obliging agreement.old agreement.new s
+        (group_of exchange.old.gex) → HasItsGroup name (group_of exchange.old.gex)
         → A.offered agreement.old name ≡ true → A.client_makes name
         (group_of exchange.old.gex) local exchange.old.client_ephemeral → ⊥) }
 {
@@ -172,8 +173,8 @@ pub(crate) fn answer_value<A: Agreement, H: HostKeys, G, R: Rng>(
     ensures agreement_calls { A.calls parts.new.agreement ≤ A.calls parts.old.agreement + 1 }
     ensures hosts_calls { H.calls parts.new.hosts ≤ H.calls parts.old.hosts + 1 }
     ensures ok { IfOk result (AnswersValue
-        (λ v. (s : Setup) → A.lawful parts.old.agreement s → A.server_makes names.now.kex
-        (group_of base.old.exchange.gex) v)
+        (λ c v. (s : Setup) → A.lawful parts.old.agreement s → A.server_makes names.now.kex
+        (group_of base.old.exchange.gex) c v)
         (λ c v x. (s : Setup) → A.lawful parts.old.agreement s → A.agrees names.now.kex
         (group_of base.old.exchange.gex) c v x)
         (λ host hash signature. (later : H) (s : Setup) → s.server ≡ base.old.config.now → H.signs parts.old.hosts later
@@ -183,13 +184,14 @@ pub(crate) fn answer_value<A: Agreement, H: HostKeys, G, R: Rng>(
         output.new) }
     ensures causes { IfErr result (ServerRefusesValue (is_gex names.now.kex)
         (λ c. Rose (A.refusals parts.old.agreement) (A.refusals parts.new.agreement) × ((s : Setup) (l : List ℕ)
-        → A.obliging parts.old.agreement parts.new.agreement s → A.offered parts.old.agreement names.now.kex ≡ true
+        → A.obliging parts.old.agreement parts.new.agreement s (group_of base.old.exchange.gex)
+        → HasItsGroup names.now.kex (group_of base.old.exchange.gex) → A.offered parts.old.agreement names.now.kex ≡ true
         → A.client_makes names.now.kex (group_of base.old.exchange.gex) l c → ⊥))
         (Rose (H.refused_sign parts.old.hosts) (H.refused_sign parts.new.hosts) × ((s : Setup)
         → s.server ≡ base.old.config.now → H.signs parts.old.hosts parts.new.hosts s → ⊥))
         (IsLongAnswer
-        (λ v. (s : Setup) → A.lawful parts.old.agreement s → A.server_makes names.now.kex
-        (group_of base.old.exchange.gex) v)
+        (λ c v. (s : Setup) → A.lawful parts.old.agreement s → A.server_makes names.now.kex
+        (group_of base.old.exchange.gex) c v)
         (λ v. (s : Setup) → A.lawful parts.old.agreement s → IsSmall v)
         (λ v. (s : Setup) → H.lawful parts.old.hosts s → IsSmall v) base.old.config.now names.now payload.now)
         payload.now) }

@@ -25,7 +25,7 @@ impl Agreement for GivenSecret {
 
     ghost client_makes = { λ name group local public. public ≡ local };
 
-    ghost server_makes = { λ name group public. Unit {0} };
+    ghost server_makes = { λ name group client public. Unit {0} };
 
     ghost agrees = { λ name group client server secret. secret ≡ client };
 
@@ -35,7 +35,7 @@ impl Agreement for GivenSecret {
 
     ghost lawful = { λ v s. ⊥ };
 
-    ghost obliging = { λ v later s. ⊥ };
+    ghost obliging = { λ v later s group. ⊥ };
 
     ghost refusals = { λ v. 0 };
 
@@ -43,7 +43,7 @@ impl Agreement for GivenSecret {
 
     ghost one_secret = { λ v s name group local client server x y l c r a b. a ∙ sym b };
 
-    ghost obliging_lawful = { λ v later s o. o };
+    ghost obliging_lawful = { λ v later s group o. o };
 
     fn offers(&self, _name: kex::Name) -> bool {
         true

@@ -39,12 +39,12 @@ rose_later : (a b c : ℕ) → a ≤ b → Rose b c → Rose a c
 rose_later a b c h r = omega (arith, h, r)
 
 pub kept_denying : {A H G : Type 0} (lawful : A → Setup → Type 0) (offered : A → kexes.Name → Bool)
-    (client_makes : kexes.Name → Option DhGroup → List ℕ → List ℕ → Type 0) (server_makes : kexes.Name → Option DhGroup → List ℕ → Type 0)
+    (client_makes : kexes.Name → Option DhGroup → List ℕ → List ℕ → Type 0) (server_makes : kexes.Name → Option DhGroup → List ℕ → List ℕ → Type 0)
     (agrees : kexes.Name → Option DhGroup → List ℕ → List ℕ → List ℕ → Type 0)
     (lawful_hosts : H → Setup → Type 0) (signs judges : H → H → Setup → Type 0) (accepts : H → ServerHost → List ℕ → List ℕ → Bool) (trusts : H → ServerHost → Bool)
     (makes : Config → ServerHost → List ℕ → List ℕ → Type 0) (lawful_groups : G → Setup → Type 0) (group : G → GexParams → DhGroup)
     (config : Config) (a a' a'' : A) (h h' h'' : H) (g g' g'' : G)
-    (obliging_agreement : A → A → Setup → Type 0) (refusals calls : A → ℕ) (refused_sign refused_verify refused_check calls_hosts : H → ℕ)
+    (obliging_agreement : A → A → Setup → Option DhGroup → Type 0) (refusals calls : A → ℕ) (refused_sign refused_verify refused_check calls_hosts : H → ℕ)
     (obliging_groups : G → G → Setup → Type 0) (refusals_groups calls_groups : G → ℕ)
     → KeepsAgreement lawful obliging_agreement offered refusals calls a a'
     → KeepsHosts lawful_hosts signs judges accepts trusts refused_sign refused_verify refused_check calls_hosts h h'
@@ -58,9 +58,9 @@ kept_denying lawful offered client_makes server_makes agrees lawful_hosts signs 
   offers = λ n k. offers_later n k;
   value_small = λ v k s w. k s (ka.lawful_kept s w);
   signature_small = λ v k s w. k s (kh.lawful_kept s w);
-  start = λ n q k. (rose_later (r a) (r a') (r a'') ka.refusals_later k.0, λ s o e. k.1 s (ka.obliging_kept a'' s o) (offers_later n e));
-  value = λ n q v k. (rose_later (r a) (r a') (r a'') ka.refusals_later k.0, λ s l o e m. k.1 s l (ka.obliging_kept a'' s o) (offers_later n e) m);
-  reply = λ n q l v k. (rose_later (r a) (r a') (r a'') ka.refusals_later k.0, λ s x o e m w. k.1 s x (ka.obliging_kept a'' s o) (offers_later n e) m w);
+  start = λ n q k. (rose_later (r a) (r a') (r a'') ka.refusals_later k.0, λ s o i e. k.1 s (ka.obliging_kept a'' s q o) i (offers_later n e));
+  value = λ n q v k. (rose_later (r a) (r a') (r a'') ka.refusals_later k.0, λ s l o i e m. k.1 s l (ka.obliging_kept a'' s q o) i (offers_later n e) m);
+  reply = λ n q l v k. (rose_later (r a) (r a') (r a'') ka.refusals_later k.0, λ s x o i e m w. k.1 s x (ka.obliging_kept a'' s q o) i (offers_later n e) m w);
   lookup = λ sizes k. (rose_later (rg g) (rg g') (rg g'') kg.refusals_later k.0, λ s o. k.1 s (kg.obliging_kept g'' s o));
   sign = λ config k. (rose_later (rs h) (rs h') (rs h'') kh.sign_later k.0, λ s e o. k.1 s e (kh.signs_kept h'' s o));
   verify = λ host hash signature k. (rose_later (rv h) (rv h') (rv h'') kh.verify_later k.0, λ s o e. k.1 s (kh.judges_kept h'' s o) (ap (λ (f : ServerHost → List ℕ → List ℕ → Bool). f host hash signature) kh.accepts_kept ∙ e));
@@ -115,7 +115,7 @@ long_still a b d e w s (Created own) m payload n h = record { names = h.names; r
 long_still a b d e w s (AwaitsGroup o) m payload n h = (h.0, h.1, long_value_still a b d e w o (Some h.0) n h.2)
 long_still a b d e w s (AwaitsReply o gex local public) m payload n h = absurd h
 long_still a b d e w s (AwaitsRequest o) m payload n h = record { sizes = h.sizes; group = h.group; read = h.read; finds = w.weaker.finds _ _ h.finds; size = h.size }
-long_still a b d e w s (AwaitsValue o gex) m payload n h = record { value = h.value; own_value = h.own_value; shown = h.shown; signature = h.signature; read = h.read; presents = h.presents; makes = w.weaker.server_makes _ _ _ h.makes; value_small = w.value_small _ h.value_small; signature_small = w.signature_small _ h.signature_small; size = h.size }
+long_still a b d e w s (AwaitsValue o gex) m payload n h = record { value = h.value; own_value = h.own_value; shown = h.shown; signature = h.signature; read = h.read; presents = h.presents; makes = w.weaker.server_makes _ _ _ _ h.makes; value_small = w.value_small _ h.value_small; signature_small = w.signature_small _ h.signature_small; size = h.size }
 long_still a b d e w s (AwaitsNewkeys exchange made host) m payload n h = absurd h
 
 pub refused_still : (a b : Says) (d e : Denies) → Denying a b d e → (s : Setting) (stage : Stage) (n : ℕ) (payload : List ℕ) (error : Error) → RefusesMessage a d s stage n payload error → RefusesMessage b e s stage n payload error

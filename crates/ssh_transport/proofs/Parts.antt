@@ -1,21 +1,21 @@
 -- What the calls of the parts keep, one after the other.
-use Rattle.std.proofs.Common.{ℕ, Bool, List, refl, ◌∙◌, arith}
+use Rattle.std.proofs.Common.{ℕ, Bool, List, refl, ◌∙◌, arith, Option}
 use Rattle.ssh_negotiate.specs.declared.kex.Name as kexes
 use Rattle.ssh_kex.specs.Parts.{KeepsAgreement, KeepsGroups, KeepsHosts, KeepsParts, Setup}
 use Rattle.ssh_kex.specs.declared.exchange.ServerHost.{ServerHost}
 use Rattle.ssh_kex.specs.declared.group.DhGroup.{DhGroup}
 use Rattle.ssh_kex.specs.declared.group.GexParams.{GexParams}
 
-pub agreement_same : {A : Type 0} (lawful : A → Setup → Type 0) (obliging : A → A → Setup → Type 0) (offered : A → kexes.Name → Bool) (refusals calls : A → ℕ) (a : A) → KeepsAgreement lawful obliging offered refusals calls a a
-agreement_same lawful obliging offered refusals calls a = record { refusals_later = omega arith; calls_later = omega arith; lawful_kept = λ s h. h; obliging_kept = λ w s h. h; obliging_sooner = λ v s h. h; offered_kept = refl }
+pub agreement_same : {A : Type 0} (lawful : A → Setup → Type 0) (obliging : A → A → Setup → Option DhGroup → Type 0) (offered : A → kexes.Name → Bool) (refusals calls : A → ℕ) (a : A) → KeepsAgreement lawful obliging offered refusals calls a a
+agreement_same lawful obliging offered refusals calls a = record { refusals_later = omega arith; calls_later = omega arith; lawful_kept = λ s h. h; obliging_kept = λ w s q h. h; obliging_sooner = λ v s q h. h; offered_kept = refl }
 
-pub agreement_after : {A : Type 0} (lawful : A → Setup → Type 0) (obliging : A → A → Setup → Type 0) (offered : A → kexes.Name → Bool) (refusals calls : A → ℕ) (a b c : A) → KeepsAgreement lawful obliging offered refusals calls a b → KeepsAgreement lawful obliging offered refusals calls b c → KeepsAgreement lawful obliging offered refusals calls a c
+pub agreement_after : {A : Type 0} (lawful : A → Setup → Type 0) (obliging : A → A → Setup → Option DhGroup → Type 0) (offered : A → kexes.Name → Bool) (refusals calls : A → ℕ) (a b c : A) → KeepsAgreement lawful obliging offered refusals calls a b → KeepsAgreement lawful obliging offered refusals calls b c → KeepsAgreement lawful obliging offered refusals calls a c
 agreement_after lawful obliging offered refusals calls a b c h k = record {
   refusals_later = (let x = h.refusals_later in let y = k.refusals_later in omega (arith, x, y));
   calls_later = (let x = h.calls_later in let y = k.calls_later in omega (arith, x, y));
   lawful_kept = λ s l. k.lawful_kept s (h.lawful_kept s l);
-  obliging_kept = λ w s l. k.obliging_kept w s (h.obliging_kept w s l);
-  obliging_sooner = λ v s l. h.obliging_sooner v s (k.obliging_sooner v s l);
+  obliging_kept = λ w s q l. k.obliging_kept w s q (h.obliging_kept w s q l);
+  obliging_sooner = λ v s q l. h.obliging_sooner v s q (k.obliging_sooner v s q l);
   offered_kept = k.offered_kept ∙ h.offered_kept;
 }
 
@@ -50,7 +50,7 @@ groups_after lawful obliging group refusals calls a b c h k = record {
   group_kept = k.group_kept ∙ h.group_kept;
 }
 
-pub parts_same : {A H G : Type 0} (lawful : A → Setup → Type 0) (obliging : A → A → Setup → Type 0) (offered : A → kexes.Name → Bool) (refusals calls : A → ℕ)
+pub parts_same : {A H G : Type 0} (lawful : A → Setup → Type 0) (obliging : A → A → Setup → Option DhGroup → Type 0) (offered : A → kexes.Name → Bool) (refusals calls : A → ℕ)
     (lawful_hosts : H → Setup → Type 0) (signs judges : H → H → Setup → Type 0) (accepts : H → ServerHost → List ℕ → List ℕ → Bool) (trusts : H → ServerHost → Bool) (refused_sign refused_verify refused_check calls_hosts : H → ℕ)
     (lawful_groups : G → Setup → Type 0) (obliging_groups : G → G → Setup → Type 0) (group : G → GexParams → DhGroup) (refusals_groups calls_groups : G → ℕ) (a : A) (h : H) (g : G)
     → KeepsParts (KeepsAgreement lawful obliging offered refusals calls a a)

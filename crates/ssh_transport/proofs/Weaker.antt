@@ -18,7 +18,7 @@ use Rattle.ssh_rules.specs.Machine.{Event, ExchangeBegun, IdHeard, PayloadSubmit
 pub record Weaker (a b : Says) : Type 0 where
   pub agrees : (n : kexes.Name) (q : Option DhGroup) (c v x : List ℕ) → a.agrees n q c v x → b.agrees n q c v x
   pub client_makes : (n : kexes.Name) (q : Option DhGroup) (l c : List ℕ) → a.client_makes n q l c → b.client_makes n q l c
-  pub server_makes : (n : kexes.Name) (q : Option DhGroup) (v : List ℕ) → a.server_makes n q v → b.server_makes n q v
+  pub server_makes : (n : kexes.Name) (q : Option DhGroup) (c v : List ℕ) → a.server_makes n q c v → b.server_makes n q c v
   pub reply : (n : kexes.Name) (q : Option DhGroup) (l c v x : List ℕ) → (a.client_makes n q l c → a.agrees n q c v x) → b.client_makes n q l c → b.agrees n q c v x
   pub finds : (sizes : GexParams) (q : DhGroup) → a.finds sizes q → b.finds sizes q
   pub signs : (host : ServerHost) (hash signature : List ℕ) → a.signs host hash signature → b.signs host hash signature
@@ -27,12 +27,12 @@ pub record Weaker (a b : Says) : Type 0 where
   pub offers : (n : kexes.Name) → a.offers n → b.offers n
 
 pub kept_weaker : {A H G : Type 0} (lawful : A → Setup → Type 0) (offered : A → kexes.Name → Bool)
-    (client_makes : kexes.Name → Option DhGroup → List ℕ → List ℕ → Type 0) (server_makes : kexes.Name → Option DhGroup → List ℕ → Type 0)
+    (client_makes : kexes.Name → Option DhGroup → List ℕ → List ℕ → Type 0) (server_makes : kexes.Name → Option DhGroup → List ℕ → List ℕ → Type 0)
     (agrees : kexes.Name → Option DhGroup → List ℕ → List ℕ → List ℕ → Type 0)
     (lawful_hosts : H → Setup → Type 0) (signs judges : H → H → Setup → Type 0) (accepts : H → ServerHost → List ℕ → List ℕ → Bool) (trusts : H → ServerHost → Bool)
     (makes : Config → ServerHost → List ℕ → List ℕ → Type 0) (lawful_groups : G → Setup → Type 0) (group : G → GexParams → DhGroup)
     (config : Config) (a a' : A) (h h' : H) (g g' : G)
-    (obliging_agreement : A → A → Setup → Type 0) (refusals calls : A → ℕ) (refused_sign refused_verify refused_check calls_hosts : H → ℕ)
+    (obliging_agreement : A → A → Setup → Option DhGroup → Type 0) (refusals calls : A → ℕ) (refused_sign refused_verify refused_check calls_hosts : H → ℕ)
     (obliging_groups : G → G → Setup → Type 0) (refusals_groups calls_groups : G → ℕ)
     → KeepsAgreement lawful obliging_agreement offered refusals calls a a'
     → KeepsHosts lawful_hosts signs judges accepts trusts refused_sign refused_verify refused_check calls_hosts h h'
@@ -42,7 +42,7 @@ pub kept_weaker : {A H G : Type 0} (lawful : A → Setup → Type 0) (offered : 
 kept_weaker lawful offered client_makes server_makes agrees lawful_hosts signs judges accepts trusts makes lawful_groups group config a a' h h' g g' oa r c rs rv rc ch og rg cg ka kh kg = record {
   agrees = λ n q c v x k s l. k s (ka.lawful_kept s l);
   client_makes = λ n q l c k s w. k s (ka.lawful_kept s w);
-  server_makes = λ n q v k s w. k s (ka.lawful_kept s w);
+  server_makes = λ n q c v k s w. k s (ka.lawful_kept s w);
   reply = λ n q l c v x k m s w. k (λ t u. m s w) s (ka.lawful_kept s w);
   finds = λ sizes q k s w. (let p = k s (kg.lawful_kept s w) in (p.0 ∙ ap (λ (f : GexParams → DhGroup). f sizes) kg.group_kept, p.1));
   signs = λ host hash signature k later s e o. k later s e (kh.signs_kept later s o);
@@ -64,7 +64,7 @@ takes_weaker a b w s (Created own) n payload written next h = record { names = h
 takes_weaker a b w s (AwaitsGroup o) n payload written next h = record { group = h.group; local = h.local; public = h.public; payload_is = h.payload_is; canonical = h.canonical; short = h.short; least = h.least; most = h.most; starts = record { makes = w.client_makes _ _ _ _ h.starts.makes; short = h.starts.short }; leads = h.leads }
 takes_weaker a b w s (AwaitsReply o gex local public) n payload written next h = record { host = h.host; value = h.value; signature = h.signature; secret = h.secret; payload_is = h.payload_is; host_short = h.host_short; value_short = h.value_short; signature_short = h.signature_short; agrees = w.reply _ _ _ _ _ _ h.agrees; accepts = w.accepts _ _ _ h.accepts; leads = h.leads }
 takes_weaker a b w s (AwaitsRequest o) n payload written next h = record { sizes = h.sizes; group = h.group; payload_is = h.payload_is; finds = w.finds _ _ h.finds; short = h.short; leads = h.leads }
-takes_weaker a b w s (AwaitsValue o gex) n payload written next h = record { value = h.value; own_value = h.own_value; secret = h.secret; signature = h.signature; shown = h.shown; payload_is = h.payload_is; value_short = h.value_short; own_value_short = h.own_value_short; host_short = h.host_short; signature_short = h.signature_short; agrees = w.agrees _ _ _ _ _ h.agrees; makes = w.server_makes _ _ _ h.makes; presents = h.presents; signs = w.signs _ _ _ h.signs; leads = h.leads }
+takes_weaker a b w s (AwaitsValue o gex) n payload written next h = record { value = h.value; own_value = h.own_value; secret = h.secret; signature = h.signature; shown = h.shown; payload_is = h.payload_is; value_short = h.value_short; own_value_short = h.own_value_short; host_short = h.host_short; signature_short = h.signature_short; agrees = w.agrees _ _ _ _ _ h.agrees; makes = w.server_makes _ _ _ _ h.makes; presents = h.presents; signs = w.signs _ _ _ h.signs; leads = h.leads }
 takes_weaker a b w s (AwaitsNewkeys exchange made host) n payload written next h = absurd h
 
 trusted_weaker : (a b : Says) → Weaker a b → (host : Option ServerHost) → IfSome host a.trusts → IfSome host b.trusts

@@ -47,7 +47,7 @@ abbrev pub nothing_said : Says
 nothing_said = record {
   agrees = λ name group client server secret. Unit {0};
   client_makes = λ name group local public. Unit {0};
-  server_makes = λ name group public. Unit {0};
+  server_makes = λ name group client public. Unit {0};
   finds = λ sizes group. Unit {0};
   signs = λ host hash signature. Unit {0};
   accepts = λ host hash signature. Unit {0};

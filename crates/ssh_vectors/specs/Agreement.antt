@@ -50,7 +50,7 @@ pub record ClientMakes (name : kexes.Name) (group : Option DhGroup) (local publi
   pub size : length public ≡ 32
 
 -- a server's value
-pub record ServerMakes (name : kexes.Name) (group : Option DhGroup) (public : List ℕ) : Type 0 where
+pub record ServerMakes (name : kexes.Name) (group : Option DhGroup) (client public : List ℕ) : Type 0 where
   pub size : length public ≡ 32
 
 -- the one secret between two values

@@ -1,7 +1,8 @@
 -- What is counted of parts, and a part that refuses one of its calls.
-use Rattle.std.specs.Prelude.{◌≡◌, ℕ, ◌+◌, ◌<◌, ◌≤◌, ◌==◌, Bool, true, false, slice_index, Result, Ok, Err}
+use Rattle.std.specs.Prelude.{◌≡◌, ℕ, ◌+◌, ◌<◌, ◌≤◌, ◌==◌, Bool, true, false, slice_index, Option, Result, Ok, Err}
 use Rattle.ssh_wire.specs.Outside.{next_count}
 use Rattle.ssh_kex.specs.Parts.{Setup}
+use Rattle.ssh_kex.specs.declared.group.DhGroup.{DhGroup}
 use Rattle.ssh_kex.specs.declared.parts.Refusal.{Refusal}
 use Rattle.ssh_kex.specs.declared.parts.Refusal.TheVariants.{Refused, Memory}
 use Rattle.ssh_vectors.specs.declared.refusing.Refusing.{Refusing}
@@ -54,3 +55,7 @@ RefusesBetween v later = (v.calls < v.refuse_at) × (v.refuse_at ≤ later.calls
 -- and obliges as its inner part does, where it refuses no call between them
 abbrev pub Obliges : {T : Type 0} → (T → T → Setup → Type 0) → Refusing T → Refusing T → Setup → Type 0
 Obliges inner v later s = inner v.inner later.inner s × (RefusesBetween v later → ⊥)
+
+-- and so an agreement in a group
+abbrev pub ObligesIn : {T : Type 0} → (T → T → Setup → Option DhGroup → Type 0) → Refusing T → Refusing T → Setup → Option DhGroup → Type 0
+ObligesIn inner v later s group = inner v.inner later.inner s group × (RefusesBetween v later → ⊥)

@@ -82,7 +82,7 @@ impl Agreement for TestAgreement {
 
     ghost lawful = { λ v s. Unit {0} };
 
-    ghost obliging = { λ v later s. Unit {0} };
+    ghost obliging = { λ v later s group. Unit {0} };
 
     ghost refusals = { λ v. v.refusals };
 
@@ -90,7 +90,7 @@ impl Agreement for TestAgreement {
 
     ghost one_secret = { λ v s name group local client server x y l c r a b. a ∙ sym b };
 
-    ghost obliging_lawful = { λ v later s o. o };
+    ghost obliging_lawful = { λ v later s group o. o };
 
     #[tactic(auto, unfolding(ssh_negotiate::specs::Tables::shape_of))]
     fn offers(&self, name: kex::Name) -> bool {

@@ -2,7 +2,7 @@
 
 ghost use Rattle.std.specs.Prelude.{◌≡◌, ◌<◌, ◌≤◌, ℕ, List, true, false, Err, IfOk, OnOk};
 ghost use Rattle.std.specs.Option.{option_copied};
-ghost use Rattle.ssh_kex.specs.Parts.{Counted, IsRefused, IsSmall, IsValue, Presents, Setup};
+ghost use Rattle.ssh_kex.specs.Parts.{Counted, HasItsGroup, IsRefused, IsSmall, IsValue, Presents, Setup};
 ghost use Rattle.ssh_kex.specs.Parts.{KeepsAgreement, KeepsGroups, KeepsHosts};
 ghost use Rattle.ssh_kex.specs.Signature.{judged};
 ghost use Rattle.ssh_kex.specs.declared.exchange.ServerHost.{ServerHost};
@@ -49,7 +49,7 @@ fn refuses(refuse_at: u64, calls: &mut u64, count: &mut u64) -> bool
 }
 
 impl<A: Agreement> Agreement for Refusing<A> {
-    ghost use Rattle.ssh_vectors.specs.Refusing.{Obliges, Within, refusals_with};
+    ghost use Rattle.ssh_vectors.specs.Refusing.{ObligesIn, Within, refusals_with};
 
     ghost offered = { λ v. A.offered v.inner };
 
@@ -65,7 +65,7 @@ impl<A: Agreement> Agreement for Refusing<A> {
 
     ghost lawful = { Within A.lawful };
 
-    ghost obliging = { Obliges A.obliging };
+    ghost obliging = { ObligesIn A.obliging };
 
     ghost refusals = { refusals_with A.refusals };
 
@@ -73,7 +73,7 @@ impl<A: Agreement> Agreement for Refusing<A> {
 
     ghost one_secret = { λ v s. A.one_secret v.inner s };
 
-    ghost obliging_lawful = { λ v later s o. A.obliging_lawful v.inner later.inner s o.0 };
+    ghost obliging_lawful = { λ v later s group o. A.obliging_lawful v.inner later.inner s group o.0 };
 
     fn offers(&self, name: kex::Name) -> bool {
         self.inner.offers(name)
@@ -93,7 +93,7 @@ impl<A: Agreement> Agreement for Refusing<A> {
         ensures own { CountsCall 0 self.old self.new }
         ensures counts { Counted (refusals_with A.refusals self.old) (refusals_with A.refusals self.new)
             self.old.calls self.new.calls result }
-        ensures keeps { KeepsAgreement (Within A.lawful) (Obliges A.obliging) (λ v. A.offered v.inner)
+        ensures keeps { KeepsAgreement (Within A.lawful) (ObligesIn A.obliging) (λ v. A.offered v.inner)
             (refusals_with A.refusals) (λ v. v.calls) self.old self.new }
         ensures undrawn { refuses_next self.old ≡ true → R.stream rng.new ≡ R.stream rng.old }
         ensures values { IfOk result (λ v. IsValue v.public × IsValue v.local) }
@@ -101,10 +101,10 @@ impl<A: Agreement> Agreement for Refusing<A> {
             v.public (R.stream rng.new)) }
         ensures made { (s : Setup) → A.lawful self.old.inner s → IfOk result (λ v.
             A.client_makes name (option_copied group.entry) v.local v.public × IsSmall v.public × IsSmall v.local) }
-        ensures only { (s : Setup) → A.obliging self.old.inner self.new.inner s → A.offered self.old.inner name ≡ true
-            → IsRefused result → refuses_next self.old ≡ true }
-        ensures never { (s : Setup) → Obliges A.obliging self.old self.new s → A.offered self.old.inner name ≡ true
-            → IsRefused result → ⊥ }
+        ensures only { (s : Setup) → A.obliging self.old.inner self.new.inner s (option_copied group.entry)
+            → HasItsGroup name (option_copied group.entry) → A.offered self.old.inner name ≡ true → IsRefused result → refuses_next self.old ≡ true }
+        ensures never { (s : Setup) → ObligesIn A.obliging self.old self.new s (option_copied group.entry)
+            → HasItsGroup name (option_copied group.entry) → A.offered self.old.inner name ≡ true → IsRefused result → ⊥ }
     {
         if refuses(self.refuse_at, &mut self.calls, &mut self.refusals[0]) {
             return Err(Refusal::Refused);
@@ -127,22 +127,22 @@ impl<A: Agreement> Agreement for Refusing<A> {
         ensures own { CountsCall 1 self.old self.new }
         ensures counts { Counted (refusals_with A.refusals self.old) (refusals_with A.refusals self.new)
             self.old.calls self.new.calls result }
-        ensures keeps { KeepsAgreement (Within A.lawful) (Obliges A.obliging) (λ v. A.offered v.inner)
+        ensures keeps { KeepsAgreement (Within A.lawful) (ObligesIn A.obliging) (λ v. A.offered v.inner)
             (refusals_with A.refusals) (λ v. v.calls) self.old self.new }
         ensures undrawn { refuses_next self.old ≡ true → R.stream rng.new ≡ R.stream rng.old }
         ensures values { IfOk result (λ v. IsValue v.public × IsValue v.secret) }
         ensures drawn { IfOk result (λ v. A.server_draws name (option_copied group.entry) client_public.now
             (R.stream rng.old) v.public v.secret (R.stream rng.new)) }
         ensures made { (s : Setup) → A.lawful self.old.inner s → IfOk result (λ v.
-            A.server_makes name (option_copied group.entry) v.public
+            A.server_makes name (option_copied group.entry) client_public.now v.public
             × A.agrees name (option_copied group.entry) client_public.now v.public v.secret
             × IsSmall v.public × IsSmall v.secret) }
-        ensures only { (s : Setup) (local : List ℕ) → A.obliging self.old.inner self.new.inner s
-            → A.offered self.old.inner name ≡ true
+        ensures only { (s : Setup) (local : List ℕ) → A.obliging self.old.inner self.new.inner s (option_copied group.entry)
+            → HasItsGroup name (option_copied group.entry) → A.offered self.old.inner name ≡ true
             → A.client_makes name (option_copied group.entry) local client_public.now
             → IsRefused result → refuses_next self.old ≡ true }
-        ensures never { (s : Setup) (local : List ℕ) → Obliges A.obliging self.old self.new s
-            → A.offered self.old.inner name ≡ true
+        ensures never { (s : Setup) (local : List ℕ) → ObligesIn A.obliging self.old self.new s (option_copied group.entry)
+            → HasItsGroup name (option_copied group.entry) → A.offered self.old.inner name ≡ true
             → A.client_makes name (option_copied group.entry) local client_public.now
             → IsRefused result → ⊥ }
     {
@@ -168,21 +168,21 @@ impl<A: Agreement> Agreement for Refusing<A> {
         ensures own { CountsCall 2 self.old self.new }
         ensures counts { Counted (refusals_with A.refusals self.old) (refusals_with A.refusals self.new)
             self.old.calls self.new.calls result }
-        ensures keeps { KeepsAgreement (Within A.lawful) (Obliges A.obliging) (λ v. A.offered v.inner)
+        ensures keeps { KeepsAgreement (Within A.lawful) (ObligesIn A.obliging) (λ v. A.offered v.inner)
             (refusals_with A.refusals) (λ v. v.calls) self.old self.new }
         ensures values { IfOk result (λ v. IsValue v) }
         ensures made { (s : Setup) (public : List ℕ) → A.lawful self.old.inner s
             → A.client_makes name (option_copied group.entry) local.now public → IfOk result (λ v.
             A.agrees name (option_copied group.entry) public server_public.now v × IsSmall v) }
-        ensures only { (s : Setup) (public : List ℕ) → A.obliging self.old.inner self.new.inner s
-            → A.offered self.old.inner name ≡ true
+        ensures only { (s : Setup) (public : List ℕ) → A.obliging self.old.inner self.new.inner s (option_copied group.entry)
+            → HasItsGroup name (option_copied group.entry) → A.offered self.old.inner name ≡ true
             → A.client_makes name (option_copied group.entry) local.now public
-            → A.server_makes name (option_copied group.entry) server_public.now
+            → A.server_makes name (option_copied group.entry) public server_public.now
             → IsRefused result → refuses_next self.old ≡ true }
-        ensures never { (s : Setup) (public : List ℕ) → Obliges A.obliging self.old self.new s
-            → A.offered self.old.inner name ≡ true
+        ensures never { (s : Setup) (public : List ℕ) → ObligesIn A.obliging self.old self.new s (option_copied group.entry)
+            → HasItsGroup name (option_copied group.entry) → A.offered self.old.inner name ≡ true
             → A.client_makes name (option_copied group.entry) local.now public
-            → A.server_makes name (option_copied group.entry) server_public.now
+            → A.server_makes name (option_copied group.entry) public server_public.now
             → IsRefused result → ⊥ }
     {
         if refuses(self.refuse_at, &mut self.calls, &mut self.refusals[2]) {

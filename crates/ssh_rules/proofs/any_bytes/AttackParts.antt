@@ -20,23 +20,23 @@ use Rattle.ssh_rules.specs.Attacking.{AttackedEnd, AttacksSide, attacked_report,
 use Rattle.ssh_rules.proofs.any_bytes.AttackAnswers.{PartsTold, attacked_run}
 use Rattle.ssh_rules.proofs.any_bytes.AttackedLinks.{first_end}
 
-pub parts_told : {A H G : Type 0} (lawful : A → Setup → Type 0) (obliging : A → A → Setup → Type 0) (offered : A → KexName → Bool) (client_makes : KexName → Option DhGroup → List ℕ → List ℕ → Type 0) (server_makes : KexName → Option DhGroup → List ℕ → Type 0) (agrees : KexName → Option DhGroup → List ℕ → List ℕ → List ℕ → Type 0) (refusals calls : A → ℕ)
+pub parts_told : {A H G : Type 0} (lawful : A → Setup → Type 0) (obliging : A → A → Setup → Option DhGroup → Type 0) (offered : A → KexName → Bool) (client_makes : KexName → Option DhGroup → List ℕ → List ℕ → Type 0) (server_makes : KexName → Option DhGroup → List ℕ → List ℕ → Type 0) (agrees : KexName → Option DhGroup → List ℕ → List ℕ → List ℕ → Type 0) (refusals calls : A → ℕ)
     (lawful_hosts : H → Setup → Type 0) (signs judges : H → H → Setup → Type 0) (accepts : H → ServerHost → List ℕ → List ℕ → Bool) (trusts : H → ServerHost → Bool) (makes : Config → ServerHost → List ℕ → List ℕ → Type 0) (refused_sign refused_verify refused_check asked : H → ℕ)
     (lawful_groups : G → Setup → Type 0) (obliging_groups : G → G → Setup → Type 0) (group : G → GexParams → DhGroup) (refused_lookup looked : G → ℕ)
-    → ((v w : A) (s : Setup) → obliging v w s → lawful v s) → (side : Side) (config : Config) (s : Setup) (a a' : A) (h h' : H) (g g' : G) → (side ≡ Server → s.server ≡ config)
+    → ((v w : A) (s : Setup) (q : Option DhGroup) → obliging v w s q → lawful v s) → (side : Side) (config : Config) (s : Setup) (a a' : A) (h h' : H) (g g' : G) → (side ≡ Server → s.server ≡ config)
     → PartsTold (tells_by lawful obliging offered client_makes server_makes agrees refusals calls lawful_hosts signs judges accepts trusts makes refused_sign refused_verify refused_check asked lawful_groups obliging_groups group refused_lookup looked config a a' h h' g g')
     (parts_of lawful obliging offered client_makes server_makes agrees refusals calls lawful_hosts signs judges accepts trusts refused_sign refused_verify refused_check asked lawful_groups obliging_groups group refused_lookup looked s a a' h h' g g') side config
 parts_told lawful obliging offered cm sm ag refusals calls lh sg jd accepts trusts makes rs rv rc asked lg og group rl looked law side config s a a' h h' g g' same = record {
   tells = record {
-    start = λ n q d. (d.0, λ o f. d.1 s o f);
-    value = λ n q c d. (d.0, λ o f l m. d.1 s l o f m);
-    reply = λ n q l v d. (d.0, λ o f c m w. d.1 s c o f m w);
+    start = λ n q d. (d.0, λ o i f. d.1 s o i f);
+    value = λ n q c d. (d.0, λ o i f l m. d.1 s l o i f m);
+    reply = λ n q l v d. (d.0, λ o i f c m w. d.1 s c o i f m w);
     lookup = λ sizes d. (d.0, λ o. d.1 s o);
     sign = λ e d. (d.0, λ o. d.1 s (same e) o);
     verify = λ host hash signature d. (d.0, λ o k. d.1 s o k);
     check = λ host d. (d.0, λ o k. d.1 s o k);
     offers = λ n o. o;
-    obliging_lawful = λ o. law a a' s o;
+    obliging_lawful = λ q o. law a a' s q o;
     makes = λ n q l c w m. m s w;
     agrees = λ n q c v x w m. m s w;
     value_small = λ v w m. m s w;
@@ -48,7 +48,7 @@ parts_told lawful obliging offered cm sm ag refusals calls lh sg jd accepts trus
 }
 
 -- what the laws of a run ask of a side's words: a client's host keys judge, a server's don't
-pub told_by : {A H G : Type 0} (lawful : A → Setup → Type 0) (obliging : A → A → Setup → Type 0) (offered : A → KexName → Bool) (client_makes : KexName → Option DhGroup → List ℕ → List ℕ → Type 0) (server_makes : KexName → Option DhGroup → List ℕ → Type 0) (agrees : KexName → Option DhGroup → List ℕ → List ℕ → List ℕ → Type 0) (refusals calls : A → ℕ)
+pub told_by : {A H G : Type 0} (lawful : A → Setup → Type 0) (obliging : A → A → Setup → Option DhGroup → Type 0) (offered : A → KexName → Bool) (client_makes : KexName → Option DhGroup → List ℕ → List ℕ → Type 0) (server_makes : KexName → Option DhGroup → List ℕ → List ℕ → Type 0) (agrees : KexName → Option DhGroup → List ℕ → List ℕ → List ℕ → Type 0) (refusals calls : A → ℕ)
     (lawful_hosts : H → Setup → Type 0) (signs judges : H → H → Setup → Type 0) (accepts : H → ServerHost → List ℕ → List ℕ → Bool) (trusts : H → ServerHost → Bool) (makes : Config → ServerHost → List ℕ → List ℕ → Type 0) (refused_sign refused_verify refused_check asked : H → ℕ)
     (lawful_groups : G → Setup → Type 0) (obliging_groups : G → G → Setup → Type 0) (group : G → GexParams → DhGroup) (refused_lookup looked : G → ℕ)
     → (side : Side) (config : Config) (s : Setup) (a a' : A) (h h' judge : H) (g g' : G) → config_fault side config ≡ None → HasSizes config → (side ≡ Client → judge ≡ h)
@@ -64,10 +64,10 @@ server_only : Server ≡ Client → ⊥
 server_only e = cc
 
 -- The report of an attacked run is what such a report says, of all parts whose obliging agreements are lawful.
-pub attack_report : {A H G : Type 0} (lawful : A → Setup → Type 0) (obliging : A → A → Setup → Type 0) (offered : A → KexName → Bool) (client_makes : KexName → Option DhGroup → List ℕ → List ℕ → Type 0) (server_makes : KexName → Option DhGroup → List ℕ → Type 0) (agrees : KexName → Option DhGroup → List ℕ → List ℕ → List ℕ → Type 0) (refusals calls : A → ℕ)
+pub attack_report : {A H G : Type 0} (lawful : A → Setup → Type 0) (obliging : A → A → Setup → Option DhGroup → Type 0) (offered : A → KexName → Bool) (client_makes : KexName → Option DhGroup → List ℕ → List ℕ → Type 0) (server_makes : KexName → Option DhGroup → List ℕ → List ℕ → Type 0) (agrees : KexName → Option DhGroup → List ℕ → List ℕ → List ℕ → Type 0) (refusals calls : A → ℕ)
     (lawful_hosts : H → Setup → Type 0) (signs judges : H → H → Setup → Type 0) (accepts : H → ServerHost → List ℕ → List ℕ → Bool) (trusts : H → ServerHost → Bool) (makes : Config → ServerHost → List ℕ → List ℕ → Type 0) (refused_sign refused_verify refused_check asked : H → ℕ)
     (lawful_groups : G → Setup → Type 0) (obliging_groups : G → G → Setup → Type 0) (group : G → GexParams → DhGroup) (refused_lookup looked : G → ℕ)
-    → ((v w : A) (s : Setup) → obliging v w s → lawful v s) → (client server : Config) (steps : List AttackStep) (answers : List (Result (Unit {0}) Error))
+    → ((v w : A) (s : Setup) (q : Option DhGroup) → obliging v w s q → lawful v s) → (client server : Config) (steps : List AttackStep) (answers : List (Result (Unit {0}) Error))
     → (a a' : A) (h h' : H) (g g' : G) (b b' : A) (i i' : H) (j j' : G) (c s : Standing) (cn sn : AttackedEnd)
     → config_fault Client client ≡ None → config_fault Server server ≡ None → HasSizes client → HasSizes server → IsNew Client client c → IsNew Server server s
     → AttacksSide (tells_by lawful obliging offered client_makes server_makes agrees refusals calls lawful_hosts signs judges accepts trusts makes refused_sign refused_verify refused_check asked lawful_groups obliging_groups group refused_lookup looked client a a' h h' g g') Client steps answers (first_end (counted_by calls asked looked a h g) c) cn

@@ -15,7 +15,7 @@ use Rattle.ssh_negotiate.specs.declared.kex.Name.{Name as KexName}
 use Rattle.ssh_negotiate.specs.declared.negotiation.Names.{Names}
 use Rattle.ssh_kex.specs.Exchange.{exchange_hash}
 use Rattle.ssh_kex.specs.Messages.{group_message, host_with, is_gex, newkeys, presented, reply_message, value_message}
-use Rattle.ssh_kex.specs.Parts.{IsSmall}
+use Rattle.ssh_kex.specs.Parts.{HasItsGroup, IsSmall}
 use Rattle.ssh_kex.specs.Refusals.{Denies, IsBadlyEncoded, IsCreated, IsDue, IsLate, IsOutOfRange, IsTooLong, IsUnoffered, IsWrong, PartDenies, RefusesMessage, SignatureDenied, SigningDenied, awaited, is_last, kexinit_read}
 use Rattle.ssh_kex.specs.Fields.{fields, sizes_in}
 use Rattle.ssh_kex.specs.Setting.{Says, Opened, exchange_of, group_of, offers_of}
@@ -41,19 +41,19 @@ use Rattle.ssh_rules.proofs.refusals.Obliged.{presented_short, reply_length}
 use Rattle.ssh_rules.proofs.side.Discharged.{reads_unmarked}
 use Rattle.ssh_rules.proofs.any_bytes.Guessing.{GuessAt, awaits}
 use Rattle.ssh_rules.proofs.any_bytes.SeenSides.{NoneAtEnd, Shows, StageSeen, created_seen, due_of, guesses_are, holds_host, holds_kex, holds_strict, no_guess, replied, seen_of, stage_seen}
-use Rattle.ssh_rules.proofs.side.StageFits.{FitsStage, FitsWhere, Holds}
+use Rattle.ssh_rules.proofs.side.StageFits.{FitsStage, FitsWhere, Holds, its_group}
 
 -- what the parts do over the whole run, by what they deny in a step
 pub record TellsParts (says : Says) (denies : Denies) (untrusted : ServerHost → Type 0) (p : PartsDo) (side : Side) (config : Config) : Type 0 where
-  pub start : (n : KexName) (q : Option DhGroup) → denies.start n q → p.rises.agreement × (p.obliging → says.offers n → ⊥)
-  pub value : (n : KexName) (q : Option DhGroup) (c : List ℕ) → denies.value n q c → p.rises.agreement × (p.obliging → says.offers n → (local : List ℕ) → p.client_makes n q local c → ⊥)
-  pub reply : (n : KexName) (q : Option DhGroup) (local v : List ℕ) → denies.reply n q local v → p.rises.agreement × (p.obliging → says.offers n → (c : List ℕ) → p.client_makes n q local c → p.server_makes n q v → ⊥)
+  pub start : (n : KexName) (q : Option DhGroup) → denies.start n q → p.rises.agreement × (p.obliging q → HasItsGroup n q → says.offers n → ⊥)
+  pub value : (n : KexName) (q : Option DhGroup) (c : List ℕ) → denies.value n q c → p.rises.agreement × (p.obliging q → HasItsGroup n q → says.offers n → (local : List ℕ) → p.client_makes n q local c → ⊥)
+  pub reply : (n : KexName) (q : Option DhGroup) (local v : List ℕ) → denies.reply n q local v → p.rises.agreement × (p.obliging q → HasItsGroup n q → says.offers n → (c : List ℕ) → p.client_makes n q local c → p.server_makes n q c v → ⊥)
   pub lookup : (sizes : GexParams) → denies.lookup sizes → p.rises.lookup × (p.obliging_lookup → ⊥)
   pub sign : side ≡ Server → denies.sign config → p.rises.signing × (p.signs → ⊥)
   pub verify : (host : ServerHost) (hash signature : List ℕ) → denies.verify host hash signature → p.rises.verifying × (p.judges → p.accepts host hash signature ≡ true → ⊥)
   pub check : (host : ServerHost) → untrusted host → p.rises.checking × (p.judges → p.trusts host ≡ true → ⊥)
   pub offers : (n : KexName) → p.offers n → says.offers n
-  pub obliging_lawful : p.obliging → p.lawful
+  pub obliging_lawful : (q : Option DhGroup) → p.obliging q → p.lawful
   pub makes : (n : KexName) (q : Option DhGroup) (local c : List ℕ) → p.lawful → says.client_makes n q local c → p.client_makes n q local c
   pub agrees : (n : KexName) (q : Option DhGroup) (c v x : List ℕ) → p.lawful → says.agrees n q c v x → p.agrees n q c v x
   pub value_small : (v : List ℕ) → p.lawful → says.value_small v → IsSmall v
@@ -315,13 +315,13 @@ PartRow p side config heard log i due = PartDeniesNow p (seen_of side config hea
 part_created : (says : Says) (denies : Denies) (untrusted : ServerHost → Type 0) (p : PartsDo) (side : Side) (config : Config) (heard : List ℕ) (log : List Event) (at : SideState) (i : Item) (own : List ℕ) (seqn : ℕ) → TellsParts says denies untrusted p side config → (s : Shows says side config heard log at) → PartDenies says denies (setting side config (id_text config.id) at) (Created own) seqn i.payload → PartRow p side config heard log i KexinitDue
 part_created says denies untrusted p side config heard log at i own seqn tell s d =
     let t = tell.start d.names.kex None d.denied in
-    (d.names, kexinit_as says side config heard log at i (Ok d.names) s d.reads.read, d.plain, record { client = sym (setting_side side config (id_text config.id) at) ∙ d.client; rose = t.0; only = λ o. t.1 o d.offered })
+    (d.names, kexinit_as says side config heard log at i (Ok d.names) s d.reads.read, d.plain, record { client = sym (setting_side side config (id_text config.id) at) ∙ d.client; rose = t.0; only = λ o. t.1 o d.plain d.offered })
 
 part_group : (says : Says) (denies : Denies) (untrusted : ServerHost → Type 0) (p : PartsDo) (side : Side) (config : Config) (heard : List ℕ) (log : List Event) (at : SideState) (i : Item) (o : Opened) (seqn : ℕ) → TellsParts says denies untrusted p side config → (s : Shows says side config heard log at) → at.stands ≡ Inside (AwaitsGroup o) → PartDenies says denies (setting side config (id_text config.id) at) (AwaitsGroup o) seqn i.payload → PartRow p side config heard log i GroupDue
 part_group says denies untrusted p side config heard log at i o seqn tell s e d =
     let f = fits_inside says side config heard log at (AwaitsGroup o) s e in
     let t = tell.start o.names.kex (Some d.group) d.denied in
-    (d.group, d.read, subst (λ c. Rattle.ssh_kex.specs.Fields.IsInside c.gex d.group) (setting_config side config (id_text config.id) at) d.inside, record { client = sym (setting_side side config (id_text config.id) at) ∙ f.client; rose = t.0; only = λ b. t.1 b f.opened.offered })
+    (d.group, d.read, subst (λ c. Rattle.ssh_kex.specs.Fields.IsInside c.gex d.group) (setting_config side config (id_text config.id) at) d.inside, record { client = sym (setting_side side config (id_text config.id) at) ∙ f.client; rose = t.0; only = λ b. t.1 b f.kind f.opened.offered })
 
 part_request : (says : Says) (denies : Denies) (untrusted : ServerHost → Type 0) (p : PartsDo) (side : Side) (config : Config) (heard : List ℕ) (log : List Event) (at : SideState) (i : Item) (o : Opened) (seqn : ℕ) → TellsParts says denies untrusted p side config → PartDenies says denies (setting side config (id_text config.id) at) (AwaitsRequest o) seqn i.payload → PartRow p side config heard log i RequestDue
 part_request says denies untrusted p side config heard log at i o seqn tell d = (let t = tell.lookup d.sizes d.denied in (d.sizes, d.read, t.0, t.1))
@@ -343,7 +343,7 @@ part_reply says denies untrusted p Client config heard log at i o gex local publ
         speaks = client_speaks says config heard log at o gex local public d.front.value d.front.host [] s e;
         value_is = refl;
         rose = t.0;
-        only = λ b m. t.1 b f.opened.offered public (tell.makes o.names.kex (group_of gex) local public (tell.obliging_lawful b) f.makes) (subst (λ k. p.server_makes k (group_of gex) d.front.value) (holds_kex n.0 o.names n.4) m);
+        only = λ b m. t.1 b (its_group o.names.kex gex f.kind) f.opened.offered public (tell.makes o.names.kex (group_of gex) local public (tell.obliging_lawful (group_of gex) b) f.makes) (subst (λ k. p.server_makes k (group_of gex) public d.front.value) (holds_kex n.0 o.names n.4) m);
       },
     )
 part_reply says denies untrusted p Server config heard log at i o gex local public seqn tell s e d = absurd (let f = (fits_inside says Server config heard log at (AwaitsReply o gex local public) s e).client in let z : Server ≡ Client = f in cc)
@@ -363,7 +363,7 @@ part_value says denies untrusted p Server config heard log at i o gex seqn tell 
         speaks = server_speaks says config heard log at o gex d.value s e;
         value_is = d.read;
         rose = t.0;
-        only = λ b l m. t.1 b f.opened.offered l (subst (λ k. p.client_makes k (group_of gex) l d.value) (holds_kex n.0 o.names n.4) m);
+        only = λ b l m. t.1 b (its_group o.names.kex gex f.kind) f.opened.offered l (subst (λ k. p.client_makes k (group_of gex) l d.value) (holds_kex n.0 o.names n.4) m);
       },
     )
 part_value says denies untrusted p Client config heard log at i o gex seqn tell s e d = absurd (let f = (fits_inside says Client config heard log at (AwaitsValue o gex) s e).server in let z : Client ≡ Server = f in cc)

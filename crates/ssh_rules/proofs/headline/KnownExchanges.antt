@@ -139,8 +139,8 @@ is_made_of client server client_makes server_makes agrees cc sc before a b d e x
       secret = mc.secret;
       local = mc.local;
       by_client = subst (λ (n : Names). client_makes n.kex (group_of d.gex) mc.local d.client_ephemeral) (sym x_names) (tells.for_client _ _ _ _ mc.makes);
-      by_server = subst (λ (n : Names). server_makes n.kex (group_of d.gex) d.server_ephemeral) server_names
-          (subst (λ (t : Exchange). server_makes ms.names.kex (group_of t.gex) t.server_ephemeral) (sym both.1) (tells.for_server _ _ _ ms.makes));
+      by_server = subst (λ (n : Names). server_makes n.kex (group_of d.gex) d.client_ephemeral d.server_ephemeral) server_names
+          (subst (λ (t : Exchange). server_makes ms.names.kex (group_of t.gex) t.client_ephemeral t.server_ephemeral) (sym both.1) (tells.for_server _ _ _ _ ms.makes));
       agree = subst (λ (n : Names). agrees n.kex (group_of d.gex) d.client_ephemeral d.server_ephemeral mc.secret) (sym x_names) (tells.for_secret _ _ _ _ _ mc.agrees);
       hash = subst (λ (z : FinishedExchange). z.hash ≡ exchange_hash z.names.kex d mc.host (Some mc.secret)) (sym mc.made) refl;
       session = subst (λ (z : FinishedExchange). z.session_id ≡ first_hash before z.hash) (sym mc.made) (session_is before _);

@@ -1,6 +1,7 @@
 -- In a link the next message of an exchange faces the stage that awaits it: both sides are in one exchange, after the
 -- same records, and what the writer had read is a front of what the reader wrote.
 use Rattle.std.proofs.Common.{◌≡◌, ℕ, suc, ◌<◌, ◌^◌, List, [], ◌∷◌, ◌++◌, length, slice_get, refl, sym, ◌∙◌, ap, subst, arith, Bool, true, false, Some, None, Ok, inl, inr, append_assoc, if◌then◌else◌, length-append}
+use Rattle.std.specs.Prelude.{is_some}
 use Rattle.ssh_packet.specs.Sealing.{Item}
 use Rattle.ssh_wire.specs.Lines.{id_text}
 use Rattle.ssh_wire.specs.Sides.{other_side}
@@ -161,21 +162,21 @@ serves_by says s (AwaitsRequest o) own theirs f = f.server
 serves_by says s (AwaitsValue o gex) own theirs f = tt
 serves_by says s (AwaitsNewkeys exchange x host) own theirs f = tt
 
--- where a group is asked for, a group exchange was chosen
+-- where a group is asked for or held, a group exchange was chosen
 abbrev IsGexAt : Stage → KexName → Type 0
 IsGexAt (Created k) kex = Unit {0}
 IsGexAt (AwaitsGroup o) kex = is_gex kex ≡ true
-IsGexAt (AwaitsReply o gex local public) kex = Unit {0}
+IsGexAt (AwaitsReply o gex local public) kex = is_gex kex ≡ is_some gex
 IsGexAt (AwaitsRequest o) kex = is_gex kex ≡ true
-IsGexAt (AwaitsValue o gex) kex = Unit {0}
+IsGexAt (AwaitsValue o gex) kex = is_gex kex ≡ is_some gex
 IsGexAt (AwaitsNewkeys exchange x host) kex = Unit {0}
 
 gex_by_stage : (config : Side → Config) (names : Names) (says : Says) (s : Setting) (stage : Stage) (own theirs : List (List ℕ)) → chosen_by (config Client) (config Server) ≡ Ok names → KindIs (kind_chosen config) (names_now (Inside stage)) → FitsStage says s stage own theirs → IsGexAt stage names.kex
 gex_by_stage config names says s (Created own_kexinit) own theirs e k f = tt
 gex_by_stage config names says s (AwaitsGroup o) own theirs e k f = sym (ap kind_by e) ∙ (sym k ∙ f.kind)
-gex_by_stage config names says s (AwaitsReply o gex local public) own theirs e k f = tt
+gex_by_stage config names says s (AwaitsReply o gex local public) own theirs e k f = sym (ap kind_by e) ∙ (sym k ∙ f.kind)
 gex_by_stage config names says s (AwaitsRequest o) own theirs e k f = sym (ap kind_by e) ∙ (sym k ∙ f.kind)
-gex_by_stage config names says s (AwaitsValue o gex) own theirs e k f = tt
+gex_by_stage config names says s (AwaitsValue o gex) own theirs e k f = sym (ap kind_by e) ∙ (sym k ∙ f.kind)
 gex_by_stage config names says s (AwaitsNewkeys exchange x host) own theirs e k f = tt
 
 kex_by : (config : Side → Config) (side : Side) (own_id : List ℕ) (names : Names) (st : SideState) (stage : Stage) (m : List ℕ) → IsWithin (offers_of Client (config Client)) → IsWithin (offers_of Server (config Server)) → chosen_by (config Client) (config Server) ≡ Ok names → IsReadable (other_side side) (config (other_side side)) stage m → IsGexAt stage names.kex → ReadsKex (setting side (config side) own_id st) stage m names.kex
@@ -185,9 +186,9 @@ kex_by config side own_id names st (Created k) m c s e r g = λ n h.
     let same : n ≡ kept_strict still names = (let q : Ok n ≡ Ok (kept_strict still names) = sym h ∙ read in cc) in
     ap (λ (x : Names). x.kex) same
 kex_by config side own_id names st (AwaitsGroup o) m c s e r g = g
-kex_by config side own_id names st (AwaitsReply o gex local public) m c s e r g = tt
+kex_by config side own_id names st (AwaitsReply o gex local public) m c s e r g = g
 kex_by config side own_id names st (AwaitsRequest o) m c s e r g = g
-kex_by config side own_id names st (AwaitsValue o gex) m c s e r g = tt
+kex_by config side own_id names st (AwaitsValue o gex) m c s e r g = g
 kex_by config side own_id names st (AwaitsNewkeys exchange x host) m c s e r g = tt
 
 one_stage : (a b : Stage) → Inside a ≡ Inside b → a ≡ b

@@ -244,6 +244,7 @@ pub record ValueMade (peer_says : Says) (p : Setting) (k l : List ℕ) (gex : Op
   pub short : length value < 2 ^ 31
   pub negotiated : Negotiated Client p.config p.cause l k names
   pub makes : peer_says.client_makes names.kex (group_of gex) local value
+  pub asked : IfSome gex (λ (g : GexChosen). g.params ≡ p.config.gex)
 
 value_plain : (peer_says : Says) (p : Setting) (stage : Stage) (k l v m : List ℕ) (more read : List (List ℕ)) → p.side ≡ Client → m ≡ value_message false v → FitsStage peer_says p stage (l ∷ m ∷ more) read → HasFront (k ∷ []) read → ValueMade peer_says p k l None m
 value_plain peer_says p (Created own) k l v m more read e z g f = absurd (let q : l ∷ m ∷ more ≡ own ∷ [] = g.own_is in cc)
@@ -265,6 +266,7 @@ value_plain peer_says p (AwaitsReply o None local public) k l v m more read e z 
       short = g.short;
       negotiated = subst (λ x. Negotiated Client p.config p.cause x k o.names) own (subst (λ y. Negotiated Client p.config p.cause o.own_kexinit y o.names) peer (by_opened peer_says p o Client e g.opened));
       makes = g.makes;
+      asked = tt;
     }
 value_plain peer_says p (AwaitsReply o (Some h) local public) k l v m more read e z g f = absurd (
     let q : l ∷ m ∷ more ≡ o.own_kexinit ∷ request_message h.params ∷ value_message true public ∷ [] = g.own_is in
@@ -300,6 +302,7 @@ value_gex peer_says p (AwaitsReply o (Some h) local public) chosen k l m more re
     let w : (o.peer_kexinit ∷ group_message h.group ∷ []) ++ f.0 ≡ k ∷ group_message chosen.group ∷ [] = ap (λ r. r ++ f.0) (sym g.theirs_is) ∙ f.1 in
     let peer : o.peer_kexinit ≡ k = cc in
     let answered : group_message h.group ≡ group_message chosen.group = cc in
+    let asked : request_message chosen.params ≡ request_message h.params = cc in
     let group : h.group ≡ chosen.group = group_one h.group chosen.group g.group.canonical c g.short_group.prime g.short_group.generator s.prime s.generator answered in
     record {
       local = local;
@@ -309,6 +312,7 @@ value_gex peer_says p (AwaitsReply o (Some h) local public) chosen k l m more re
       short = g.short;
       negotiated = subst (λ x. Negotiated Client p.config p.cause x k o.names) own (subst (λ y. Negotiated Client p.config p.cause o.own_kexinit y o.names) peer (by_opened peer_says p o Client e g.opened));
       makes = subst (λ x. peer_says.client_makes o.names.kex (Some x) local public) group g.makes;
+      asked = sizes_one chosen h s g.short_group asked ∙ g.group.params_are;
     }
 value_gex peer_says p (AwaitsRequest o) chosen k l m more read e c s g f = absurd (wrong_side (sym e ∙ g.server))
 value_gex peer_says p (AwaitsValue o gex) chosen k l m more read e c s g f = absurd (wrong_side (sym e ∙ g.server))

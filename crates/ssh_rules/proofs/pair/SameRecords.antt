@@ -57,7 +57,7 @@ makes_one_record client server one_secret canonical c s a b d e x y g h wc ws li
     ap (names_read Server (offers_of Server s.config) (was_strict s.cause)) (sym mc.kexinit_is ∙ talk.client_kexinit) ∙ ms.read in
     let both = one_names (offers_of Client c.config) (offers_of Server s.config) (was_strict s.cause) ms.cookie mc.cookie mc.read_names ms.read_names wc ws ms.cookie_length mc.cookie_length client_read server_read in
     let names : mc.names ≡ ms.names = mc.names_are ∙ (held_plain mc.read_names both.1 ∙ (both.0 ∙ sym (ms.names_are ∙ held_plain ms.read_names (sym (ap (λ (n : Names). n.ignore_guessed) both.0) ∙ both.1)))) in
-    let makes = subst (λ (n : Names). server.server_makes n.kex (group_of d.gex) d.server_ephemeral) (sym names) (subst (λ (t : Exchange). server.server_makes ms.names.kex (group_of t.gex) t.server_ephemeral) (sym same) ms.makes) in
+    let makes = subst (λ (n : Names). server.server_makes n.kex (group_of d.gex) d.client_ephemeral d.server_ephemeral) (sym names) (subst (λ (t : Exchange). server.server_makes ms.names.kex (group_of t.gex) t.client_ephemeral t.server_ephemeral) (sym same) ms.makes) in
     let agrees = subst (λ (n : Names). server.agrees n.kex (group_of d.gex) d.client_ephemeral d.server_ephemeral ms.secret) (sym names) (subst (λ (t : Exchange). server.agrees ms.names.kex (group_of t.gex) t.client_ephemeral t.server_ephemeral ms.secret) (sym same) ms.agrees) in
     let secret : mc.secret ≡ ms.secret = one_secret mc.names.kex (group_of d.gex) mc.local d.client_ephemeral d.server_ephemeral mc.secret ms.secret mc.makes makes mc.agrees agrees in
     (mc.made ∙ (made_alike c.cause s.cause mc.names ms.names d e mc.host ms.shown.blob mc.secret ms.secret link.cause names same talk.host secret ∙ sym ms.made), same)

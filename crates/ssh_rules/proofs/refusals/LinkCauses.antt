@@ -235,7 +235,7 @@ none_cause says denies r config side offered group s own seqn payload kind error
 pub record Causes (says : Side → Says) (config : Side → Config) (side : Side) (denies : Denies) (untrusted : ServerHost → Type 0) (r : Rises) (offered : KexName → Bool) (group : DhGroup) : Type 0 where
   pub lawful : AreLawful says config
   pub small : AreSmall (says side) side (config (other_side side)).gex
-  pub owes : (kex : KexName) → Owes says config side kex denies r
+  pub owes : (kex : KexName) → kind_by (chosen_by (config Client) (config Server)) ≡ is_gex kex → Owes says config side kex denies r
   pub checks : (host : ServerHost) (key : HostKey) → side ≡ Client → Presents (config Server) host key host.algorithm → untrusted host → r.checking
   pub offers : (name : KexName) → offered name ≡ true → (says side).offers name
   pub finds : (g : DhGroup) → (says Server).finds (config Client).gex g → g ≡ group
@@ -257,7 +257,7 @@ chosen_cause says config side denies untrusted r offered group s stage seqn payl
 chosen_cause says config side denies untrusted r offered group s stage seqn payload names errors.UnknownAlgo c at chosen f holds met kex readable h = record { names = names; chosen = chosen; none = by_offer (offered names.kex) (λ o. not_unoffered (says side) s stage seqn payload names.kex (c.offers names.kex o) kex h) }
 chosen_cause says config side denies untrusted r offered group s stage seqn payload names (errors.NoCommonAlgo kind ours theirs) c at chosen f holds met kex readable h = absurd h
 chosen_cause says config side denies untrusted r offered group s stage seqn payload names errors.Version c at chosen f holds met kex readable h = h
-chosen_cause says config side denies untrusted r offered group s stage seqn payload names errors.Kex c at chosen f holds met kex readable h = elim (met_denied says config s stage seqn payload names.kex denies r (subst (λ z. Owes says config z names.kex denies r) (sym at) (c.owes names.kex)) met readable kex (subst (λ z. PartDenies (says z) denies s stage seqn payload) (sym at) h)) [
+chosen_cause says config side denies untrusted r offered group s stage seqn payload names errors.Kex c at chosen f holds met kex readable h = elim (met_denied says config s stage seqn payload names.kex denies r (subst (λ z. Owes says config z names.kex denies r) (sym at) (c.owes names.kex (ap kind_by chosen))) met readable kex (subst (λ z. PartDenies (says z) denies s stage seqn payload) (sym at) h)) [
   | inl a ↦ inl a
   | inr l ↦ inr (sym at ∙ l.0, l.1)
 ]
@@ -265,13 +265,13 @@ chosen_cause says config side denies untrusted r offered group s stage seqn payl
 chosen_cause says config side denies untrusted r offered group s stage seqn payload names errors.Inconsistent c at chosen f holds met kex readable h = h
 chosen_cause says config side denies untrusted r offered group s stage seqn payload names errors.IndexOutOfBounds c at chosen f holds met kex readable h = h
 chosen_cause says config side denies untrusted r offered group s stage seqn payload names errors.UnknownKey c at chosen f holds met kex readable h = absurd h
-chosen_cause says config side denies untrusted r offered group s stage seqn payload names errors.WrongServerSig c at chosen f holds met kex readable h = (let m = met_missigned says config s stage payload names.kex denies r (subst (λ z. Owes says config z names.kex denies r) (sym at) (c.owes names.kex)) met (subst (λ z. SignatureDenied (says z) denies s stage payload) (sym at) h) in (sym at ∙ m.0, m.1))
+chosen_cause says config side denies untrusted r offered group s stage seqn payload names errors.WrongServerSig c at chosen f holds met kex readable h = (let m = met_missigned says config s stage payload names.kex denies r (subst (λ z. Owes says config z names.kex denies r) (sym at) (c.owes names.kex (ap kind_by chosen))) met (subst (λ z. SignatureDenied (says z) denies s stage payload) (sym at) h) in (sym at ∙ m.0, m.1))
 chosen_cause says config side denies untrusted r offered group s stage seqn payload names (errors.PacketSize n) c at chosen f holds met kex readable h = h
 chosen_cause says config side denies untrusted r offered group s stage seqn payload names errors.Disconnect c at chosen f holds met kex readable h = h
 chosen_cause says config side denies untrusted r offered group s stage seqn payload names errors.DecryptionError c at chosen f holds met kex readable h = h
 chosen_cause says config side denies untrusted r offered group s stage seqn payload names errors.IO c at chosen f holds met kex readable h = h
 chosen_cause says config side denies untrusted r offered group s stage seqn payload names (errors.StrictKeyExchangeViolation type place) c at chosen f holds met kex readable h = h
-chosen_cause says config side denies untrusted r offered group s stage seqn payload names errors.Signature c at chosen f holds met kex readable h = (let m = met_unsigned says config s stage payload names.kex denies r (subst (λ z. Owes says config z names.kex denies r) (sym at) (c.owes names.kex)) met h in (sym at ∙ m.0, m.1))
+chosen_cause says config side denies untrusted r offered group s stage seqn payload names errors.Signature c at chosen f holds met kex readable h = (let m = met_unsigned says config s stage payload names.kex denies r (subst (λ z. Owes says config z names.kex denies r) (sym at) (c.owes names.kex (ap kind_by chosen))) met h in (sym at ∙ m.0, m.1))
 chosen_cause says config side denies untrusted r offered group s stage seqn payload names (errors.SshEncoding fault) c at chosen f holds met kex readable h = h
 chosen_cause says config side denies untrusted r offered group s stage seqn payload names (errors.InvalidConfig fault) c at chosen f holds met kex readable h = h
 chosen_cause says config side denies untrusted r offered group s stage seqn payload names errors.Memory c at chosen f holds met kex readable h = tt

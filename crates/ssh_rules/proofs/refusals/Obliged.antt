@@ -1,7 +1,7 @@
 -- Parts that do what they owe refuse no message that the other side's parts made, and lawful parts make none too long.
 use Rattle.std.proofs.Common.{◌≡◌, ℕ, ◌+◌, ◌<◌, ◌≤◌, nat_lt, List, [], ◌∷◌, ◌++◌, length, refl, sym, ◌∙◌, ap, subst, arith, Bool, true, false, ◌||◌, ◌&&◌, if◌then◌else◌, Option, Some, None, Ok, Result, ◌⊎◌, inl, inr, length-append}
 use Rattle.std.proofs.lemmas.Bool.Decides.{nat_tests}
-use Rattle.std.specs.Prelude.{find, is_some}
+use Rattle.std.specs.Prelude.{IfSome, find, is_some}
 use Rattle.std.specs.List.{list_any}
 use Rattle.std.specs.Str.{bytes_eq}
 use Rattle.ssh_packet.specs.Sealing.{longest_payload}
@@ -21,7 +21,7 @@ use Rattle.ssh_negotiate.specs.declared.negotiation.Names.{Names}
 use Rattle.ssh_negotiate.specs.declared.preferred.HostCertificate.{HostCertificate}
 use Rattle.ssh_negotiate.specs.declared.preferred.HostKey.{HostKey}
 use Rattle.ssh_kex.specs.Messages.{IsCanonical, Presented, by_certificate, by_holder, by_key, group_message, host_with, is_gex, presented, reply_message, value_message}
-use Rattle.ssh_kex.specs.Parts.{IsSmall}
+use Rattle.ssh_kex.specs.Parts.{HasItsGroup, IsSmall}
 use Rattle.ssh_kex.specs.Refusals.{Denies, IsOutOfRange, IsTooLong, IsUnoffered, PartDenies, SignatureDenied, SigningDenied, kexinit_read}
 use Rattle.ssh_kex.specs.Fields.{IsInside, IsOutside, ReplyFront, fields, group_in, reply_front, sizes_in, value_in}
 use Rattle.ssh_kex.specs.Setting.{Says, Setting, Opened, exchange_by, exchange_of, group_of, made_of, offers_of}
@@ -34,6 +34,7 @@ use Rattle.ssh_kex.specs.declared.group.DhGroup.{DhGroup}
 use Rattle.ssh_kex.specs.declared.group.GexParams.{GexParams}
 use Rattle.ssh_rules.specs.Laws.{FindsCanonical, OneLink, OneSecret}
 use Rattle.ssh_rules.specs.LinkCauses.{Rises}
+use Rattle.ssh_rules.specs.Made.{IsOwnGroup}
 use Rattle.ssh_rules.specs.Valid.{HasSizes, longest_blob, some_blob_long}
 use Rattle.ssh_rules.specs.Wire.{HasFront}
 use Rattle.ssh_rules.proofs.pair.Awaited.{IsReadable}
@@ -41,13 +42,18 @@ use Rattle.ssh_rules.proofs.pair.SameRecords.{made_alike, same_exchange}
 use Rattle.ssh_rules.proofs.pair.NextMadeOf.{ReplyMade, ValueMade, both_hold, by_opened, by_server, group_made, reply_made, value_made}
 use Rattle.ssh_rules.proofs.refusals.OnlyParts.{PartsRefuse, form_length, reply_fields, value_fields}
 use Rattle.ssh_rules.proofs.side.ReadAgain.{front_again, group_again, sizes_again, value_again}
-use Rattle.ssh_rules.proofs.side.StageFits.{FitsStage}
+use Rattle.ssh_rules.proofs.side.StageFits.{FitsStage, its_group}
 
 -- What is known where a part of the one that reads refuses an answer that it owes.
+-- the group of an exchange is the one that the server's lookup finds for the client's sizes
+abbrev pub IsDue : (Side → Says) → (Side → Config) → kexes.Name → Option DhGroup → Type 0
+IsDue says config kex None = is_gex kex ≡ false
+IsDue says config kex (Some group) = (is_gex kex ≡ true) × (says Server).finds (config Client).gex group
+
 pub record Owes (says : Side → Says) (config : Side → Config) (side : Side) (kex : kexes.Name) (denies : Denies) (r : Rises) : Type 0 where
-  pub start : (name : kexes.Name) (group : Option DhGroup) → (says side).offers name → denies.start name group → r.agreement
-  pub value : (name : kexes.Name) (group : Option DhGroup) (local public : List ℕ) → (says side).offers name → (says Client).client_makes name group local public → denies.value name group public → r.agreement
-  pub reply : (name : kexes.Name) (group : Option DhGroup) (local public value : List ℕ) → (says side).offers name → (says Client).client_makes name group local public → (says Server).server_makes name group value → denies.reply name group local value → r.agreement
+  pub start : (name : kexes.Name) (group : Option DhGroup) → IsDue says config kex group → HasItsGroup name group → (says side).offers name → denies.start name group → r.agreement
+  pub value : (name : kexes.Name) (group : Option DhGroup) (local public : List ℕ) → IsDue says config kex group → HasItsGroup name group → (says side).offers name → (says Client).client_makes name group local public → denies.value name group public → r.agreement
+  pub reply : (name : kexes.Name) (group : Option DhGroup) (local public value : List ℕ) → IsDue says config kex group → HasItsGroup name group → (says side).offers name → (says Client).client_makes name group local public → (says Server).server_makes name group public value → denies.reply name group local value → r.agreement
   pub lookup : side ≡ Server → is_gex kex ≡ true → (sizes : GexParams) → denies.lookup sizes → r.lookup
   pub sign : side ≡ Server → denies.sign (config Server) → r.signing
   pub verify : side ≡ Client → (host : ServerHost) (hash signature : List ℕ) → (says Server).signs host hash signature → denies.verify host hash signature → r.verifying
@@ -108,17 +114,22 @@ not_inside : (sizes : GexParams) (g : DhGroup) → IsInside sizes g → IsOutsid
 not_inside sizes g i (inl l) = omega (arith, i.least, l)
 not_inside sizes g i (inr l) = omega (arith, i.most, l)
 
-not_outside : (says : Side → Says) (config : Side → Config) (s p : Setting) (stage : Stage) (m : List ℕ) → ((group : DhGroup) → (says Server).finds (config Client).gex group → IsInside (config Client).gex group) → AreBoth says config s p → Faces says s p stage m → IsOutOfRange s stage m → ⊥
-not_outside says config s p (Created own) m fits b f h = h
-not_outside says config s p (AwaitsGroup o) m fits b f h =
+-- the group that a client reads is one that the server found for its sizes
+group_found : (says : Side → Says) (config : Side → Config) (s p : Setting) (o : Opened) (m : List ℕ) (group : DhGroup) → AreBoth says config s p → Faces says s p (AwaitsGroup o) m → group_in (fields m) ≡ Ok group → (says Server).finds (config Client).gex group
+group_found says config s p o m group b f h =
     let server = server_is s p f.here.client f.sides in
     let mine : s.config ≡ config Client = b.config_is ∙ ap config f.here.client in
     let g = group_made (says s.side) (says p.side) s p o f.peer_stage f.own f.theirs m f.more f.read (subst HasSizes (sym b.config_is) (b.sizes s.side)) server f.here f.there f.front in
     let finds : (says Server).finds (config Client).gex g.group = subst (λ w. (says w).finds (config Client).gex g.group) server (subst (λ (c : Config). (says p.side).finds c.gex g.group) mine g.finds) in
     let canonical = b.canonical (config Client).gex g.group finds in
     let read : group_in (fields m) ≡ Ok g.group = ap (λ x. group_in (fields x)) g.message ∙ (group_again g.group (let l = g.short.0 in omega (arith, l)) (let l = g.short.1 in omega (arith, l)) ∙ ap (λ x. let r : Result DhGroup EncodingFault = Ok x in r) (group_same g.group canonical)) in
-    let same = ok_is (group_in (fields m)) h.0 g.group h.1 read in
-    not_inside (config Client).gex g.group (fits g.group finds) (subst (IsOutside (config Client).gex) same (subst (λ (c : Config). IsOutside c.gex h.0) mine h.2))
+    subst ((says Server).finds (config Client).gex) (ok_is (group_in (fields m)) g.group group read h) finds
+
+not_outside : (says : Side → Says) (config : Side → Config) (s p : Setting) (stage : Stage) (m : List ℕ) → ((group : DhGroup) → (says Server).finds (config Client).gex group → IsInside (config Client).gex group) → AreBoth says config s p → Faces says s p stage m → IsOutOfRange s stage m → ⊥
+not_outside says config s p (Created own) m fits b f h = h
+not_outside says config s p (AwaitsGroup o) m fits b f h =
+    let mine : s.config ≡ config Client = b.config_is ∙ ap config f.here.client in
+    not_inside (config Client).gex h.0 (fits h.0 (group_found says config s p o m h.0 b f h.1)) (subst (λ (c : Config). IsOutside c.gex h.0) mine h.2)
 not_outside says config s p (AwaitsReply o gex local public) m fits b f h = h
 not_outside says config s p (AwaitsRequest o) m fits b f h = h
 not_outside says config s p (AwaitsValue o gex) m fits b f h = h
@@ -132,7 +143,7 @@ pub record ReplyRead (says : Side → Says) (s p : Setting) (o : Opened) (gex : 
   pub names : o.names ≡ made.knows.names
   pub front : reply_front (fields m) ≡ Ok (record { host = made.knows.shown.blob; value = made.exchange.server_ephemeral; behind = string made.knows.signature })
   pub behind : value_in (string made.knows.signature) ≡ Ok made.knows.signature
-  pub makes : (says Server).server_makes o.names.kex (group_of gex) made.exchange.server_ephemeral
+  pub makes : (says Server).server_makes o.names.kex (group_of gex) public made.exchange.server_ephemeral
 
 reply_read : (says : Side → Says) (config : Side → Config) (s p : Setting) (o : Opened) (gex : Option GexChosen) (local public m : List ℕ) → AreBoth says config s p → Faces says s p (AwaitsReply o gex local public) m → ReplyRead says s p o gex public m
 reply_read says config s p o gex local public m b f = record { made = r; names = names; front = front; behind = value_again r.knows.signature r.knows.short.signed; makes = makes } where
@@ -161,10 +172,11 @@ reply_read says config s p o gex local public m b f = record { made = r; names =
   front : reply_front (fields m) ≡ Ok (record { host = r.knows.shown.blob; value = r.exchange.server_ephemeral; behind = string r.knows.signature })
   front = ap (λ x. reply_front (fields x)) r.message ∙ (ap reply_front (reply_fields (is_some gex) r.knows.shown.blob r.exchange.server_ephemeral r.knows.signature) ∙ front_again r.knows.shown.blob r.exchange.server_ephemeral (string r.knows.signature) r.knows.short.host_blob r.knows.short.server_value)
 
-  makes : (says Server).server_makes o.names.kex (group_of gex) r.exchange.server_ephemeral
-  makes = subst (λ w. (says w).server_makes o.names.kex (group_of gex) r.exchange.server_ephemeral) server
-      (subst (λ (n : Names). (says p.side).server_makes n.kex (group_of gex) r.exchange.server_ephemeral) (sym names)
-      (subst (λ y. (says p.side).server_makes r.knows.names.kex (group_of y) r.exchange.server_ephemeral) r.group r.knows.makes))
+  makes : (says Server).server_makes o.names.kex (group_of gex) public r.exchange.server_ephemeral
+  makes = subst (λ w. (says w).server_makes o.names.kex (group_of gex) public r.exchange.server_ephemeral) server
+      (subst (λ (n : Names). (says p.side).server_makes n.kex (group_of gex) public r.exchange.server_ephemeral) (sym names)
+      (subst (λ v. (says p.side).server_makes r.knows.names.kex (group_of gex) v r.exchange.server_ephemeral) r.value
+      (subst (λ y. (says p.side).server_makes r.knows.names.kex (group_of y) r.exchange.client_ephemeral r.exchange.server_ephemeral) r.group r.knows.makes)))
 
 faced_missigned : (says : Side → Says) (config : Side → Config) (s p : Setting) (stage : Stage) (m : List ℕ) (kex : kexes.Name) (denies : Denies) (rises : Rises) → Owes says config s.side kex denies rises → AreBoth says config s p → Faces says s p stage m → SignatureDenied (says s.side) denies s stage m → (s.side ≡ Client) × rises.verifying
 faced_missigned says config s p (Created own) m kex denies rises d b f h = absurd h
@@ -225,25 +237,47 @@ faced_missigned says config s p (AwaitsNewkeys exchange made host) m kex denies 
 
 -- ---- what the agreement and the lookup are asked
 
--- a KEXINIT is read to the chosen name of the key exchange, and a group is asked for where that is a group exchange
+-- a KEXINIT is read to the chosen name of the key exchange, and a group is asked for or held where that is a group
+-- exchange
 abbrev pub ReadsKex : Setting → Stage → List ℕ → kexes.Name → Type 0
 ReadsKex s (Created own) m kex = (n : Names) → kexinit_read s m ≡ Ok n → n.kex ≡ kex
 ReadsKex s (AwaitsGroup o) m kex = is_gex kex ≡ true
-ReadsKex s (AwaitsReply o gex local public) m kex = Unit {0}
+ReadsKex s (AwaitsReply o gex local public) m kex = is_gex kex ≡ is_some gex
 ReadsKex s (AwaitsRequest o) m kex = is_gex kex ≡ true
-ReadsKex s (AwaitsValue o gex) m kex = Unit {0}
+ReadsKex s (AwaitsValue o gex) m kex = is_gex kex ≡ is_some gex
 ReadsKex s (AwaitsNewkeys exchange made host) m kex = Unit {0}
 
+-- what is held of a group is due
+due_with : (says : Side → Says) (config : Side → Config) (kex : kexes.Name) (gex : Option GexChosen) → is_gex kex ≡ is_some gex → IfSome gex (λ (q : GexChosen). (says Server).finds (config Client).gex q.group) → IsDue says config kex (group_of gex)
+due_with says config kex None k f = k
+due_with says config kex (Some q) k f = (k, f)
+
+-- without a group exchange none is
+plain_due : (says : Side → Says) (config : Side → Config) (s : Setting) (m : List ℕ) (kex : kexes.Name) (names : Names) → ((n : Names) → kexinit_read s m ≡ Ok n → n.kex ≡ kex) → kexinit_read s m ≡ Ok names → is_gex names.kex ≡ false → IsDue says config kex None
+plain_due says config s m kex names k e plain = ap is_gex (sym (k names e)) ∙ plain
+
+reply_due : (says : Side → Says) (config : Side → Config) (s p : Setting) (o : Opened) (gex : Option GexChosen) (local public m : List ℕ) (kex : kexes.Name) → AreBoth says config s p → Faces says s p (AwaitsReply o gex local public) m → ReplyRead says s p o gex public m → is_gex kex ≡ is_some gex → IsDue says config kex (group_of gex)
+reply_due says config s p o gex local public m kex b f q k = due_with says config kex gex k (found gex f.here.group (subst (λ (g : Option GexChosen). IfSome g (λ (x : GexChosen). (says p.side).finds x.params x.group)) q.made.group q.made.knows.finds)) where
+  server : p.side ≡ Server
+  server = server_is s p f.here.client f.sides
+
+  mine : s.config ≡ config Client
+  mine = b.config_is ∙ ap config f.here.client
+
+  found : (g : Option GexChosen) → IfSome g (IsOwnGroup s.config.gex) → IfSome g (λ (x : GexChosen). (says p.side).finds x.params x.group) → IfSome g (λ (x : GexChosen). (says Server).finds (config Client).gex x.group)
+  found None e z = tt
+  found (Some x) e z = subst (λ (y : GexParams). (says Server).finds y x.group) (e.params_are ∙ ap (λ (c : Config). c.gex) mine) (subst (λ w. (says w).finds x.params x.group) server z)
+
 faced_denied : (says : Side → Says) (config : Side → Config) (s p : Setting) (stage : Stage) (seqn : ℕ) (m : List ℕ) (kex : kexes.Name) (denies : Denies) (rises : Rises) → Owes says config s.side kex denies rises → AreBoth says config s p → Faces says s p stage m → IsReadable (other_side s.side) (config (other_side s.side)) stage m → ReadsKex s stage m kex → PartDenies (says s.side) denies s stage seqn m → rises.agreement ⊎ ((s.side ≡ Server) × rises.lookup)
-faced_denied says config s p (Created own) seqn m kex denies rises d b f r k h = inl (d.start h.names.kex None h.offered h.denied)
-faced_denied says config s p (AwaitsGroup o) seqn m kex denies rises d b f r k h = inl (d.start o.names.kex (Some h.group) f.here.opened.offered h.denied)
+faced_denied says config s p (Created own) seqn m kex denies rises d b f r k h = inl (d.start h.names.kex None (plain_due says config s m kex h.names k h.reads.read h.plain) h.plain h.offered h.denied)
+faced_denied says config s p (AwaitsGroup o) seqn m kex denies rises d b f r k h = inl (d.start o.names.kex (Some h.group) (k, group_found says config s p o m h.group b f h.read) f.here.kind f.here.opened.offered h.denied)
 faced_denied says config s p (AwaitsReply o gex local public) seqn m kex denies rises d b f r k h =
     let q = reply_read says config s p o gex local public m b f in
     let value : h.front.value ≡ q.made.exchange.server_ephemeral = ap (λ (x : ReplyFront). x.value) (ok_is (reply_front (fields m)) h.front _ h.read q.front) in
-    inl (d.reply o.names.kex (group_of gex) local public q.made.exchange.server_ephemeral f.here.opened.offered (subst (λ w. (says w).client_makes o.names.kex (group_of gex) local public) f.here.client f.here.makes) q.makes
+    inl (d.reply o.names.kex (group_of gex) local public q.made.exchange.server_ephemeral (reply_due says config s p o gex local public m kex b f q k) (its_group o.names.kex gex f.here.kind) f.here.opened.offered (subst (λ w. (says w).client_makes o.names.kex (group_of gex) local public) f.here.client f.here.makes) q.makes
     (subst (λ v. denies.reply o.names.kex (group_of gex) local v) value h.denied))
 faced_denied says config s p (AwaitsRequest o) seqn m kex denies rises d b f r k h = inr (f.here.server, d.lookup f.here.server k h.sizes h.denied)
-faced_denied says config s p (AwaitsValue o gex) seqn m kex denies rises d b f r k h = inl (d.value o.names.kex (group_of gex) v.local v.value f.here.opened.offered makes (subst (denies.value o.names.kex (group_of gex)) value h.denied)) where
+faced_denied says config s p (AwaitsValue o gex) seqn m kex denies rises d b f r k h = inl (d.value o.names.kex (group_of gex) v.local v.value (due_with says config kex gex k (asked gex f.here.finds v.asked)) (its_group o.names.kex gex f.here.kind) f.here.opened.offered makes (subst (denies.value o.names.kex (group_of gex)) value h.denied)) where
   client : p.side ≡ Client
   client = client_is s p f.here.server f.sides
 
@@ -261,6 +295,10 @@ faced_denied says config s p (AwaitsValue o gex) seqn m kex denies rises d b f r
 
   yours : s.config ≡ config Server
   yours = b.config_is ∙ ap config f.here.server
+
+  asked : (g : Option GexChosen) → IfSome g (λ (q : GexChosen). (says s.side).finds q.params q.group) → IfSome g (λ (q : GexChosen). q.params ≡ p.config.gex) → IfSome g (λ (q : GexChosen). (says Server).finds (config Client).gex q.group)
+  asked None z e = tt
+  asked (Some q) z e = subst (λ (x : GexParams). (says Server).finds x q.group) (e ∙ ap (λ (c : Config). c.gex) mine) (subst (λ w. (says w).finds q.params q.group) f.here.server z)
 
   names : v.names ≡ o.names
   names = both_hold p.config s.config p.cause o.peer_kexinit o.own_kexinit v.names o.names (subst (λ c. IsWithin (offers_of Client c)) (sym mine) b.client_within) (subst (λ c. IsWithin (offers_of Server c)) (sym yours) b.server_within) v.negotiated
@@ -390,7 +428,7 @@ never_unfit says config s (AwaitsNewkeys exchange made host) m kex fits k f h = 
 
 -- what is known where the reader's agreement or lookup refuses, its host keys refuse a signature, and refuse to sign
 pub met_denied : (says : Side → Says) (config : Side → Config) (s : Setting) (stage : Stage) (seqn : ℕ) (m : List ℕ) (kex : kexes.Name) (denies : Denies) (rises : Rises) → Owes says config s.side kex denies rises → IsMet says config s stage m → IsReadable (other_side s.side) (config (other_side s.side)) stage m → ReadsKex s stage m kex → PartDenies (says s.side) denies s stage seqn m → rises.agreement ⊎ ((s.side ≡ Server) × rises.lookup)
-met_denied says config s (Created own) seqn m kex denies rises d f r k h = inl (d.start h.names.kex None h.offered h.denied)
+met_denied says config s (Created own) seqn m kex denies rises d f r k h = inl (d.start h.names.kex None (plain_due says config s m kex h.names k h.reads.read h.plain) h.plain h.offered h.denied)
 met_denied says config s (AwaitsGroup o) seqn m kex denies rises d f r k h = faced_denied says config s f.0 (AwaitsGroup o) seqn m kex denies rises d f.1 f.2 r k h
 met_denied says config s (AwaitsReply o gex local public) seqn m kex denies rises d f r k h = faced_denied says config s f.0 (AwaitsReply o gex local public) seqn m kex denies rises d f.1 f.2 r k h
 met_denied says config s (AwaitsRequest o) seqn m kex denies rises d f r k h = faced_denied says config s f.0 (AwaitsRequest o) seqn m kex denies rises d f.1 f.2 r k h

@@ -1,5 +1,5 @@
 -- What the members of the parts' traits owe in a link, from their laws.
-use Rattle.std.proofs.Common.{◌≡◌, ℕ, ◌≤◌, List, refl, sym, ◌∙◌, ap, subst, Bool, true, Option}
+use Rattle.std.proofs.Common.{◌≡◌, ℕ, ◌≤◌, List, refl, sym, ◌∙◌, ap, subst, Bool, true, if◌then◌else◌, Option, Some, None}
 use Rattle.ssh_wire.specs.Sides.{other_side}
 use Rattle.ssh_wire.specs.declared.side.Side.{Side}
 use Rattle.ssh_wire.specs.declared.side.Side.TheVariants.{Client, Server}
@@ -7,70 +7,81 @@ use Rattle.ssh_negotiate.specs.declared.kex.Name.{Name as KexName}
 use Rattle.ssh_negotiate.specs.declared.preferred.HostKey.{HostKey}
 use Rattle.ssh_kex.specs.Fields.{IsInside}
 use Rattle.ssh_kex.specs.Messages.{bit_size, is_gex}
+use Rattle.ssh_kex.specs.Setting.{Says}
 use Rattle.ssh_kex.specs.Parts.{IsSmall, KeepsAgreement, KeepsGroups, KeepsHosts, Presents, Setup}
 use Rattle.ssh_kex.specs.Stepping.{denies_of, says_of}
 use Rattle.ssh_kex.specs.declared.config.Config.{Config}
 use Rattle.ssh_kex.specs.declared.exchange.ServerHost.{ServerHost}
 use Rattle.ssh_kex.specs.declared.group.DhGroup.{DhGroup}
 use Rattle.ssh_kex.specs.declared.group.GexParams.{GexParams}
+use Rattle.ssh_rules.specs.Headline.{chosen_by, kind_by}
 use Rattle.ssh_rules.specs.LinkCauses.{unobliged_of}
-use Rattle.ssh_rules.specs.Refused.{one_of}
+use Rattle.ssh_rules.specs.Refused.{group_due, one_of}
 use Rattle.ssh_rules.specs.RunLaws.{config_of, says_by}
-use Rattle.ssh_rules.proofs.refusals.Obliged.{AreSmall, Duties, Owes}
+use Rattle.ssh_rules.proofs.refusals.Obliged.{AreSmall, Duties, IsDue, Owes}
 
 wrong_side : Client ≡ Server → ⊥
 wrong_side e = cc
 
 -- the laws of the members that obliging parts are judged by
-pub record PartLaws {A H G : Type 0} (lawful : A → Setup → Type 0) (obliging : A → A → Setup → Type 0) (signs judges : H → H → Setup → Type 0) (accepts : H → ServerHost → List ℕ → List ℕ → Bool) (trusts : H → ServerHost → Bool) (makes : Config → ServerHost → List ℕ → List ℕ → Type 0) (lawful_groups : G → Setup → Type 0) (obliging_groups : G → G → Setup → Type 0) (group : G → GexParams → DhGroup) : Type 0 where
-  pub agreement : (v w : A) (s : Setup) → obliging v w s → lawful v s
+pub record PartLaws {A H G : Type 0} (lawful : A → Setup → Type 0) (obliging : A → A → Setup → Option DhGroup → Type 0) (signs judges : H → H → Setup → Type 0) (accepts : H → ServerHost → List ℕ → List ℕ → Bool) (trusts : H → ServerHost → Bool) (makes : Config → ServerHost → List ℕ → List ℕ → Type 0) (lawful_groups : G → Setup → Type 0) (obliging_groups : G → G → Setup → Type 0) (group : G → GexParams → DhGroup) : Type 0 where
+  pub agreement : (v w : A) (s : Setup) (q : Option DhGroup) → obliging v w s q → lawful v s
   pub lookup : (v w : G) (s : Setup) → obliging_groups v w s → lawful_groups v s
   pub fits : (v w : G) (s : Setup) → obliging_groups v w s → (s.client.gex.min_group_size ≤ bit_size (group v s.client.gex).prime) × (bit_size (group v s.client.gex).prime ≤ s.client.gex.max_group_size)
   pub accepted : (v w : H) (s : Setup) (host : ServerHost) (hash signature : List ℕ) → judges v w s → makes s.server host hash signature → accepts v host hash signature ≡ true
   pub trusted : (v w : H) (s : Setup) (host : ServerHost) (key : HostKey) → judges v w s → Presents s.server host key host.algorithm → trusts v host ≡ true
 
--- where the agreements of both sides are lawful, a part that refuses what it owes doesn't oblige
-pub owes_of : {A H G : Type 0} (lawful : A → Setup → Type 0) (obliging : A → A → Setup → Type 0) (offered : A → KexName → Bool) (client_makes : KexName → Option DhGroup → List ℕ → List ℕ → Type 0) (server_makes : KexName → Option DhGroup → List ℕ → Type 0) (agrees : KexName → Option DhGroup → List ℕ → List ℕ → List ℕ → Type 0) (refusals : A → ℕ)
+-- the group that is due, by what the server's lookup finds
+due_is : (says : Side → Says) (t : Setup) (found : DhGroup) (kex : KexName) (group : Option DhGroup) → kind_by (chosen_by t.client t.server) ≡ is_gex kex → ((g : DhGroup) → (says Server).finds t.client.gex g → g ≡ found) → IsDue says (config_of t) kex group → group_due t found ≡ group
+due_is says t found kex None kind only d = ap (λ (b : Bool). if b then Some found else None) (kind ∙ d)
+due_is says t found kex (Some g) kind only d = ap (λ (b : Bool). if b then Some found else None) (kind ∙ d.0) ∙ ap (λ (q : DhGroup). Some q) (sym (only g d.1))
+
+-- where the agreements of both sides and the server's lookup are lawful, a part that refuses what it owes doesn't oblige
+pub owes_of : {A H G : Type 0} (lawful : A → Setup → Type 0) (obliging : A → A → Setup → Option DhGroup → Type 0) (offered : A → KexName → Bool) (client_makes : KexName → Option DhGroup → List ℕ → List ℕ → Type 0) (server_makes : KexName → Option DhGroup → List ℕ → List ℕ → Type 0) (agrees : KexName → Option DhGroup → List ℕ → List ℕ → List ℕ → Type 0) (refusals : A → ℕ)
     (lawful_hosts : H → Setup → Type 0) (signs judges : H → H → Setup → Type 0) (accepts : H → ServerHost → List ℕ → List ℕ → Bool) (trusts : H → ServerHost → Bool) (makes : Config → ServerHost → List ℕ → List ℕ → Type 0) (refused_sign refused_verify refused_check : H → ℕ)
     (lawful_groups : G → Setup → Type 0) (obliging_groups : G → G → Setup → Type 0) (group : G → GexParams → DhGroup) (refused_lookup : G → ℕ)
     → PartLaws lawful obliging signs judges accepts trusts makes lawful_groups obliging_groups group
-    → (t : Setup) (a b : A) (h i : H) (g j : G) (kex : KexName) (side : Side) (v v' : A) (x x' : H) (y y' : G) → lawful a t → lawful b t → offered v ≡ offered (one_of side a b)
+    → (t : Setup) (a b : A) (h i : H) (g j : G) (kex : KexName) (side : Side) (v v' : A) (x x' : H) (y y' : G) → lawful a t → lawful b t → lawful_groups j t → kind_by (chosen_by t.client t.server) ≡ is_gex kex → offered v ≡ offered (one_of side a b)
     → Owes (says_by (says_of lawful offered client_makes server_makes agrees lawful_hosts signs judges accepts trusts makes lawful_groups group) t a b h i g j) (config_of t) side kex (denies_of obliging offered client_makes server_makes refusals signs judges accepts refused_sign refused_verify obliging_groups refused_lookup v v' x x' y y')
-    (unobliged_of obliging refusals signs judges refused_sign refused_verify refused_check obliging_groups refused_lookup t i v v' x x' y y')
-owes_of lawful obliging offered cm sm ag refusals lh sg jd accepts trusts makes rs rv rc lg og group rl laws t a b h i g j kex Client v v' x x' y y' la lb same = record {
-  start = λ name q f d. (d.0, λ o. d.1 t o (ap (λ (z : KexName → Bool). z name) same ∙ f));
-  value = λ name q l p f m d. (d.0, λ o. d.1 t l o (ap (λ (z : KexName → Bool). z name) same ∙ f) (m t la));
-  reply = λ name q l p w f m n d. (d.0, λ o. d.1 t p o (ap (λ (z : KexName → Bool). z name) same ∙ f) (m t la) (n t lb));
-  lookup = λ e k sizes d. (d.0, λ o. d.1 t o);
+    (unobliged_of obliging refusals signs judges refused_sign refused_verify refused_check obliging_groups group refused_lookup t i j v v' x x' y y')
+owes_of lawful obliging offered cm sm ag refusals lh sg jd accepts trusts makes rs rv rc lg og group rl laws t a b h i g j kex Client v v' x x' y y' la lb lj kind same = record {
+  start = λ name q u k f d. (d.0, λ o. d.1 t (at q u o) k (ap (λ (z : KexName → Bool). z name) same ∙ f));
+  value = λ name q l p u k f m d. (d.0, λ o. d.1 t l (at q u o) k (ap (λ (z : KexName → Bool). z name) same ∙ f) (m t la));
+  reply = λ name q l p w u k f m n d. (d.0, λ o. d.1 t p (at q u o) k (ap (λ (z : KexName → Bool). z name) same ∙ f) (m t la) (n t lb));
+  lookup = λ e k sizes d. (d.0, kind ∙ k, λ o. d.1 t o);
   sign = λ e d. (d.0, λ o. d.1 t refl o);
   verify = λ e host hash signature m d. (d.0, λ later o p. d.1 t o (laws.accepted x x' t host hash signature o (m later t refl p)));
-}
-owes_of lawful obliging offered cm sm ag refusals lh sg jd accepts trusts makes rs rv rc lg og group rl laws t a b h i g j kex Server v v' x x' y y' la lb same = record {
-  start = λ name q f d. (d.0, λ o. d.1 t o (ap (λ (z : KexName → Bool). z name) same ∙ f));
-  value = λ name q l p f m d. (d.0, λ o. d.1 t l o (ap (λ (z : KexName → Bool). z name) same ∙ f) (m t la));
-  reply = λ name q l p w f m n d. (d.0, λ o. d.1 t p o (ap (λ (z : KexName → Bool). z name) same ∙ f) (m t la) (n t lb));
-  lookup = λ e k sizes d. (d.0, λ o. d.1 t o);
+} where
+  at : (q : Option DhGroup) → IsDue (says_by (says_of lawful offered cm sm ag lh sg jd accepts trusts makes lg group) t a b h i g j) (config_of t) kex q → obliging v v' t (group_due t (group j t.client.gex)) → obliging v v' t q
+  at q u o = subst (obliging v v' t) (due_is (says_by (says_of lawful offered cm sm ag lh sg jd accepts trusts makes lg group) t a b h i g j) t (group j t.client.gex) kex q kind (λ z f. (f t lj).0) u) o
+owes_of lawful obliging offered cm sm ag refusals lh sg jd accepts trusts makes rs rv rc lg og group rl laws t a b h i g j kex Server v v' x x' y y' la lb lj kind same = record {
+  start = λ name q u k f d. (d.0, λ o. d.1 t (at q u o) k (ap (λ (z : KexName → Bool). z name) same ∙ f));
+  value = λ name q l p u k f m d. (d.0, λ o. d.1 t l (at q u o) k (ap (λ (z : KexName → Bool). z name) same ∙ f) (m t la));
+  reply = λ name q l p w u k f m n d. (d.0, λ o. d.1 t p (at q u o) k (ap (λ (z : KexName → Bool). z name) same ∙ f) (m t la) (n t lb));
+  lookup = λ e k sizes d. (d.0, kind ∙ k, λ o. d.1 t o);
   sign = λ e d. (d.0, λ o. d.1 t refl o);
   verify = λ e host hash signature m d. (d.0, λ later o p. d.1 t o (laws.accepted x x' t host hash signature o (m later t refl p)));
-}
+} where
+  at : (q : Option DhGroup) → IsDue (says_by (says_of lawful offered cm sm ag lh sg jd accepts trusts makes lg group) t a b h i g j) (config_of t) kex q → obliging v v' t (group_due t (group j t.client.gex)) → obliging v v' t q
+  at q u o = subst (obliging v v' t) (due_is (says_by (says_of lawful offered cm sm ag lh sg jd accepts trusts makes lg group) t a b h i g j) t (group j t.client.gex) kex q kind (λ z f. (f t lj).0) u) o
 
 -- so obliging parts do what they owe: those that are asked are those at the start, after some calls
-pub duties_of : {A H G : Type 0} (lawful : A → Setup → Type 0) (obliging : A → A → Setup → Type 0) (offered : A → KexName → Bool) (client_makes : KexName → Option DhGroup → List ℕ → List ℕ → Type 0) (server_makes : KexName → Option DhGroup → List ℕ → Type 0) (agrees : KexName → Option DhGroup → List ℕ → List ℕ → List ℕ → Type 0) (refusals calls : A → ℕ)
+pub duties_of : {A H G : Type 0} (lawful : A → Setup → Type 0) (obliging : A → A → Setup → Option DhGroup → Type 0) (offered : A → KexName → Bool) (client_makes : KexName → Option DhGroup → List ℕ → List ℕ → Type 0) (server_makes : KexName → Option DhGroup → List ℕ → List ℕ → Type 0) (agrees : KexName → Option DhGroup → List ℕ → List ℕ → List ℕ → Type 0) (refusals calls : A → ℕ)
     (lawful_hosts : H → Setup → Type 0) (signs judges : H → H → Setup → Type 0) (accepts : H → ServerHost → List ℕ → List ℕ → Bool) (trusts : H → ServerHost → Bool) (makes : Config → ServerHost → List ℕ → List ℕ → Type 0) (refused_sign refused_verify refused_check asked : H → ℕ)
     (lawful_groups : G → Setup → Type 0) (obliging_groups : G → G → Setup → Type 0) (group : G → GexParams → DhGroup) (refused_lookup looked : G → ℕ)
     → PartLaws lawful obliging signs judges accepts trusts makes lawful_groups obliging_groups group
     → (t : Setup) (a a' b b' : A) (h h' i i' : H) (g g' j j' : G) (kex : KexName) (side : Side) (v : A) (x : H) (y : G)
-    → obliging a a' t → obliging b b' t → judges h h' t → signs i i' t → lawful_groups j t → (is_gex kex ≡ true → obliging_groups j j' t) → offered (one_of side a b) kex ≡ true
+    → obliging a a' t (group_due t (group j t.client.gex)) → obliging b b' t (group_due t (group j t.client.gex)) → judges h h' t → signs i i' t → lawful_groups j t → kind_by (chosen_by t.client t.server) ≡ is_gex kex → (is_gex kex ≡ true → obliging_groups j j' t) → offered (one_of side a b) kex ≡ true
     → KeepsAgreement lawful obliging offered refusals calls (one_of side a b) v → KeepsHosts lawful_hosts signs judges accepts trusts refused_sign refused_verify refused_check asked (one_of side h i) x → KeepsGroups lawful_groups obliging_groups group refused_lookup looked (one_of side g j) y
     → Duties (says_by (says_of lawful offered client_makes server_makes agrees lawful_hosts signs judges accepts trusts makes lawful_groups group) t a b h i g j) (config_of t) side kex
     (denies_of obliging offered client_makes server_makes refusals signs judges accepts refused_sign refused_verify obliging_groups refused_lookup v (one_of side a' b') x (one_of side h' i') y (one_of side g' j'))
-duties_of lawful obliging offered cm sm ag refusals calls lh sg jd accepts trusts makes rs rv rc asked lg og group rl looked laws t a a' b b' h h' i i' g g' j j' kex Client v x y oa ob jh si lj oj o ka kh kg =
-    let d = owes_of lawful obliging offered cm sm ag refusals lh sg jd accepts trusts makes rs rv rc lg og group rl laws t a b h i g j kex Client v a' x h' y g' (laws.agreement a a' t oa) (laws.agreement b b' t ob) ka.offered_kept in record {
+duties_of lawful obliging offered cm sm ag refusals calls lh sg jd accepts trusts makes rs rv rc asked lg og group rl looked laws t a a' b b' h h' i i' g g' j j' kex Client v x y oa ob jh si lj kind oj o ka kh kg =
+    let d = owes_of lawful obliging offered cm sm ag refusals lh sg jd accepts trusts makes rs rv rc lg og group rl laws t a b h i g j kex Client v a' x h' y g' (laws.agreement a a' t _ oa) (laws.agreement b b' t _ ob) lj kind ka.offered_kept in record {
       offered = o;
       owes = record {
-        start = λ name q f r. (d.start name q f r).1 (ka.obliging_kept a' t oa);
-        value = λ name q l p f m r. (d.value name q l p f m r).1 (ka.obliging_kept a' t oa);
-        reply = λ name q l p w f m n r. (d.reply name q l p w f m n r).1 (ka.obliging_kept a' t oa);
+        start = λ name q u k f r. (d.start name q u k f r).1 (ka.obliging_kept a' t _ oa);
+        value = λ name q l p u k f m r. (d.value name q l p u k f m r).1 (ka.obliging_kept a' t _ oa);
+        reply = λ name q l p w u k f m n r. (d.reply name q l p w u k f m n r).1 (ka.obliging_kept a' t _ oa);
         lookup = λ e. absurd (wrong_side e);
         sign = λ e. absurd (wrong_side e);
         verify = λ e host hash signature m r. (d.verify e host hash signature m r).1 i' (kh.judges_kept h' t jh) si;
@@ -79,14 +90,14 @@ duties_of lawful obliging offered cm sm ag refusals calls lh sg jd accepts trust
     } where
       fits_by : {q : DhGroup} → q ≡ group j t.client.gex → (t.client.gex.min_group_size ≤ bit_size (group j t.client.gex).prime) × (bit_size (group j t.client.gex).prime ≤ t.client.gex.max_group_size) → IsInside t.client.gex q
       fits_by e l = record { least = subst (λ (z : DhGroup). t.client.gex.min_group_size ≤ bit_size z.prime) (sym e) l.0; most = subst (λ (z : DhGroup). bit_size z.prime ≤ t.client.gex.max_group_size) (sym e) l.1 }
-duties_of lawful obliging offered cm sm ag refusals calls lh sg jd accepts trusts makes rs rv rc asked lg og group rl looked laws t a a' b b' h h' i i' g g' j j' kex Server v x y oa ob jh si lj oj o ka kh kg =
-    let d = owes_of lawful obliging offered cm sm ag refusals lh sg jd accepts trusts makes rs rv rc lg og group rl laws t a b h i g j kex Server v b' x i' y j' (laws.agreement a a' t oa) (laws.agreement b b' t ob) ka.offered_kept in record {
+duties_of lawful obliging offered cm sm ag refusals calls lh sg jd accepts trusts makes rs rv rc asked lg og group rl looked laws t a a' b b' h h' i i' g g' j j' kex Server v x y oa ob jh si lj kind oj o ka kh kg =
+    let d = owes_of lawful obliging offered cm sm ag refusals lh sg jd accepts trusts makes rs rv rc lg og group rl laws t a b h i g j kex Server v b' x i' y j' (laws.agreement a a' t _ oa) (laws.agreement b b' t _ ob) lj kind ka.offered_kept in record {
       offered = o;
       owes = record {
-        start = λ name q f r. (d.start name q f r).1 (ka.obliging_kept b' t ob);
-        value = λ name q l p f m r. (d.value name q l p f m r).1 (ka.obliging_kept b' t ob);
-        reply = λ name q l p w f m n r. (d.reply name q l p w f m n r).1 (ka.obliging_kept b' t ob);
-        lookup = λ e k sizes r. (d.lookup e k sizes r).1 (kg.obliging_kept j' t (oj k));
+        start = λ name q u k f r. (d.start name q u k f r).1 (ka.obliging_kept b' t _ ob);
+        value = λ name q l p u k f m r. (d.value name q l p u k f m r).1 (ka.obliging_kept b' t _ ob);
+        reply = λ name q l p w u k f m n r. (d.reply name q l p w u k f m n r).1 (ka.obliging_kept b' t _ ob);
+        lookup = λ e k sizes r. (d.lookup e k sizes r).2 (kg.obliging_kept j' t (oj k));
         sign = λ e r. (d.sign e r).1 (kh.signs_kept i' t si);
         verify = λ e. absurd (wrong_side (sym e));
       };
@@ -96,7 +107,7 @@ duties_of lawful obliging offered cm sm ag refusals calls lh sg jd accepts trust
       fits_by e l = record { least = subst (λ (z : DhGroup). t.client.gex.min_group_size ≤ bit_size z.prime) (sym e) l.0; most = subst (λ (z : DhGroup). bit_size z.prime ≤ t.client.gex.max_group_size) (sym e) l.1 }
 
 -- what lawful parts make is small
-pub small_of : {A H G : Type 0} (lawful : A → Setup → Type 0) (offered : A → KexName → Bool) (client_makes : KexName → Option DhGroup → List ℕ → List ℕ → Type 0) (server_makes : KexName → Option DhGroup → List ℕ → Type 0) (agrees : KexName → Option DhGroup → List ℕ → List ℕ → List ℕ → Type 0)
+pub small_of : {A H G : Type 0} (lawful : A → Setup → Type 0) (offered : A → KexName → Bool) (client_makes : KexName → Option DhGroup → List ℕ → List ℕ → Type 0) (server_makes : KexName → Option DhGroup → List ℕ → List ℕ → Type 0) (agrees : KexName → Option DhGroup → List ℕ → List ℕ → List ℕ → Type 0)
     (lawful_hosts : H → Setup → Type 0) (signs judges : H → H → Setup → Type 0) (accepts : H → ServerHost → List ℕ → List ℕ → Bool) (trusts : H → ServerHost → Bool) (makes : Config → ServerHost → List ℕ → List ℕ → Type 0)
     (lawful_groups : G → Setup → Type 0) (group : G → GexParams → DhGroup)
     → ((v : G) (s : Setup) → lawful_groups v s → IsSmall (group v s.client.gex).prime × IsSmall (group v s.client.gex).generator)

@@ -1,12 +1,14 @@
 -- What a stage keeps is what stands in the messages of the exchange so far.
-use Rattle.std.specs.Prelude.{◌≡◌, ℕ, ◌<◌, ◌^◌, List, [], ◌∷◌, ◌++◌, length, true, is_some, Option, IfSome, Ok, ◌⊎◌}
+use Rattle.std.specs.Prelude.{◌≡◌, ℕ, ◌<◌, ◌^◌, List, [], ◌∷◌, ◌++◌, length, true, is_some, Option, None, Some, IfSome, Ok, ◌⊎◌}
 use Rattle.ssh_negotiate.specs.Advertised.{kexinit}
 use Rattle.ssh_negotiate.specs.Causes.{was_strict}
 use Rattle.ssh_negotiate.specs.Reading.{names_read}
+use Rattle.ssh_negotiate.specs.declared.kex.Name.{Name as KexName}
 use Rattle.ssh_negotiate.specs.declared.negotiation.Names.{Names}
 use Rattle.ssh_wire.specs.declared.side.Side.{Side}
 use Rattle.ssh_wire.specs.declared.side.Side.TheVariants.{Client, Server}
 use Rattle.ssh_kex.specs.Messages.{is_gex, newkeys, value_message, request_message}
+use Rattle.ssh_kex.specs.Parts.{HasItsGroup}
 use Rattle.ssh_kex.specs.Setting.{Says, Setting, Opened, IsShortGroup, offers_of, group_of, behind_guess}
 use Rattle.ssh_kex.specs.Stages.{Stage, Created, AwaitsGroup, AwaitsReply, AwaitsRequest, AwaitsValue, AwaitsNewkeys}
 use Rattle.ssh_kex.specs.declared.config.Config.{Config}
@@ -109,3 +111,8 @@ FitsWhere says s (Inside stage) own theirs = FitsStage says s stage own theirs
 
 abbrev pub Fits : Says → Side → Config → List ℕ → SideState → Trace → Type 0
 Fits says side config own_id st t = FitsWhere says (setting side config own_id st) st.stands (t.own ++ st.owed) t.theirs
+
+-- the group that is held of an exchange of its kind
+pub its_group : (name : KexName) (gex : Option GexChosen) → is_gex name ≡ is_some gex → HasItsGroup name (group_of gex)
+its_group name None k = k
+its_group name (Some g) k = k

@@ -2,10 +2,10 @@ use Rattle.std.proofs.Common.{◌≡◌, true, subst}
 use Rattle.ssh_wire.specs.Outside.{Rose}
 use Rattle.ssh_kex.specs.Agreeing.{Agreeing}
 use Rattle.ssh_client_kex.specs.ClientRows.{ClientRefusesValue}
-use Rattle.ssh_kex.specs.Parts.{IsSmall, Setup}
+use Rattle.ssh_kex.specs.Parts.{HasItsGroup, IsSmall, Setup}
 use Rattle.ssh_client_kex.proofs.client_kex.answer_group.Goals as goal
 
 pub returns-clause-err : goal.returns-clause-err
 returns-clause-err g c =
-    subst (λ (k : Agreeing). ClientRefusesValue (λ l v. (s : Setup) → g.A.Agreement.lawful c.args.agreement.now s → g.A.Agreement.client_makes k.name k.group l v) (λ v. (s : Setup) → g.A.Agreement.lawful c.args.agreement.now s → IsSmall v) (Rose (g.A.Agreement.refusals c.args.agreement.now) (g.A.Agreement.refusals c.send_value-sent.new.agreement) × ((s : Setup) → g.A.Agreement.obliging c.args.agreement.now c.send_value-sent.new.agreement s → g.A.Agreement.offered c.args.agreement.now k.name ≡ true → ⊥)) c.in-Err-sent.error)
+    subst (λ (k : Agreeing). ClientRefusesValue (λ l v. (s : Setup) → g.A.Agreement.lawful c.args.agreement.now s → g.A.Agreement.client_makes k.name k.group l v) (λ v. (s : Setup) → g.A.Agreement.lawful c.args.agreement.now s → IsSmall v) (Rose (g.A.Agreement.refusals c.args.agreement.now) (g.A.Agreement.refusals c.send_value-sent.new.agreement) × ((s : Setup) → g.A.Agreement.obliging c.args.agreement.now c.send_value-sent.new.agreement s k.group → HasItsGroup k.name k.group → g.A.Agreement.offered c.args.agreement.now k.name ≡ true → ⊥)) c.in-Err-sent.error)
     c.in-Ok.ensures.ok c.in-Err-sent.ensures.err

@@ -1,5 +1,6 @@
-use Rattle.std.proofs.Common.{subst}
+use Rattle.std.proofs.Common.{ap, subst}
 use Rattle.ssh_kex.specs.Parts.{KeepsHosts}
+use Rattle.ssh_rules.specs.Headline.{kind_by}
 use Rattle.ssh_rules.specs.Refused.{one_of}
 use Rattle.ssh_rules.specs.Refusing.{untrusted_of}
 use Rattle.ssh_rules.proofs.refusals.LinkCauses.{none_in_link}
@@ -9,8 +10,8 @@ use Rattle.ssh_rules.proofs.laws.none_refused_in_link.Goals as goal
 
 pub returns : goal.returns
 returns g c = λ t a a' b b' h h' i i' gr gr' j j' names w cl sl side took piece old new v x y error oa ob jh si oj valid offers ka kh kg r.
-    let la = g.met.A.Agreement.obliging_lawful a a' t oa in
-    let lb = g.met.A.Agreement.obliging_lawful b b' t ob in
+    let la = g.met.A.Agreement.obliging_lawful a a' t _ oa in
+    let lb = g.met.A.Agreement.obliging_lawful b b' t _ ob in
     let lh = g.met.H.HostKeys.judges_lawful h h' t jh in
     let li = g.met.H.HostKeys.signs_lawful i i' t si in
     let lj = g.met.G.GroupLookup.obliging_lawful j j' t oj in
@@ -24,7 +25,7 @@ returns g c = λ t a a' b b' h h' i i' gr gr' j j' names w cl sl side took piece
     })
     (duties_of _ _ _ _ _ _ _ _ _ _ _ _ _ _ _ _ _ _ _ _ _ _ _
     (record { agreement = g.met.A.Agreement.obliging_lawful; lookup = g.met.G.GroupLookup.obliging_lawful; fits = g.met.G.GroupLookup.fitting; accepted = g.met.H.HostKeys.judges_accepts; trusted = g.met.H.HostKeys.judges_trusts })
-    t a a' b b' h h' i i' gr gr' j j' names.kex side v x y oa ob jh si lj (λ k. oj) offers ka kh kg)
+    t a a' b b' h h' i i' gr gr' j j' names.kex side v x y oa ob jh si lj (ap kind_by valid.chosen) (λ k. oj) offers ka kh kg)
     (small_of g.A.Agreement.lawful g.A.Agreement.offered g.A.Agreement.client_makes g.A.Agreement.server_makes g.A.Agreement.agrees g.H.HostKeys.lawful g.H.HostKeys.signs g.H.HostKeys.judges g.H.HostKeys.accepts g.H.HostKeys.trusts g.H.HostKeys.makes g.G.GroupLookup.lawful g.G.GroupLookup.group g.met.G.GroupLookup.small t a b h i gr j side la lb lh li lj)
     (λ host key client p d.
     let k = subst (λ z. KeepsHosts g.H.HostKeys.lawful g.H.HostKeys.signs g.H.HostKeys.judges g.H.HostKeys.accepts g.H.HostKeys.trusts g.H.HostKeys.refused_sign g.H.HostKeys.refused_verify g.H.HostKeys.refused_check g.H.HostKeys.calls (one_of z h i) x) client kh in

@@ -34,7 +34,7 @@ returns-clause-link g c = λ la lb lg.
     let sizes = of_sides (λ s. HasSizes (config_of t s)) c.see_types.ensures.sizes c.see_types-2.ensures.sizes in
     if_told (IsLink g.A.Agreement.client_makes g.A.Agreement.server_makes g.A.Agreement.agrees c.args.client.now c.args.server.now c.args.steps.now) c.carry_steps.result c.carry_steps.ensures.client c.carry_steps.ensures.server c.carry_steps.ensures.few c.carry_steps.ensures.carried
     (λ r v w few k. carried_is_link says (config_of t) g.A.Agreement.client_makes g.A.Agreement.server_makes g.A.Agreement.agrees c.args.steps.now r (of_sides (λ s. config_fault s (config_of t s) ≡ None) v w) sizes (of_sides (λ s. IsWholeId (config_of t s)) (whole_id Client c.args.client.now v c.see_types.ensures.text) (whole_id Server c.args.server.now w c.see_types-2.ensures.text)) few
-    (record { for_client = λ name group local public e. e t la; for_server = λ name group public e. e t lb; for_secret = λ name group x y secret e. e t la })
+    (record { for_client = λ name group local public e. e t la; for_server = λ name group client public e. e t lb; for_secret = λ name group x y secret e. e t la })
     (λ name group local client server p q cm sm cp sq. g.met.A.Agreement.one_secret a t name group local client server p q la (cm t la) (sm t lb) (cp t la) (sq t lb))
     (λ sizes group f. (f t lg).1)
     k)
@@ -78,7 +78,7 @@ pub returns-clause-causes : goal.returns-clause-causes
 returns-clause-causes g c = λ la lb lh li lg.
     let t : Setup = record { client = c.args.client.now; server = c.args.server.now } in
     let tell : Side → Telling = tells_by (telling_of g.A.Agreement.lawful g.A.Agreement.obliging g.A.Agreement.offered g.A.Agreement.client_makes g.A.Agreement.server_makes g.A.Agreement.agrees g.A.Agreement.refusals g.H.HostKeys.lawful g.H.HostKeys.signs g.H.HostKeys.judges g.H.HostKeys.accepts g.H.HostKeys.trusts g.H.HostKeys.makes g.H.HostKeys.refused_sign g.H.HostKeys.refused_verify g.H.HostKeys.refused_check g.G.GroupLookup.lawful g.G.GroupLookup.obliging g.G.GroupLookup.group g.G.GroupLookup.refusals c.args.client.now c.args.client_parts.now.agreement c.carry_steps.new.client_parts.agreement c.args.client_parts.now.hosts c.carry_steps.new.client_parts.hosts c.args.client_parts.now.groups c.carry_steps.new.client_parts.groups) (telling_of g.A.Agreement.lawful g.A.Agreement.obliging g.A.Agreement.offered g.A.Agreement.client_makes g.A.Agreement.server_makes g.A.Agreement.agrees g.A.Agreement.refusals g.H.HostKeys.lawful g.H.HostKeys.signs g.H.HostKeys.judges g.H.HostKeys.accepts g.H.HostKeys.trusts g.H.HostKeys.makes g.H.HostKeys.refused_sign g.H.HostKeys.refused_verify g.H.HostKeys.refused_check g.G.GroupLookup.lawful g.G.GroupLookup.obliging g.G.GroupLookup.group g.G.GroupLookup.refusals c.args.server.now c.args.server_parts.now.agreement c.carry_steps.new.server_parts.agreement c.args.server_parts.now.hosts c.carry_steps.new.server_parts.hosts c.args.server_parts.now.groups c.carry_steps.new.server_parts.groups) in
-    let un = unobliged_of g.A.Agreement.obliging g.A.Agreement.refusals g.H.HostKeys.signs g.H.HostKeys.judges g.H.HostKeys.refused_sign g.H.HostKeys.refused_verify g.H.HostKeys.refused_check g.G.GroupLookup.obliging g.G.GroupLookup.refusals t c.args.server_parts.now.hosts in
+    let un = unobliged_of g.A.Agreement.obliging g.A.Agreement.refusals g.H.HostKeys.signs g.H.HostKeys.judges g.H.HostKeys.refused_sign g.H.HostKeys.refused_verify g.H.HostKeys.refused_check g.G.GroupLookup.obliging g.G.GroupLookup.group g.G.GroupLookup.refusals t c.args.server_parts.now.hosts c.args.server_parts.now.groups in
     let rises : Side → Rises = rises_by (un c.args.client_parts.now.agreement c.carry_steps.new.client_parts.agreement c.args.client_parts.now.hosts c.carry_steps.new.client_parts.hosts c.args.client_parts.now.groups c.carry_steps.new.client_parts.groups) (un c.args.server_parts.now.agreement c.carry_steps.new.server_parts.agreement c.args.server_parts.now.hosts c.carry_steps.new.server_parts.hosts c.args.server_parts.now.groups c.carry_steps.new.server_parts.groups) in
     let sizes = of_sides (λ s. HasSizes (config_of t s)) c.see_types.ensures.sizes c.see_types-2.ensures.sizes in
     let a = c.args.client_parts.now.agreement in

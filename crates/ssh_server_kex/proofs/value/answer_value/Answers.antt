@@ -37,8 +37,8 @@ returns-in-Err-Refused-clause-causes g c =
 pub returns-clause-causes : goal.returns-clause-causes
 returns-clause-causes g c =
     reply_refused _ _ _ _ _ _ c.args.base.now.config.now c.args.names.now _ c.agree.new.exchange c.args.payload.now _
-    c.in_ok-algorithm.algorithm _ c.in-Ok.value.now c.in-Ok-sign.signature c.as_slice-2.result.now c.as_slice-3.result.now c.as_slice-4.result.now c.as_slice-5.result.now _
-    c.is_gex-is_gex.ensures c.in-Ok.ensures.ok.0 c.in-Ok.ensures.ok.1
+    c.in_ok-algorithm.algorithm _ c.in-Ok.value.now c.in_ok-base.field-0 c.in-Ok-sign.signature c.as_slice-2.result.now c.as_slice-3.result.now c.as_slice-4.result.now c.as_slice-5.result.now _
+    c.is_gex-is_gex.ensures c.in-Ok.ensures.ok.0 c.in-Ok.ensures.ok.1 c.in_ok-base.ensures
     c.in_ok-algorithm.ensures.ok (λ v w m s l. (m s l).0) (λ v w m s l. (m s l).2) c.in-Ok-sign.ensures.small
     c.in-Some.ensures
     c.as_slice-2.ensures c.as_slice-3.ensures (let e = c.as_slice-4.ensures in let v = c.signature.view_is in cc) (c.as_slice-5.ensures.value ∙ c.in_ok-reply.ensures.ok) c.in-Err-put_both.ensures.causes
