@@ -48,6 +48,16 @@ pub record HasPublicValue (group : DhGroup) (exponent public : List ℕ) : Type 
   pub power : number public ≡ field_power group group.generator exponent
   pub good : is_public_value (number group.prime) public ≡ true
 
+-- an agreement takes a group: its prime is a modulus, and no power of its generator is 0
+pub record IsTaken (group : DhGroup) : Type 0 where
+  pub modulus : modulus_fault (number group.prime) ≡ None
+  pub powers : (exponent : ℕ) → power_modulo (number group.generator) exponent (number group.prime) ≡ 0 → ⊥
+
+-- it takes the group that is handed over; of a name's own group nothing is asked
+abbrev pub TakesGroup : Option DhGroup → Type 0
+TakesGroup None = Unit {0}
+TakesGroup (Some group) = IsTaken group
+
 -- what one side reckons of the next 64 drawn bytes is 0, which is no public value
 abbrev pub DrawsZero : DhGroup → Stream → Type 0
 DrawsZero group before = field_power group group.generator (fill_bytes 64 before).0 ≡ 0
@@ -85,9 +95,9 @@ pub record SpellsIn (name : Name) (group : Option DhGroup) (exponent public secr
   pub found : field_group name group ≡ Some at
   pub secret_is : SpellsSecret at secret (field_power at public exponent)
 
--- what a server makes, of some exponent
-abbrev pub ServerPublic : Name → Option DhGroup → List ℕ → Type 0
-ServerPublic name group public = (exponent : List ℕ) × MakesPublic name group exponent public
+-- what a server makes, of some exponent, whatever the client's value is
+abbrev pub ServerPublic : Name → Option DhGroup → List ℕ → List ℕ → Type 0
+ServerPublic name group client public = (exponent : List ℕ) × MakesPublic name group exponent public
 
 -- the secret of both public values, reckoned by the client's exponent or by the server's
 pub record AgreesInField (name : Name) (group : Option DhGroup) (client server secret : List ℕ) : Type 0 where

@@ -30,8 +30,8 @@ one_spelling : (g : DhGroup) (a b : List ℕ) (n : ℕ) → SpellsSecret g a n �
 one_spelling g a b n p q = same_digits a b p.digits q.digits (p.long ∙ sym q.long) (p.spelled ∙ sym q.spelled)
 
 pub one_secret : {name : Name} {group : Option DhGroup} {local client server x y : List ℕ}
-    → MakesPublic name group local client → ServerPublic name group server → AgreesInField name group client server x
-    → AgreesInField name group client server y → x ≡ y
+    → MakesPublic name group local client → ServerPublic name group client server
+    → AgreesInField name group client server x → AgreesInField name group client server y → x ≡ y
 one_secret {name} {group} {local} {client} {server} {x} {y} c s a b =
     let e : a.at ≡ c.at = let z : Some a.at ≡ Some c.at = sym a.found ∙ c.found in cc in
     let f : b.at ≡ c.at = let z : Some b.at ≡ Some c.at = sym b.found ∙ c.found in cc in

@@ -1,11 +1,12 @@
 //! A key agreement in finite fields.
 
-ghost use Rattle.std.specs.Prelude.{◌≡◌, ℕ, List, IfOk};
+ghost use Rattle.std.specs.Prelude.{◌≡◌, ℕ, List, IfOk, true};
 ghost use Rattle.std.specs.Option.{option_copied};
-ghost use Rattle.ssh_kex.specs.Parts.{IsRefused, IsSmall, IsValue};
+ghost use Rattle.ssh_kex.specs.Parts.{HasItsGroup, IsRefused, IsSmall, IsValue};
 ghost use Rattle.ssh_modp.specs.Counts.{CountsAnswer};
 ghost use Rattle.ssh_modp.specs.Fields.{AgreesInField, FieldClientDraws, FieldServerDraws, LacksAgreed, LacksPublic};
-ghost use Rattle.ssh_modp.specs.Fields.{LacksSecretOf, MakesPublic, ServerPublic, SpellsIn, field_group, group_seen};
+ghost use Rattle.ssh_modp.specs.Fields.{LacksSecretOf, MakesPublic, ServerPublic, SpellsIn, TakesGroup, field_group};
+ghost use Rattle.ssh_modp.specs.Fields.{group_seen, is_field_name};
 
 use crate::counts::one_more;
 use crate::field::{agreed_in, own_value, secret_of};
@@ -19,7 +20,7 @@ use std::marker::Model;
 
 /// Agrees in the groups 14, 15 and 16 of RFC 3526, and in those that a group exchange finds. A group is refused whose
 /// prime is no odd number from 3 on of at most 8192 bits, and a value that isn't the body of an `mpint` from 1 on and
-/// below the prime (RFC 4253 section 8).
+/// below the prime (RFC 4253 section 8). An own value of 0 is refused too: in the groups of RFC 3526 none is.
 ///
 /// Nothing is promised of its time: it depends on the exponents.
 #[derive(Debug, Drop)]
@@ -108,7 +109,7 @@ fn secret_in(
 
 impl Agreement for FieldAgreement {
     ghost use Rattle.std.specs.Prelude.{◌≡◌};
-    ghost use Rattle.ssh_modp.specs.Fields.{AgreesInField, FieldClientDraws, FieldServerDraws, MakesPublic, ServerPublic, is_field_name};
+    ghost use Rattle.ssh_modp.specs.Fields.{AgreesInField, FieldClientDraws, FieldServerDraws, MakesPublic, ServerPublic, TakesGroup, is_field_name};
     ghost use Rattle.ssh_modp.specs.OneSecret.{one_secret};
 
     ghost offered = { λ v name. is_field_name name };
@@ -125,7 +126,7 @@ impl Agreement for FieldAgreement {
 
     ghost lawful = { λ v s. Unit {0} };
 
-    ghost obliging = { λ v later s. ⊥ };
+    ghost obliging = { λ v later s group. TakesGroup group };
 
     ghost refusals = { λ v. v.refusals };
 
@@ -133,7 +134,7 @@ impl Agreement for FieldAgreement {
 
     ghost one_secret = { λ v s name group local client server x y l c r a b. one_secret c r a b };
 
-    ghost obliging_lawful = { λ v later s o. absurd o };
+    ghost obliging_lawful = { λ v later s group o. tt };
 
     fn offers(&self, name: kex::Name) -> bool {
         name.shape().gex || fixed_prime(name).is_some()
@@ -151,6 +152,8 @@ impl Agreement for FieldAgreement {
         ensures made { IfOk result (λ v. MakesPublic name (option_copied group.entry) v.local v.public
             × IsSmall v.public × IsSmall v.local) }
         ensures refused { IsRefused result → LacksPublic name (option_copied group.entry) (R.stream rng.old) }
+        ensures never { TakesGroup (option_copied group.entry) → HasItsGroup name (option_copied group.entry)
+            → is_field_name name ≡ true → IsRefused result → ⊥ }
         ensures values { IfOk result (λ v. IsValue v.public × IsValue v.local) }
         ensures after { CountsAnswer self.old self.new result }
     {
@@ -171,11 +174,14 @@ impl Agreement for FieldAgreement {
     ) -> Result<Agreed, Refusal>
         ensures drawn { IfOk result (λ v. FieldServerDraws name (option_copied group.entry) client_public.now
             (R.stream rng.old) v.public v.secret (R.stream rng.new)) }
-        ensures made { IfOk result (λ v. ServerPublic name (option_copied group.entry) v.public
+        ensures made { IfOk result (λ v. ServerPublic name (option_copied group.entry) client_public.now v.public
             × AgreesInField name (option_copied group.entry) client_public.now v.public v.secret × IsSmall v.public
             × IsSmall v.secret) }
         ensures refused { IsRefused result → LacksAgreed name (option_copied group.entry) client_public.now
             (R.stream rng.old) }
+        ensures never { (local : List ℕ) → TakesGroup (option_copied group.entry)
+            → HasItsGroup name (option_copied group.entry) → is_field_name name ≡ true
+            → MakesPublic name (option_copied group.entry) local client_public.now → IsRefused result → ⊥ }
         ensures values { IfOk result (λ v. IsValue v.public × IsValue v.secret) }
         ensures after { CountsAnswer self.old self.new result }
     {
@@ -198,6 +204,10 @@ impl Agreement for FieldAgreement {
             → IfOk result (λ v. AgreesInField name (option_copied group.entry) public server_public.now v
             × IsSmall v) }
         ensures refused { IsRefused result → LacksSecretOf name (option_copied group.entry) server_public.now }
+        ensures never { (public : List ℕ) → TakesGroup (option_copied group.entry)
+            → HasItsGroup name (option_copied group.entry) → is_field_name name ≡ true
+            → MakesPublic name (option_copied group.entry) local.now public
+            → ServerPublic name (option_copied group.entry) public server_public.now → IsRefused result → ⊥ }
         ensures values { IfOk result (λ v. IsValue v) }
         ensures after { CountsAnswer self.old self.new result }
     {

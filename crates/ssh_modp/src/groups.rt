@@ -3,6 +3,7 @@
 ghost use Rattle.std.specs.Prelude.{◌≡◌, [], ◌∷◌, IfOk, IfErr};
 ghost use Rattle.ssh_kex.specs.Parts.{IsValue};
 ghost use Rattle.ssh_kex.specs.declared.parts.Refusal.TheVariants.{Memory};
+ghost use Rattle.ssh_modp.specs.Fields.{IsTaken};
 ghost use Rattle.ssh_modp.specs.Groups.{modp_group, prime_for};
 
 use crate::primes::{prime_14, prime_15, prime_16};
@@ -44,6 +45,7 @@ impl GroupLookup for ModpGroups {
         gex_params: &GexParams,
     ) -> Result<DhGroup, Refusal>
         ensures exact { IfOk result (λ g. g ≡ modp_group gex_params.now) }
+        ensures taken { IfOk result (λ g. IsTaken g) }
         ensures values { IfOk result (λ g. IsValue g.prime × IsValue g.generator) }
         ensures err { IfErr result (λ e. e ≡ Memory) }
     {

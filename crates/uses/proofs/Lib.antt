@@ -4,3 +4,4 @@ pub mod Joining
 pub mod FedAlike
 pub mod Settling
 pub mod Granting
+pub mod Masking

@@ -6,3 +6,4 @@ pub mod FedAlike
 pub mod TwoSides
 pub mod Settled
 pub mod Granted
+pub mod Encapsulating

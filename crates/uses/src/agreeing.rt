@@ -1,8 +1,9 @@
 //! A client and a server that agree on a secret, whatever the types of their parts are.
 
-ghost use Rattle.std.specs.Prelude.{◌≡◌, ◌≤◌, true, IfOk, OnOk};
-ghost use Rattle.ssh_kex.specs.Messages.{bit_size};
-ghost use Rattle.ssh_kex.specs.Parts.{IsRefused, Presents, Setup};
+ghost use Rattle.std.specs.Option.{option_copied};
+ghost use Rattle.std.specs.Prelude.{◌≡◌, ◌≤◌, true, IfOk, OnOk, Some};
+ghost use Rattle.ssh_kex.specs.Messages.{bit_size, is_gex};
+ghost use Rattle.ssh_kex.specs.Parts.{HasItsGroup, IsRefused, Presents, Setup};
 ghost use Rattle.ssh_negotiate.specs.declared.preferred.HostKey.{HostKey};
 
 use rand_core::Rng;
@@ -19,7 +20,8 @@ pub struct Secrets {
 }
 
 /// Makes a value on each side, and the secret on each side. They are one where both agreements are lawful under some
-/// setup. Nothing is refused where both are obliging and offer the name.
+/// setup. Nothing is refused where both are obliging in the group, offer the name, and a group is handed over in a
+/// group exchange alone.
 pub fn agree<A: Agreement, R: Rng>(
     alloc: Global,
     client: &mut A,
@@ -31,8 +33,10 @@ pub fn agree<A: Agreement, R: Rng>(
 ) -> Result<Secrets, Refusal>
     ensures one { (s : Setup) → A.lawful client.old s → A.lawful server.old s
         → IfOk result (λ v. v.client ≡ v.server) }
-    ensures never { (s : Setup) → A.obliging client.old client.new s → A.obliging server.old server.new s
-        → A.offered client.old name ≡ true → A.offered server.old name ≡ true → IsRefused result → ⊥ }
+    ensures never { (s : Setup) → A.obliging client.old client.new s (option_copied group.entry)
+        → A.obliging server.old server.new s (option_copied group.entry)
+        → HasItsGroup name (option_copied group.entry) → A.offered client.old name ≡ true
+        → A.offered server.old name ≡ true → IsRefused result → ⊥ }
 {
     let started = client.client_start(alloc, name, group, client_rng)?;
     let agreed = server.server_agree(alloc, name, group, started.public.as_slice(), server_rng)?;
@@ -51,7 +55,8 @@ pub fn agree<A: Agreement, R: Rng>(
 
 /// Looks up a group on the server's side, judges the host on the client's, and agrees in that group. Where both
 /// agreements are lawful under some setup the secrets are one. Where all parts are obliging under a setup whose server
-/// presents the host, nothing is refused; where the sizes are its client's the group is within them.
+/// presents the host, the agreements in the group that the lookup finds, and the name is a group exchange's, nothing is
+/// refused; where the sizes are its client's the group is within them.
 pub fn agree_in_group<A: Agreement, H: HostKeys, G: GroupLookup, R: Rng>(
     alloc: Global,
     client: &mut Parts<A, H, G, R>,
@@ -67,8 +72,9 @@ pub fn agree_in_group<A: Agreement, H: HostKeys, G: GroupLookup, R: Rng>(
         → IfOk result (λ v. (sizes.now.min_group_size ≤ bit_size v.0.prime)
         × (bit_size v.0.prime ≤ sizes.now.max_group_size)) }
     ensures never { (s : Setup) (key : HostKey)
-        → A.obliging client.old.agreement client.new.agreement s
-        → A.obliging server.old.agreement server.new.agreement s
+        → A.obliging client.old.agreement client.new.agreement s (Some (G.group server.old.groups sizes.now))
+        → A.obliging server.old.agreement server.new.agreement s (Some (G.group server.old.groups sizes.now))
+        → is_gex name ≡ true
         → H.judges client.old.hosts client.new.hosts s → G.obliging server.old.groups server.new.groups s
         → A.offered client.old.agreement name ≡ true → A.offered server.old.agreement name ≡ true
         → Presents s.server host.now key host.now.algorithm → IsRefused result → ⊥ }

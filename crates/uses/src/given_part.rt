@@ -80,7 +80,7 @@ impl Agreement for GivenAgreement {
 
     ghost client_makes = { λ name group local public. ⊥ };
 
-    ghost server_makes = { λ name group public. ⊥ };
+    ghost server_makes = { λ name group client public. ⊥ };
 
     ghost agrees = { λ name group client server secret. ⊥ };
 
@@ -90,7 +90,7 @@ impl Agreement for GivenAgreement {
 
     ghost lawful = { λ given setup. ⊥ };
 
-    ghost obliging = { λ given later setup. ⊥ };
+    ghost obliging = { λ given later setup group. ⊥ };
 
     ghost refusals = { λ given. 0 };
 
@@ -153,7 +153,7 @@ impl Agreement for GivenAgreement {
 
     ghost one_secret = { λ v s name group local client server x y lawful. absurd lawful };
 
-    ghost obliging_lawful = { λ v later s obliging. obliging };
+    ghost obliging_lawful = { λ v later s group obliging. obliging };
 }
 
 /// Signs by the signatures of exchanges, one after the other, whatever it is asked, the last one again and again;

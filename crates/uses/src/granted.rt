@@ -3,6 +3,7 @@
 ghost use Rattle.std.specs.Prelude.{◌≡◌, ◌∷◌, [], List, IfErr, IfOk, OnOk, map, true};
 ghost use Rattle.ssh_kex.specs.Parts.{between};
 ghost use Rattle.ssh_rules.specs.Headline.{chosen_by, kind_by};
+ghost use Rattle.ssh_rules.specs.Refused.{group_due};
 ghost use Rattle.ssh_rules.specs.RunLaws.{config_of};
 ghost use Rattle.ssh_run.specs.RunCauses.{IsValidRun, offered_on};
 ghost use Rattle.ssh_service.specs.Answers.{StandsFor};
@@ -51,7 +52,9 @@ pub fn ask_for_service<A: Agreement, H: HostKeys, G: GroupLookup, R: Rng>(
         (offered_on (A.offered parts.old.0.agreement) (A.offered parts.old.1.agreement)) []
         → IsServiceName name.now
         → A.obliging parts.old.0.agreement parts.new.0.agreement (between client.now server.now)
+        (group_due (between client.now server.now) (G.group parts.old.1.groups client.now.gex))
         → A.obliging parts.old.1.agreement parts.new.1.agreement (between client.now server.now)
+        (group_due (between client.now server.now) (G.group parts.old.1.groups client.now.gex))
         → H.judges parts.old.0.hosts parts.new.0.hosts (between client.now server.now)
         → H.signs parts.old.1.hosts parts.new.1.hosts (between client.now server.now)
         → G.lawful parts.old.1.groups (between client.now server.now)

@@ -4,6 +4,7 @@
 mod agreeing;
 mod attacked;
 mod ciphers;
+mod encapsulating;
 mod given_part;
 mod granted;
 mod known_hosts;
@@ -18,6 +19,7 @@ mod two_sides;
 pub use crate::agreeing::{Secrets, agree, agree_in_group};
 pub use crate::attacked::attack_twice;
 pub use crate::ciphers::ciphers_of_both;
+pub use crate::encapsulating::MaskedAgreement;
 pub use crate::given_part::{GivenAgreement, GivenGroups, GivenHosts};
 pub use crate::granted::{Granted, ask_for_service};
 pub use crate::known_hosts::KnownHosts;

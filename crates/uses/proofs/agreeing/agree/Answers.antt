@@ -16,12 +16,13 @@ is_refused {T} U (Err x) e h k = subst (λ z. IsRefused (let q : Result U Refusa
   by Memory l = l
 
 pub returns-in_err-secret-clause-never : goal.returns-in_err-secret-clause-never
-returns-in_err-secret-clause-never g c = λ s oc os f h r.
-    let la = g.met.A.Agreement.obliging_lawful c.args.client.now c.client_agree.new.self s oc in
-    let ls = g.met.A.Agreement.obliging_lawful c.args.server.now c.server_agree.new.self s os in
+returns-in_err-secret-clause-never g c = λ s oc os i f h r.
+    let la = g.met.A.Agreement.obliging_lawful c.args.client.now c.client_agree.new.self s _ oc in
+    let ls = g.met.A.Agreement.obliging_lawful c.args.server.now c.server_agree.new.self s _ os in
     let m = c.in_ok-started.ensures.made s la in
     let n = c.in_ok-agreed.ensures.made s ls in
-    c.in_err-secret.ensures.never s c.in_ok-started.started.public (c.client_start.ensures.keeps.obliging_kept c.client_agree.new.self s oc) (ap (λ (z : KexName → Bool). z c.args.name) c.client_start.ensures.keeps.offered_kept ∙ f)
+    c.in_err-secret.ensures.never s c.in_ok-started.started.public (c.client_start.ensures.keeps.obliging_kept c.client_agree.new.self s _ oc) i (ap (λ (z : KexName → Bool). z c.args.name) c.client_start.ensures.keeps.offered_kept ∙ f)
     (subst (λ z. g.A.Agreement.client_makes c.args.name (option_copied c.args.group) z c.in_ok-started.started.public) (sym c.as_slice-2.ensures) m.0)
-    (subst (λ z. g.A.Agreement.server_makes c.args.name (option_copied c.args.group) z) (sym c.as_slice-3.ensures) n.0)
+    (subst (λ z. g.A.Agreement.server_makes c.args.name (option_copied c.args.group) c.in_ok-started.started.public z) (sym c.as_slice-3.ensures)
+    (subst (λ z. g.A.Agreement.server_makes c.args.name (option_copied c.args.group) z c.in_ok-agreed.agreed.public) c.as_slice.ensures n.0))
     (is_refused (List ℕ) c.from_residual-in_err-secret.result c.in_err-secret.field-0.0 c.from_residual-in_err-secret.ensures.1 r)

@@ -15,7 +15,7 @@ returns-in_err-report-clause-complete g c valid is oa ob jh sh lg og =
 pub returns-in_err-told-clause-complete : goal.returns-in_err-told-clause-complete
 returns-in_err-told-clause-complete g c valid is oa ob jh sh lg og =
     let all = linked_so _ _ _ _ _ _ c.args.name.now c.args.extensions _ (c.as_slice.ensures.value ∙ c.in_ok-steps.ensures.ok)
-    (c.in_ok-report.ensures.link (g.met.A.Agreement.obliging_lawful _ _ _ oa) (g.met.A.Agreement.obliging_lawful _ _ _ ob) lg) in
+    (c.in_ok-report.ensures.link (g.met.A.Agreement.obliging_lawful _ _ _ _ oa) (g.met.A.Agreement.obliging_lawful _ _ _ _ ob) lg) in
     let p = err_from_is_err_and c.from_residual-in_err-told.result c.from_residual-in_err-told.ensures.1 in
     rw (p.1, p.2)
     ((c.in_err-told.ensures.again (Info c.args.extensions ∷ Accept c.args.name.now ∷ []) (c.in_ok-steps.ensures.told, (c.in_ok-steps.ensures.name, tt)) (c.as_slice-3.ensures ∙ told_both c.args.name.now c.args.extensions _ all)).1)
