@@ -1,112 +1,46 @@
 -- What is known of the exchanges that a client finished, by the moves that it made.
-use Rattle.std.proofs.Common.{◌≡◌, ℕ, zero, suc, ◌+◌, List, [], ◌∷◌, ◌++◌, take, drop, slice_get, refl, sym, ◌∙◌, ap, subst, true, false, Option, Some, None, append_assoc, append-nil, inl, inr}
-use Rattle.std.proofs.lemmas.List.{take-append-drop}
-use Rattle.ssh_wire.specs.Lines as lines
-use Rattle.ssh_wire.specs.Lines.{IdFound, id_of, id_text, line_end}
-use Rattle.ssh_wire.specs.Reading.{IdReading, Waiting, Heard, Failed, by_end, reading_left, still_allowed}
+use Rattle.std.proofs.Common.{◌≡◌, ◌⊎◌, ℕ, List, [], ◌∷◌, ◌++◌, slice_get, refl, sym, ◌∙◌, ap, subst, true, false, Option, Some, None, append_assoc, append-nil, inl, inr}
+use Rattle.ssh_wire.specs.Lines.{id_text}
+use Rattle.ssh_wire.specs.Reading.{IdReading, Waiting, Heard, Failed}
+use Rattle.ssh_wire.specs.declared.error.ConfigFault.{ConfigFault}
+use Rattle.ssh_wire.specs.declared.error.Error.{Error}
+use Rattle.ssh_wire.specs.declared.error.Error.TheVariants as errors
 use Rattle.ssh_wire.specs.declared.side.Side.{Side}
-use Rattle.ssh_wire.specs.declared.side.Side.TheVariants.{Client}
+use Rattle.ssh_wire.specs.declared.side.Side.TheVariants.{Client, Server}
 use Rattle.ssh_kex.specs.Setting.{Says}
 use Rattle.ssh_kex.specs.declared.config.Config.{Config}
 use Rattle.ssh_kex.specs.declared.exchange.ServerHost.{ServerHost}
-use Rattle.ssh_rules.specs.Log.{handled, read_bytes, recorded}
-use Rattle.ssh_rules.specs.Machine.{AnswerSent, Event, ExchangeBegun, ExchangeFinished, GuessDropped, IdHeard, MessageTaken, PacketDropped, PayloadDelivered, PayloadSent, PayloadSubmitted, SideState, Spot, Steps, first_state}
+use Rattle.ssh_rules.specs.Handled.{heard_in, packets_in}
+use Rattle.ssh_rules.specs.Log.{read_bytes, recorded}
+use Rattle.ssh_rules.specs.Machine.{Event, SideState, Steps, first_state}
 use Rattle.ssh_rules.specs.Parts.{Accepting, Trusting}
-use Rattle.ssh_rules.specs.Standing.{HearsBy, HearsFrom, IsNew, IsNoId, OfFault, OfMemory, OfPacket, OfVersion, ReadsLineFrom, RefusalCause, RefusesInput, Standing, Submitted, TakesInput, lets_pass}
-use Rattle.ssh_rules.proofs.Lemmas.{read_join, recorded_is, run_signed, steps_join}
+use Rattle.ssh_rules.specs.Standing.{HearsBy, IsNew, IsNoId, OfFault, OfMemory, OfPacket, OfVersion, ReadsLineFrom, RefusalCause, RefusesInput, Standing, Submitted, TakesInput}
+use Rattle.ssh_rules.specs.Valid.{config_fault}
+use Rattle.ssh_rules.proofs.Lemmas.{LineGoes, behind_more, heard_stays, line_goes, no_bytes, read_join, recorded_is, run_signed, steps_join}
+use Rattle.ssh_kex.specs.Refusals.{Denies}
+use Rattle.ssh_pipe.specs.Desks.{DeskState, HasAnswered, login_service, was_granted}
 use Rattle.ssh_pipe.specs.Known.{IsSignedClient}
-use Rattle.ssh_pipe.specs.Talks.{Ends, Fed, FedLast, Follows, Handed, Move, Talked, fed_in, untouched}
+use Rattle.ssh_pipe.specs.Talks.{Ends, IsRefusedUnfed, Fed, FedLast, Follows, Handed, Move, Talked, fed_in, untouched}
 use Rattle.ssh_pipe.specs.declared.end.TalkEnd.{TalkEnd}
-
--- ---- bytes in bytes
-
--- bytes stand in others, in one stretch
-abbrev StandsIn : (whole part : List ℕ) → Type 0
-StandsIn whole part = (before : List ℕ) × (behind : List ℕ) × (before ++ (part ++ behind) ≡ whole)
-
-stands_more : (whole part more : List ℕ) → StandsIn whole part → StandsIn (whole ++ more) part
-stands_more whole part more (before, behind, is) = (before, behind ++ more, ap (λ q. before ++ q) (sym (append_assoc part behind more)) ∙ (sym (append_assoc before (part ++ behind) more) ∙ ap (λ q. q ++ more) is))
 
 -- ---- where a side stands in what it was fed
 
--- Behind some bytes stand the packets that it read, and then what waits of the input; no packet before the version
--- line.
-abbrev StandsAt : IdReading → (fed done waiting : List ℕ) → Type 0
-StandsAt (Waiting bytes others) fed done waiting = (done ≡ []) × ((before : List ℕ) × (before ++ bytes ≡ fed))
-StandsAt (Heard text) fed done waiting = (before : List ℕ) × (before ++ (done ++ waiting) ≡ fed)
-StandsAt Failed fed done waiting = ⊥
+-- these bytes stand right behind the other's version line in what a side was fed
+abbrev StandsBehind : Side → (fed done : List ℕ) → Type 0
+StandsBehind side fed done = (behind : List ℕ) × (packets_in (heard_in side fed) fed ≡ done ++ behind)
 
-stands_in : (line : IdReading) (fed done waiting : List ℕ) → StandsAt line fed done waiting → StandsIn fed done
-stands_in (Waiting bytes others) fed done waiting h = ([], fed, ap (λ q. q ++ fed) h.0)
-stands_in (Heard text) fed done waiting h = (h.0, waiting, h.1)
-stands_in Failed fed done waiting h = absurd h
+-- of more bytes too
+nil_front : (a b : List ℕ) → [] ≡ a ++ b → a ≡ []
+nil_front [] b e = refl
+nil_front (x ∷ a) b e = cc
 
--- other lines that are passed stand in front of what waits
-pub record LeavesLine (left : IdReading) (bytes : List ℕ) : Type 0 where
-  pub waits : List ℕ
-  pub others : ℕ
-  pub passed : List ℕ
-  pub left_is : left ≡ Waiting waits others
-  pub bytes_are : passed ++ waits ≡ bytes
-
-leaves_by : (k : ℕ) (bytes : List ℕ) (others : ℕ) → ((n : ℕ) → LeavesLine (reading_left k (drop n bytes) (others + 1)) (drop n bytes)) → (end : Option ℕ) → LeavesLine (by_end (Waiting bytes others) (λ n. reading_left k (drop n bytes) (others + 1)) end) bytes
-leaves_by k bytes others behind None = record { waits = bytes; others = others; passed = []; left_is = refl; bytes_are = refl }
-leaves_by k bytes others behind (Some n) =
-    let h = behind n in
-    record { waits = h.waits; others = h.others; passed = take n bytes ++ h.passed; left_is = h.left_is; bytes_are = append_assoc (take n bytes) h.passed h.waits ∙ (ap (λ q. take n bytes ++ q) h.bytes_are ∙ take-append-drop n bytes) }
-
-leaves_line : (left : ℕ) (bytes : List ℕ) (others : ℕ) → LeavesLine (reading_left left bytes others) bytes
-leaves_line zero bytes others = record { waits = bytes; others = others; passed = []; left_is = refl; bytes_are = refl }
-leaves_line (suc k) bytes others = leaves_by k bytes others (λ n. leaves_line k (drop n bytes) (others + 1)) (line_end bytes)
-
--- a piece behind what it was fed
-piece_behind : (before bytes piece fed : List ℕ) → before ++ bytes ≡ fed → before ++ (bytes ++ piece) ≡ fed ++ piece
-piece_behind before bytes piece fed is = sym (append_assoc before bytes piece) ∙ ap (λ q. q ++ piece) is
-
-stands_on : (side : Side) (at : Spot) (line : IdReading) (fed done waiting piece : List ℕ) (events : List Event) (line' : IdReading) (behind left : List ℕ)
-    → StandsAt line fed done waiting → ReadsLineFrom side line waiting piece events line' behind → behind ≡ read_bytes side at events ++ left → StandsAt line' (fed ++ piece) (done ++ read_bytes side at events) left
-stands_on side at (Waiting bytes others) fed done waiting piece events line' behind left h reads is = by (id_of (still_allowed (lets_pass side) others) (bytes ++ piece)) reads where
-  before : List ℕ
-  before = h.1.0
-
-  all : before ++ (bytes ++ piece) ≡ fed ++ piece
-  all = piece_behind before bytes piece fed h.1.1
-
-  by : (found : IdFound) → HearsFrom side found (bytes ++ piece) others events line' behind → StandsAt line' (fed ++ piece) (done ++ read_bytes side at events) left
-  by lines.NotYet f =
-      let l = leaves_line (still_allowed (lets_pass side) others) (bytes ++ piece) others in
-      subst (λ i. StandsAt i (fed ++ piece) (done ++ read_bytes side at events) left) (sym (f.1 ∙ l.left_is))
-      (ap (λ es. done ++ read_bytes side at es) f.0 ∙ (append-nil done ∙ h.0), (before ++ l.passed, append_assoc before l.passed l.waits ∙ (ap (λ q. before ++ q) l.bytes_are ∙ all)))
-  by (lines.Id text end) f =
-      let none : done ++ read_bytes side at events ≡ read_bytes side at events = ap (λ q. q ++ read_bytes side at events) h.0 in
-      subst (λ i. StandsAt i (fed ++ piece) (done ++ read_bytes side at events) left) (sym f.1) (
-        before ++ take end (bytes ++ piece),
-        append_assoc before (take end (bytes ++ piece)) ((done ++ read_bytes side at events) ++ left)
-            ∙ (ap (λ q. before ++ (take end (bytes ++ piece) ++ q)) (ap (λ q. q ++ left) none ∙ (sym is ∙ f.2))
-            ∙ (ap (λ q. before ++ q) (take-append-drop end (bytes ++ piece)) ∙ all)),
-      )
-  by lines.Version f = absurd f
-stands_on side at (Heard text) fed done waiting piece events line' behind left h reads is =
-    subst (λ i. StandsAt i (fed ++ piece) (done ++ read_bytes side at events) left) (sym reads.1)
-    (h.0, ap (λ q. h.0 ++ q) (append_assoc done (read_bytes side at events) left ∙ (ap (λ q. done ++ q) (sym is ∙ reads.2) ∙ sym (append_assoc done waiting piece))) ∙ piece_behind h.0 (done ++ waiting) piece fed h.1)
-stands_on side at Failed fed done waiting piece events line' behind left h reads is = absurd h
-
--- where nothing was handled, nothing was read
-cons_nil : {A : Type 0} (x : A) (xs : List A) → x ∷ xs ≡ [] → ⊥
-cons_nil x xs e = cc
-
-none_read : (side : Side) (at : Spot) (es : List Event) → handled es ≡ [] → read_bytes side at es ≡ []
-none_read side at [] e = refl
-none_read side at (IdHeard id ∷ es) e = none_read side at es e
-none_read side at (PayloadSubmitted p ∷ es) e = none_read side at es e
-none_read side at (ExchangeBegun cause i ∷ es) e = none_read side at es e
-none_read side at (AnswerSent i again ∷ es) e = none_read side at es e
-none_read side at (PayloadSent i ∷ es) e = none_read side at es e
-none_read side at (MessageTaken i ∷ es) e = absurd (cons_nil i (handled es) e)
-none_read side at (GuessDropped i ∷ es) e = absurd (cons_nil i (handled es) e)
-none_read side at (PayloadDelivered i ∷ es) e = absurd (cons_nil i (handled es) e)
-none_read side at (PacketDropped i ∷ es) e = absurd (cons_nil i (handled es) e)
-none_read side at (ExchangeFinished i x ∷ es) e = absurd (cons_nil i (handled es) e)
+stands_more : (side : Side) (fed done waiting piece : List ℕ) (heard : Option (List ℕ)) (line : IdReading) → LineGoes side fed done heard line waiting → StandsBehind side (fed ++ piece) done
+stands_more side fed done waiting piece heard (Waiting bytes others) g =
+    let none : done ≡ [] = nil_front done waiting (sym (ap (λ f. packets_in f fed) g.line_is.0) ∙ g.read) in
+    (packets_in (heard_in side (fed ++ piece)) (fed ++ piece), ap (λ q. q ++ packets_in (heard_in side (fed ++ piece)) (fed ++ piece)) (sym none))
+stands_more side fed done waiting piece heard (Heard text) g =
+    (waiting ++ piece, behind_more side fed piece text g.line_is.0 g.line_is.1 ∙ (ap (λ q. q ++ piece) g.read ∙ append_assoc done waiting piece))
+stands_more side fed done waiting piece heard Failed g = absurd g.line_is
 
 -- ---- a side that has not failed
 
@@ -114,7 +48,7 @@ record IsRunning (says : Says) (side : Side) (config : Config) (log : List Event
   pub side_is : t.side ≡ side
   pub config_is : t.config ≡ config
   pub steps : Steps says side config (id_text config.id) first_state log t.state
-  pub stands : StandsAt t.line fed (read_bytes side first_state.reading log) t.waiting
+  pub line : LineGoes side fed (read_bytes side first_state.reading log) t.state.heard t.line t.waiting
 
 -- what is left of any side: a run, and what it read
 record HasRun (says : Says) (side : Side) (config : Config) (fed : List ℕ) (t : Standing) : Type 0 where
@@ -122,13 +56,22 @@ record HasRun (says : Says) (side : Side) (config : Config) (fed : List ℕ) (t 
   pub state : SideState
   pub steps : Steps says side config (id_text config.id) first_state log state
   pub records : t.state.records ≡ state.records
-  pub read : StandsIn fed (read_bytes side first_state.reading log)
+  pub read : StandsBehind side fed (read_bytes side first_state.reading log)
 
 has_run : (says : Says) (side : Side) (config : Config) (log : List Event) (fed : List ℕ) (t : Standing) → IsRunning says side config log fed t → HasRun says side config fed t
-has_run says side config log fed t r = record { log = log; state = t.state; steps = r.steps; records = refl; read = stands_in t.line fed (read_bytes side first_state.reading log) t.waiting r.stands }
+has_run says side config log fed t r = record { log = log; state = t.state; steps = r.steps; records = refl; read = (t.waiting, r.line.read) }
+
+line_none : (side : Side) → LineGoes side [] [] None (Waiting [] 0) []
+line_none Client = record { line_is = (refl, refl); read = refl; heard_as = refl }
+line_none Server = record { line_is = (refl, refl); read = refl; heard_as = refl }
 
 runs_first : (says : Says) (side : Side) (config : Config) (t : Standing) → IsNew side config t → IsRunning says side config [] [] t
-runs_first says side config t n = subst (λ x. IsRunning says side config [] [] x) (sym n) (record { side_is = refl; config_is = refl; steps = refl; stands = (refl, ([], refl)) })
+runs_first says side config t n = subst (λ x. IsRunning says side config [] [] x) (sym n) (record {
+  side_is = refl;
+  config_is = refl;
+  steps = refl;
+  line = line_none side;
+})
 
 -- events of the side that it is
 at_side : (P : Side → Config → Type 0) (a a' : Side) (b b' : Config) → a ≡ a' → b ≡ b' → P a b → P a' b'
@@ -140,16 +83,30 @@ steps_at says side config log fed old events st r steps = steps_join says side c
 read_more : (says : Says) (side : Side) (config : Config) (log : List Event) (fed : List ℕ) (old : Standing) (events : List Event) → IsRunning says side config log fed old → read_bytes side first_state.reading (log ++ events) ≡ read_bytes side first_state.reading log ++ read_bytes side old.state.reading events
 read_more says side config log fed old events r = read_join says side config (id_text config.id) log events first_state old.state r.steps
 
+-- what a piece leaves of the line, and of what stands behind it
+line_after : (says : Says) (side : Side) (config : Config) (log : List Event) (fed : List ℕ) (old : Standing) (piece : List ℕ) (events : List Event) (st : SideState) (line' : IdReading) (behind left : List ℕ)
+    → IsRunning says side config log fed old → Steps says old.side old.config (id_text old.config.id) old.state events st → ReadsLineFrom old.side old.line old.waiting piece events line' behind → behind ≡ read_bytes old.side old.state.reading events ++ left
+    → LineGoes side (fed ++ piece) (read_bytes side first_state.reading (log ++ events)) st.heard line' left
+line_after says side config log fed old piece events st line' behind left r steps reads is =
+    let done = read_bytes side first_state.reading log in
+    let more = read_bytes side old.state.reading events in
+    let g = line_goes says side config (id_text config.id) fed piece done old.waiting old.line line' events behind old.state st r.line
+    (at_side (λ x y. Steps says x y (id_text y.id) old.state events st) old.side side old.config config r.side_is r.config_is steps)
+    (subst (λ x. ReadsLineFrom x old.line old.waiting piece events line' behind) r.side_is reads) in
+    let at : behind ≡ more ++ left = subst (λ x. behind ≡ read_bytes x old.state.reading events ++ left) r.side_is is in
+    record {
+      line_is = g.line_is;
+      read = g.read ∙ (ap (λ q. done ++ q) at ∙ (sym (append_assoc done more left) ∙ ap (λ q. q ++ left) (sym (read_more says side config log fed old events r))));
+      heard_as = g.heard_as;
+    }
+
 -- a piece was taken
 runs_fed : (says : Says) (side : Side) (config : Config) (log : List Event) (fed : List ℕ) (old : Standing) (piece : List ℕ) (new : Standing) → IsRunning says side config log fed old → (h : TakesInput says old piece new) → IsRunning says side config (log ++ h.events) (fed ++ piece) new
 runs_fed says side config log fed old piece new r h = record {
   side_is = h.acts.side ∙ r.side_is;
   config_is = h.acts.config ∙ r.config_is;
   steps = steps_at says side config log fed old h.events new.state r h.acts.steps;
-  stands = subst (λ q. StandsAt new.line (fed ++ piece) q new.waiting) (sym (read_more says side config log fed old h.events r))
-      (stands_on side old.state.reading old.line fed (read_bytes side first_state.reading log) old.waiting piece h.events new.line h.behind new.waiting r.stands
-      (subst (λ x. ReadsLineFrom x old.line old.waiting piece h.events new.line h.behind) r.side_is h.line)
-      (subst (λ x. h.behind ≡ read_bytes x old.state.reading h.events ++ new.waiting) r.side_is h.read));
+  line = line_after says side config log fed old piece h.events new.state new.line h.behind new.waiting r h.acts.steps h.line h.read;
 }
 
 -- a payload was submitted
@@ -158,35 +115,39 @@ runs_handed says side config log fed old payload new r h = record {
   side_is = h.acts.side ∙ r.side_is;
   config_is = h.acts.config ∙ r.config_is;
   steps = steps_at says side config log fed old h.events new.state r h.acts.steps;
-  stands = subst (λ q. StandsAt new.line fed q new.waiting) (sym same)
-      (subst (λ i. StandsAt i fed (read_bytes side first_state.reading log) new.waiting) (sym h.line)
-      (subst (λ w. StandsAt old.line fed (read_bytes side first_state.reading log) w) (sym h.waiting) r.stands));
+  line = subst (λ q. LineGoes side fed q new.state.heard new.line new.waiting) (sym same)
+      (subst (λ x. LineGoes side fed (read_bytes side first_state.reading log) x new.line new.waiting) (sym (heard_stays says old.side old.config (id_text old.config.id) h.events old.state new.state h.silent h.acts.steps))
+      (subst (λ i. LineGoes side fed (read_bytes side first_state.reading log) old.state.heard i new.waiting) (sym h.line)
+      (subst (λ w. LineGoes side fed (read_bytes side first_state.reading log) old.state.heard old.line w) (sym h.waiting) r.line)));
 } where
   same : read_bytes side first_state.reading (log ++ h.events) ≡ read_bytes side first_state.reading log
-  same = read_more says side config log fed old h.events r ∙ (ap (λ q. read_bytes side first_state.reading log ++ q) (none_read side old.state.reading h.events h.none_read) ∙ append-nil (read_bytes side first_state.reading log))
-
--- a piece was refused
-unread : (side : Side) (at : Spot) (line : IdReading) (fed done waiting piece : List ℕ) (events : List Event) → StandsAt line fed done waiting → events ≡ [] → StandsIn (fed ++ piece) (done ++ read_bytes side at events)
-unread side at line fed done waiting piece events h e =
-    subst (λ q. StandsIn (fed ++ piece) q) (sym (ap (λ es. done ++ read_bytes side at es) e ∙ append-nil done)) (stands_more fed done piece (stands_in line fed done waiting h))
+  same = read_more says side config log fed old h.events r ∙ (ap (λ q. read_bytes side first_state.reading log ++ q) (no_bytes side old.state.reading h.events h.none_read) ∙ append-nil (read_bytes side first_state.reading log))
 
 no_id : (side : Side) (line : IdReading) (piece : List ℕ) (events : List Event) → IsNoId side line piece events → events ≡ []
 no_id side (Waiting bytes others) piece events h = h.0
 no_id side (Heard text) piece events h = absurd h
 no_id side Failed piece events h = absurd h
 
-refused_in : (side : Side) (at : Spot) (cause : RefusalCause) (old : Standing) (fed done piece : List ℕ) (events : List Event) (line' : IdReading) (behind left : List ℕ)
-    → old.side ≡ side → StandsAt old.line fed done old.waiting → HearsBy cause old piece events line' behind → behind ≡ read_bytes side at events ++ left → StandsIn (fed ++ piece) (done ++ read_bytes side at events)
-refused_in side at cause old fed done piece events line' behind left same h hears is = by cause hears where
-  reads : ReadsLineFrom old.side old.line old.waiting piece events line' behind → StandsIn (fed ++ piece) (done ++ read_bytes side at events)
-  reads r = stands_in line' (fed ++ piece) (done ++ read_bytes side at events) left (stands_on side at old.line fed done old.waiting piece events line' behind left h (subst (λ x. ReadsLineFrom x old.line old.waiting piece events line' behind) same r) is)
+-- a piece was refused
+refused_behind : (says : Says) (side : Side) (config : Config) (log : List Event) (fed : List ℕ) (old : Standing) (piece : List ℕ) (events : List Event) (st : SideState) (cause : RefusalCause) (line' : IdReading) (behind left : List ℕ)
+    → IsRunning says side config log fed old → Steps says old.side old.config (id_text old.config.id) old.state events st → HearsBy cause old piece events line' behind → behind ≡ read_bytes old.side old.state.reading events ++ left
+    → StandsBehind side (fed ++ piece) (read_bytes side first_state.reading (log ++ events))
+refused_behind says side config log fed old piece events st cause line' behind left r steps hears is = by cause hears where
+  done : List ℕ
+  done = read_bytes side first_state.reading log
 
-  by : (cause : RefusalCause) → HearsBy cause old piece events line' behind → StandsIn (fed ++ piece) (done ++ read_bytes side at events)
-  by (OfFault fault) r = reads r
-  by (OfPacket i) r = reads r
-  by OfVersion r = unread side at old.line fed done old.waiting piece events h (no_id old.side old.line piece events r)
-  by OfMemory (inl e) = unread side at old.line fed done old.waiting piece events h e
-  by OfMemory (inr r) = reads r
+  reads : ReadsLineFrom old.side old.line old.waiting piece events line' behind → StandsBehind side (fed ++ piece) (read_bytes side first_state.reading (log ++ events))
+  reads h = (left, (line_after says side config log fed old piece events st line' behind left r steps h is).read)
+
+  unread : events ≡ [] → StandsBehind side (fed ++ piece) done → StandsBehind side (fed ++ piece) (read_bytes side first_state.reading (log ++ events))
+  unread none h = subst (λ q. StandsBehind side (fed ++ piece) q) (sym (read_more says side config log fed old events r ∙ (ap (λ es. done ++ read_bytes side old.state.reading es) none ∙ append-nil done))) h
+
+  by : (cause : RefusalCause) → HearsBy cause old piece events line' behind → StandsBehind side (fed ++ piece) (read_bytes side first_state.reading (log ++ events))
+  by (OfFault fault) h = reads h
+  by (OfPacket i) h = reads h
+  by OfVersion h = unread (no_id old.side old.line piece events h) (stands_more side fed done old.waiting piece old.state.heard old.line r.line)
+  by OfMemory (inl none) = unread none (stands_more side fed done old.waiting piece old.state.heard old.line r.line)
+  by OfMemory (inr h) = reads h
 
 has_refused : (says : Says) (side : Side) (config : Config) (log : List Event) (fed : List ℕ) (old : Standing) (piece : List ℕ) (cause : RefusalCause) (new : Standing) → IsRunning says side config log fed old → RefusesInput says old piece cause new → HasRun says side config (fed ++ piece) new
 has_refused says side config log fed old piece cause new r h = record {
@@ -194,9 +155,7 @@ has_refused says side config log fed old piece cause new r h = record {
   state = h.at;
   steps = steps_at says side config log fed old h.events h.at r h.steps;
   records = h.records;
-  read = subst (λ q. StandsIn (fed ++ piece) q) (sym (read_more says side config log fed old h.events r))
-      (refused_in side old.state.reading cause old fed (read_bytes side first_state.reading log) piece h.events h.line h.behind h.left r.side_is r.stands h.heard
-      (subst (λ x. h.behind ≡ read_bytes x old.state.reading h.events ++ h.left) r.side_is h.read));
+  read = refused_behind says side config log fed old piece h.events h.at cause h.line h.behind h.left r h.steps h.heard h.read;
 }
 
 -- ---- moves
@@ -244,11 +203,14 @@ has_untouched : (says : Says) (side : Side) (config : Config) (fed sent : List �
 has_untouched says side config fed sent answered t r = record { log = r.log; state = r.state; steps = r.steps; records = r.records; read = r.read }
 
 -- a new side that came to an end
-pub talked_as : (says : Says) (accepts : Accepting) (trusts : Trusting) (side : Side) (config : Config) (start : Standing) (held : Option (List ℕ)) (fed : List ℕ) (held' : Option (List ℕ)) (end : TalkEnd)
-    → Answered says accepts trusts → IsNew side config start → Ends says start held fed held' end → Talked side config says accepts trusts held fed held' end
-talked_as says accepts trusts side config start held fed held' end answers new ends = record {
+pub talked_as : (says : Says) (denies : Denies) (untrusted : ServerHost → Type 0) (accepts : Accepting) (trusts : Trusting) (side : Side) (config : Config) (start : Standing) (desk : DeskState) (held : Option (List ℕ)) (fed : List ℕ) (held' : Option (List ℕ)) (end : TalkEnd)
+    → Answered says accepts trusts → IsNew side config start → desk.side ≡ side → HasAnswered desk [] → Ends says denies untrusted desk start held fed held' end → Talked side config says denies untrusted accepts trusts held fed held' end
+talked_as says denies untrusted accepts trusts side config start desk held fed held' end answers new of_side fresh ends = record {
   start = start;
   new = new;
+  desk = desk;
+  of_side = of_side;
+  fresh = fresh;
   ends = ends;
   known = λ client. signed_by says accepts trusts config fed ends.at answers
       (has_untouched says Client config fed ends.goes.sent ends.goes.answered ends.at
@@ -256,3 +218,25 @@ talked_as says accepts trusts side config start held fed held' end answers new e
       (run_behind says Client config ends.goes.moves [] [] start (untouched ends.goes.sent ends.goes.answered ends.at)
       (runs_first says Client config start (subst (λ s. IsNew s config start) client new)) ends.goes.follows)));
 }
+
+-- ---- a side that wasn't opened
+
+-- a desk that has answered nothing
+pub record FreshDesk (side : Side) : Type 0 where
+  pub desk : DeskState
+  pub of_side : desk.side ≡ side
+  pub answered : HasAnswered desk []
+
+pub fresh_desk : (side : Side) → FreshDesk side
+fresh_desk side = record {
+  desk = record { side = side; services = record { offered = login_service ∷ []; requested = []; informed = false }; granted = false };
+  of_side = refl;
+  answered = record { offered = refl; stands = λ s. record { requested = λ name offered. refl; informed = refl }; granted = none side };
+} where
+  none : (s : Side) → false ≡ was_granted s []
+  none Client = refl
+  none Server = refl
+
+pub unopened : (d : DeskState) (at : Standing) (e : Error) → at.failed ≡ false → (e ≡ errors.Memory) ⊎ ((f : ConfigFault) × (config_fault at.side at.config ≡ Some f) × (e ≡ errors.InvalidConfig f)) → IsRefusedUnfed d [] at e
+unopened d at e live (inl m) = (live, inl m)
+unopened d at e live (inr f) = (live, inr (inl f))

@@ -1,2 +1,4 @@
+pub mod FirstLines
 pub mod Ways
 pub mod Known
+pub mod Replies

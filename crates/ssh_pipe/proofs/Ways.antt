@@ -1,21 +1,33 @@
 -- Moves of a side, one behind the other, and what was written of its output.
-use Rattle.std.proofs.Common.{inl, inr, ◌≡◌, ℕ, List, [], ◌∷◌, ◌++◌, take, drop, map, Option, Some, None, IfSome, Result, Ok, Err, OnOk, Bool, true, false, refl, sym, ap, ◌∙◌, subst, append_assoc, append-nil}
+use Rattle.std.proofs.Common.{inl, inr, ◌≡◌, ℕ, List, [], ◌∷◌, ◌++◌, take, drop, map, Option, Some, None, IfSome, Result, Ok, Err, OnOk, OnErr, IfErr, unwrap_or, ◌⊎◌, Bool, true, false, refl, sym, ap, ◌∙◌, subst, append_assoc, append-nil}
 use Rattle.std.proofs.lemmas.List.{take-append-drop}
 use Rattle.ssh_wire.specs.Lines.{id_text}
 use Rattle.ssh_wire.specs.Reading.{IdReading}
 use Rattle.ssh_wire.specs.Outside.{Appends, AppendsFront, IsAtEnd, ReachesEnd, TakesFront, TakesNext}
+use Rattle.ssh_wire.specs.declared.error.Error.{Error}
+use Rattle.ssh_wire.specs.declared.error.Error.TheVariants as errors
+use Rattle.ssh_kex.specs.Refusals.{Denies}
 use Rattle.ssh_kex.specs.Setting.{Says}
 use Rattle.ssh_kex.specs.declared.config.Config.{Config}
+use Rattle.ssh_kex.specs.declared.exchange.ServerHost.{ServerHost}
+use Rattle.ssh_rules.specs.Refusing.{RefusesPiece}
 use Rattle.ssh_rules.specs.Log.{sent_bytes, delivered_in}
 use Rattle.ssh_rules.specs.Machine.{Event}
-use Rattle.ssh_rules.specs.Standing.{Acts, HearsBy, OfFault, OfMemory, OfPacket, OfVersion, RefusalCause, RefusesInput, Standing, Submitted, TakesInput}
-use Rattle.ssh_transport.proofs.Lemmas.{Weaker, input_still, steps_weaker, submitted_still}
-use Rattle.ssh_pipe.specs.Desks.{IsAsking, IsSaid, LetsNobodyIn}
+use Rattle.ssh_wire.specs.declared.side.Side.TheVariants.{Client, Server}
+use Rattle.ssh_wire.specs.declared.side.Side.{Side}
+use Rattle.ssh_rules.specs.Standing.{Acts, HearsBy, OfFault, OfMemory, OfPacket, OfVersion, RefusalCause, RefusesInput, Standing, Submitted, TakesInput, is_outside}
+use Rattle.ssh_rules.specs.Valid.{is_good_payload}
+use Rattle.ssh_service.proofs.Lemmas.{grant_good}
+use Rattle.ssh_transport.proofs.Lemmas.{Denying, Weaker, input_still, piece_still, steps_weaker, submitted_still}
+use Rattle.ssh_service.specs.Messages.{spelling}
+use Rattle.ssh_service.specs.declared.message.ServiceMessage.TheVariants.{Request}
+use Rattle.ssh_pipe.specs.Desks.{DeskState, HasAnswered, IsAsking, IsSaid, LetsNobodyIn, first_of, login_service, reply_to, was_granted}
 use Rattle.ssh_pipe.specs.declared.desk.Reply.{Reply}
+use Rattle.ssh_pipe.specs.declared.desk.Reply.TheVariants as replies
 use Rattle.ssh_pipe.specs.declared.desk.Reply.TheVariants.{Message}
-use Rattle.ssh_pipe.specs.Talks.{Ends, EndsWell, IsCut, Sends, Fed, FedLast, Follows, Goes, Handed, Move, Moves, MovesBy, fed_in, piece_of, untouched}
+use Rattle.ssh_pipe.specs.Talks.{AnswersMore, Ends, EndsRefused, EndsWell, GetsReply, HasFault, IsCutAt, IsEndFor, IsGranted, Sends, Fed, FedLast, Follows, Goes, Handed, Move, Moves, MovesBy, TalksOn, fed_in, piece_of, untouched}
 use Rattle.ssh_pipe.specs.declared.end.TalkEnd.{TalkEnd}
-use Rattle.ssh_pipe.specs.declared.end.TalkEnd.TheVariants.{SinkFailed}
+use Rattle.ssh_pipe.specs.declared.end.TalkEnd.TheVariants.{Disconnected, Exhausted, Granted, InputEnded, NotServed, Refused, SinkFailed, SourceFailed}
 
 -- ---- what stands in front of the output and of what was delivered changes no move
 
@@ -146,7 +158,9 @@ goes_join says a h0 f b h1 g c h2 x y = record {
 -- one that feeds nothing behind another
 pub goes_on : (says : Says) (a : Standing) (h0 : Option (List ℕ)) (f : List ℕ) (b : Standing) (h1 : Option (List ℕ)) (c : Standing) (h2 : Option (List ℕ))
     → Goes says a h0 f b h1 → Goes says b h1 [] c h2 → Goes says a h0 f c h2
-goes_on says a h0 f b h1 c h2 x y = subst (λ l. Goes says a h0 l c h2) (append-nil f) (goes_join says a h0 f b h1 [] c h2 x y)
+goes_on says a h0 f b h1 c h2 x y =
+    let j = goes_join says a h0 f b h1 [] c h2 x y in
+    record { moves = j.moves; sent = j.sent; answered = j.answered; follows = j.follows; fed_is = j.fed_is ∙ append-nil f; written = j.written }
 
 -- all of the output was written
 pub goes_sent : (says : Says) (t new : Standing) (held held' : Option (List ℕ)) → new ≡ record t { output = [] } → Appends t.output held held' → Goes says t held [] new held'
@@ -264,23 +278,145 @@ goes_weaker x y w a h0 f b h1 g = record {
   written = g.written;
 }
 
+-- ---- what a desk answered
+
+pub answers_none : (d : DeskState) → AnswersMore d [] d
+answers_none d = (refl, λ earlier h. subst (λ l. HasAnswered d l) (sym (append-nil earlier)) h)
+
+pub answers_join : (d mid d' : DeskState) (xs ys : List (List ℕ)) → AnswersMore d xs mid → AnswersMore mid ys d' → AnswersMore d (xs ++ ys) d'
+answers_join d mid d' xs ys h k = (k.0 ∙ h.0, λ earlier a. subst (λ l. HasAnswered d' l) (append_assoc earlier xs ys) (k.1 (earlier ++ xs) (h.1 earlier a)))
+
+pub reply_behind : (d mid : DeskState) (xs ys : List (List ℕ)) (reply : Reply) → AnswersMore d xs mid → GetsReply mid ys reply → GetsReply d (xs ++ ys) reply
+reply_behind d mid xs ys reply h g = record {
+  before = xs ++ g.before;
+  payload = g.payload;
+  behind = g.behind;
+  all = append_assoc xs g.before (g.payload ∷ g.behind) ∙ ap (λ l. xs ++ l) g.all;
+  reply_is = λ earlier a. ap (λ s. reply_to s (earlier ++ (xs ++ g.before)) g.payload) (sym h.0)
+      ∙ (ap (λ l. reply_to mid.side l g.payload) (sym (append_assoc earlier xs g.before)) ∙ g.reply_is (earlier ++ xs) (h.1 earlier a));
+}
+
 -- ---- ends
 
--- an end behind a way, of what the parts say under the configuration of each
-pub ends_behind : (x y : Config → Says) → ((k : Config) → Weaker (y k) (x k)) → (a : Standing) (h0 : Option (List ℕ)) (f : List ℕ) (b : Standing) (h1 : Option (List ℕ)) (g : List ℕ) (h2 : Option (List ℕ)) (end : TalkEnd)
-    → b.config ≡ a.config → Goes (x a.config) a h0 f b h1 → Ends (y b.config) b h1 g h2 end → Ends (x a.config) a h0 (f ++ g) h2 end
-ends_behind x y w a h0 f b h1 g h2 end same go e =
-    let P : Config → Type 0 = λ k. Goes (y k) b h1 g e.at h2 in
-    let later = goes_weaker (y a.config) (x a.config) (w a.config) b h1 g e.at h2 (subst P same e.goes) in
-    record { at = e.at; goes = goes_join (x a.config) a h0 f b h1 g e.at h2 go later; well = e.well }
+-- what is told of a piece that was refused stands under what was written and answered
+piece_under : (says : Says) (denies : Denies) (untrusted : ServerHost → Type 0) (s : List ℕ) (d : List (List ℕ)) (old : Standing) (piece : List ℕ) (e : Error) (new : Standing)
+    → RefusesPiece says denies untrusted old piece e new → RefusesPiece says denies untrusted (untouched s d old) piece e (untouched s d new)
+unfolding says_under
+piece_under says denies untrusted s d old piece e new h = record {
+  cause = h.cause;
+  refuses = (says_under says s d (FedLast piece) old new (h.cause, h.refuses)).1;
+  answers = h.answers;
+}
+
+untouched_join : (s s' : List ℕ) (d d' : List (List ℕ)) (c : Standing) → untouched s d (untouched s' d' c) ≡ untouched (s ++ s') (d ++ d') c
+untouched_join s s' d d' c =
+    ap (λ (o : List ℕ). record c { output = o; delivered = d ++ (d' ++ c.delivered) }) (sym (append_assoc s s' c.output))
+    ∙ ap (λ (l : List (List ℕ)). record c { output = (s ++ s') ++ c.output; delivered = l }) (sym (append_assoc d d' c.delivered))
+
+refused_behind : (says : Says) (denies : Denies) (untrusted : ServerHost → Type 0) (a b : Standing) (ms ns : List Move) (s s' : List ℕ) (d d' : List (List ℕ)) (e : Error) (at : Standing)
+    → Follows says a ms (untouched s d b) → EndsRefused says denies untrusted b ns e (untouched s' d' at) → EndsRefused says denies untrusted a (ms ++ ns) e (untouched (s ++ s') (d ++ d') at)
+refused_behind says denies untrusted a b ms ns s s' d d' e at h r = record {
+  earlier = ms ++ r.earlier;
+  piece = r.piece;
+  mid = untouched s d r.mid;
+  moves_are = ap (λ l. ms ++ l) r.moves_are ∙ sym (append_assoc ms r.earlier (FedLast r.piece ∷ []));
+  follows = follows_join says ms r.earlier a (untouched s d b) (untouched s d r.mid) h (follows_under says s d r.earlier b r.mid r.follows);
+  refuses = subst (λ t. RefusesPiece says denies untrusted (untouched s d r.mid) r.piece e t) (untouched_join s s' d d' at) (piece_under says denies untrusted s d r.mid r.piece e (untouched s' d' at) r.refuses);
+}
+
+refused_weaker : (x y : Says) (d e : Denies) (u v : ServerHost → Type 0) → Denying y x e d → ((host : ServerHost) → v host → u host) → (old : Standing) (moves : List Move) (error : Error) (new : Standing)
+    → EndsRefused y e v old moves error new → EndsRefused x d u old moves error new
+refused_weaker x y d e u v w t old moves error new r = record {
+  earlier = r.earlier;
+  piece = r.piece;
+  mid = r.mid;
+  moves_are = r.moves_are;
+  follows = follows_weaker y x w.weaker r.earlier old r.mid r.follows;
+  refuses = piece_still y x e d v u w t r.mid r.piece error new r.refuses;
+}
+
+well_behind : (refused refused' : Error → Type 0) → ((e : Error) → refused e → refused' e) → (p q : DeskState) (xs ys : List (List ℕ)) → AnswersMore p xs q → (end : TalkEnd) (at : Standing) → EndsWell refused q ys end at → EndsWell refused' p (xs ++ ys) end at
+well_behind refused refused' f p q xs ys h InputEnded at w = w
+well_behind refused refused' f p q xs ys h Disconnected at w = (w.0, w.1, f errors.Disconnect w.2)
+well_behind refused refused' f p q xs ys h Granted at w = (
+  w.0,
+  w.1,
+  record {
+    client = sym h.0 ∙ w.2.client;
+    granted = λ earlier a. ap (λ s. was_granted s (earlier ++ (xs ++ ys))) (sym h.0)
+        ∙ (ap (λ l. was_granted q.side l) (sym (append_assoc earlier xs ys)) ∙ w.2.granted (earlier ++ xs) (h.1 earlier a));
+    outside = w.2.outside;
+  },
+)
+well_behind refused refused' f p q xs ys h (Refused e) at (inl w) = inl (w.0, w.1, w.2, f e w.3)
+well_behind refused refused' f p q xs ys h (Refused e) at (inr w) = inr (w.0, cause w.1) where
+  cause : ((e ≡ errors.Memory) ⊎ (HasFault at e ⊎ GetsReply q (ys ++ at.delivered) (replies.Bad e)))
+      → ((e ≡ errors.Memory) ⊎ (HasFault at e ⊎ GetsReply p ((xs ++ ys) ++ at.delivered) (replies.Bad e)))
+  cause (inl m) = inl m
+  cause (inr (inl k)) = inr (inl k)
+  cause (inr (inr g)) = inr (inr (subst (λ l. GetsReply p l (replies.Bad e)) (sym (append_assoc xs ys at.delivered)) (reply_behind p q xs (ys ++ at.delivered) (replies.Bad e) h g)))
+well_behind refused refused' f p q xs ys h NotServed at w =
+    (w.0, subst (λ l. GetsReply p l replies.NotServed) (sym (append_assoc xs ys at.delivered)) (reply_behind p q xs (ys ++ at.delivered) replies.NotServed h w.1))
+well_behind refused refused' f p q xs ys h SourceFailed at w = w
+well_behind refused refused' f p q xs ys h SinkFailed at w = w
+well_behind refused refused' f p q xs ys h Exhausted at w = w
+
+-- an end behind a way
+pub ends_after : (says : Says) (denies : Denies) (untrusted : ServerHost → Type 0) (p q : DeskState) (a : Standing) (h0 : Option (List ℕ)) (f : List ℕ) (b : Standing) (h1 : Option (List ℕ)) (g : List ℕ) (h2 : Option (List ℕ)) (end : TalkEnd)
+    → TalksOn says p a h0 f q b h1 → Ends says denies untrusted q b h1 g h2 end → Ends says denies untrusted p a h0 (f ++ g) h2 end
+unfolding goes_join
+ends_after says denies untrusted p q a h0 f b h1 g h2 end on e = record {
+  at = e.at;
+  goes = goes_join says a h0 f b h1 g e.at h2 on.goes e.goes;
+  well = well_behind
+      (λ error. EndsRefused says denies untrusted b e.goes.moves error (untouched e.goes.sent e.goes.answered e.at))
+      (λ error. EndsRefused says denies untrusted a (on.goes.moves ++ e.goes.moves) error (untouched (on.goes.sent ++ e.goes.sent) (on.goes.answered ++ e.goes.answered) e.at))
+      (λ error r. refused_behind says denies untrusted a b on.goes.moves e.goes.moves on.goes.sent e.goes.sent on.goes.answered e.goes.answered error e.at on.goes.follows r)
+      p q on.goes.answered e.goes.answered on.answers end e.at e.well;
+}
+
+ends_weaker : (x y : Says) (d e : Denies) (u v : ServerHost → Type 0) → Denying y x e d → ((host : ServerHost) → v host → u host) → (p : DeskState) (a : Standing) (h0 : Option (List ℕ)) (f : List ℕ) (h1 : Option (List ℕ)) (end : TalkEnd)
+    → Ends y e v p a h0 f h1 end → Ends x d u p a h0 f h1 end
+unfolding goes_weaker
+ends_weaker x y d e u v w t p a h0 f h1 end ends = record {
+  at = ends.at;
+  goes = goes_weaker y x w.weaker a h0 f ends.at h1 ends.goes;
+  well = well_behind
+      (λ error. EndsRefused y e v a ends.goes.moves error (untouched ends.goes.sent ends.goes.answered ends.at))
+      (λ error. EndsRefused x d u a ends.goes.moves error (untouched ends.goes.sent ends.goes.answered ends.at))
+      (λ error r. refused_weaker x y d e u v w t a ends.goes.moves error (untouched ends.goes.sent ends.goes.answered ends.at) r)
+      p p [] ends.goes.answered (answers_none p) end ends.at ends.well;
+}
+
+-- the same, of what the parts say under the configuration of each
+pub ends_behind : (x y : Config → Says) (d e : Denies) (u v : ServerHost → Type 0) → ((k : Config) → Denying (y k) (x k) e d) → ((host : ServerHost) → v host → u host) → (p q : DeskState) (a : Standing) (h0 : Option (List ℕ)) (f : List ℕ) (b : Standing) (h1 : Option (List ℕ)) (g : List ℕ) (h2 : Option (List ℕ)) (end : TalkEnd)
+    → b.config ≡ a.config → TalksOn (x a.config) p a h0 f q b h1 → Ends (y b.config) e v q b h1 g h2 end → Ends (x a.config) d u p a h0 (f ++ g) h2 end
+ends_behind x y d e u v w t p q a h0 f b h1 g h2 end same on ends =
+    let P : Config → Type 0 = λ k. Ends (y k) e v q b h1 g h2 end in
+    ends_after (x a.config) d u p q a h0 f b h1 g h2 end on (ends_weaker (x a.config) (y a.config) d e u v (w a.config) t q b h1 g h2 end (subst P same ends))
 
 -- a way behind a way
-pub goes_behind : (x y : Config → Says) → ((k : Config) → Weaker (y k) (x k)) → (a : Standing) (h0 : Option (List ℕ)) (f : List ℕ) (b : Standing) (h1 : Option (List ℕ)) (g : List ℕ) (c : Standing) (h2 : Option (List ℕ))
-    → b.config ≡ a.config → Goes (x a.config) a h0 f b h1 → Goes (y b.config) b h1 g c h2 → Goes (x a.config) a h0 (f ++ g) c h2
-goes_behind x y w a h0 f b h1 g c h2 same go e =
-    let P : Config → Type 0 = λ k. Goes (y k) b h1 g c h2 in
-    let later = goes_weaker (y a.config) (x a.config) (w a.config) b h1 g c h2 (subst P same e) in
-    goes_join (x a.config) a h0 f b h1 g c h2 go later
+pub talks_nowhere : (says : Says) (p : DeskState) (t : Standing) (held : Option (List ℕ)) → TalksOn says p t held [] p t held
+unfolding goes_nowhere
+talks_nowhere says p t held = record { goes = goes_nowhere says t held; answers = answers_none p }
+
+pub talks_after : (says : Says) (p q r : DeskState) (a : Standing) (h0 : Option (List ℕ)) (f : List ℕ) (b : Standing) (h1 : Option (List ℕ)) (g : List ℕ) (c : Standing) (h2 : Option (List ℕ))
+    → TalksOn says p a h0 f q b h1 → TalksOn says q b h1 g r c h2 → TalksOn says p a h0 (f ++ g) r c h2
+unfolding goes_join
+talks_after says p q r a h0 f b h1 g c h2 x y = record {
+  goes = goes_join says a h0 f b h1 g c h2 x.goes y.goes;
+  answers = answers_join p q r x.goes.answered y.goes.answered x.answers y.answers;
+}
+
+talks_weaker : (x y : Says) → Weaker x y → (p q : DeskState) (a : Standing) (h0 : Option (List ℕ)) (f : List ℕ) (b : Standing) (h1 : Option (List ℕ)) → TalksOn x p a h0 f q b h1 → TalksOn y p a h0 f q b h1
+unfolding goes_weaker
+talks_weaker x y w p q a h0 f b h1 on = record { goes = goes_weaker x y w a h0 f b h1 on.goes; answers = on.answers }
+
+pub talks_behind : (x y : Config → Says) → ((k : Config) → Weaker (y k) (x k)) → (p q r : DeskState) (a : Standing) (h0 : Option (List ℕ)) (f : List ℕ) (b : Standing) (h1 : Option (List ℕ)) (g : List ℕ) (c : Standing) (h2 : Option (List ℕ))
+    → b.config ≡ a.config → TalksOn (x a.config) p a h0 f q b h1 → TalksOn (y b.config) q b h1 g r c h2 → TalksOn (x a.config) p a h0 (f ++ g) r c h2
+talks_behind x y w p q r a h0 f b h1 g c h2 same go on =
+    let P : Config → Type 0 = λ k. TalksOn (y k) q b h1 g r c h2 in
+    talks_after (x a.config) p q r a h0 f b h1 g c h2 go (talks_weaker (y a.config) (x a.config) (w a.config) q r b h1 g c h2 (subst P same on))
 
 -- ---- what the functions of the talk do
 
@@ -306,68 +442,90 @@ pub sends_one : (says : Says) (t : Standing) (payload : List ℕ) (new : Standin
 sends_one says t payload new live said h = (payload ∷ [], (new, (live, (said, h)), refl))
 
 -- a piece was taken, and what it delivered was answered
-pub goes_sends : (x y : Config → Says) → ((k : Config) → Weaker (y k) (x k)) → (a : Standing) (held held' : Option (List ℕ)) (piece : List ℕ) (fed c : Standing)
-    → a.failed ≡ false → fed.config ≡ a.config → held' ≡ held → TakesInput (x a.config) a piece fed → Sends (y fed.config) (record fed { delivered = [] }) c → Goes (x a.config) a held piece c held'
-goes_sends x y w a held held' piece fed c live same still takes sends =
+pub talks_sends : (x y : Config → Says) → ((k : Config) → Weaker (y k) (x k)) → (p q : DeskState) (a : Standing) (held held' : Option (List ℕ)) (piece : List ℕ) (fed c : Standing)
+    → a.failed ≡ false → fed.config ≡ a.config → held' ≡ held → TakesInput (x a.config) a piece fed → AnswersMore p fed.delivered q → Sends (y fed.config) (record fed { delivered = [] }) c → TalksOn (x a.config) p a held piece q c held'
+unfolding goes_on goes_join goes_fed goes_weaker goes_submitted
+talks_sends x y w p q a held held' piece fed c live same still takes answers sends =
     let b : Standing = record fed { delivered = [] } in
     let P : Config → Type 0 = λ k. Sends (y k) b c in
     let s = subst P same sends in
     let later = goes_weaker (y a.config) (x a.config) (w a.config) b held [] c held (goes_submitted (y a.config) b s.0 c held s.1) in
-    subst (λ h. Goes (x a.config) a held piece c h) (sym still) (goes_on (x a.config) a held piece b held c held (goes_fed (x a.config) a piece fed b held live takes refl) later)
+    let on : TalksOn (x a.config) p a held piece q c held = record {
+      goes = goes_on (x a.config) a held piece b held c held (goes_fed (x a.config) a piece fed b held live takes refl) later;
+      answers = subst (λ l. AnswersMore p l q) (sym (append-nil fed.delivered)) answers;
+    } in
+    subst (λ h. TalksOn (x a.config) p a held piece q c h) (sym still) on
+
+cut_well : (refused : Error → Type 0) (p : DeskState) (end : TalkEnd) (at : Standing) → at.failed ≡ false → IsCutAt p at.delivered end → EndsWell refused p [] end at
+cut_well refused p InputEnded at live cut = absurd cut
+cut_well refused p Disconnected at live cut = absurd cut
+cut_well refused p Granted at live cut = absurd cut
+cut_well refused p (Refused e) at live (inl m) = inr (live, inl m)
+cut_well refused p (Refused e) at live (inr g) = inr (live, inr (inr g))
+cut_well refused p NotServed at live cut = (live, cut)
+cut_well refused p SourceFailed at live cut = absurd cut
+cut_well refused p SinkFailed at live cut = absurd cut
+cut_well refused p Exhausted at live cut = absurd cut
 
 -- a piece was taken, and the talk ended at what it delivered
-pub ends_cut : (says : Says) (a : Standing) (held held' : Option (List ℕ)) (piece : List ℕ) (fed : Standing) (end : TalkEnd)
-    → a.failed ≡ false → held' ≡ held → TakesInput says a piece fed → IsCut end → Ends says a held piece held' end
-ends_cut says a held held' piece fed end live still takes cut = record {
-  at = fed;
-  goes = subst (λ h. Goes says a held piece fed h) (sym still) (goes_taken says a piece fed held live takes);
-  well = cut.0 fed;
-}
+pub ends_cut : (says : Says) (denies : Denies) (untrusted : ServerHost → Type 0) (p : DeskState) (a : Standing) (held held' : Option (List ℕ)) (piece : List ℕ) (fed : Standing) (end : TalkEnd)
+    → a.failed ≡ false → held' ≡ held → TakesInput says a piece fed → IsCutAt p fed.delivered end → Ends says denies untrusted p a held piece held' end
+unfolding goes_taken
+ends_cut says denies untrusted p a held held' piece fed end live still takes cut =
+    let ends : Ends says denies untrusted p a held piece held end = record {
+      at = fed;
+      goes = goes_taken says a piece fed held live takes;
+      well = cut_well (λ e. EndsRefused says denies untrusted a (Fed piece ∷ []) e (untouched [] [] fed)) p end fed takes.acts.live cut;
+    } in
+    subst (λ h. Ends says denies untrusted p a held piece h end) (sym still) ends
+
+end_well : (refused : Error → Type 0) (p : DeskState) (answered : List (List ℕ)) (e : Error) (end : TalkEnd) (at : Standing) → at.output ≡ [] → at.failed ≡ true → refused e → IsEndFor e end → EndsWell refused p answered end at
+end_well refused p answered e end at sent failed r (inl h) = subst (λ t. EndsWell refused p answered t at) (sym h.1) (sent, failed, subst refused h.0 r)
+end_well refused p answered e end at sent failed r (inr h) = subst (λ t. EndsWell refused p answered t at) (sym h.1) (inl (sent, failed, h.0, r))
 
 -- a piece was refused, and what was due before was written
-pub ends_refused : (says : Says) (a : Standing) (held held' : Option (List ℕ)) (piece : List ℕ) (fed new : Standing) (cause : RefusalCause) (end : TalkEnd)
-    → a.failed ≡ false → RefusesInput says a piece cause fed → (new ≡ record fed { output = [] }) × Appends fed.output held held' → ((at : Standing) → at.output ≡ [] → at.failed ≡ true → EndsWell end at) → Ends says a held piece held' end
-ends_refused says a held held' piece fed new cause end live refuses sent well = record {
+pub ends_refused : (says : Says) (denies : Denies) (untrusted : ServerHost → Type 0) (p : DeskState) (a : Standing) (held held' : Option (List ℕ)) (piece : List ℕ) (fed new : Standing) (e : Error) (end : TalkEnd)
+    → a.failed ≡ false → RefusesPiece says denies untrusted a piece e fed → (new ≡ record fed { output = [] }) × Appends fed.output held held' → IsEndFor e end → Ends says denies untrusted p a held piece held' end
+unfolding goes_on goes_join goes_refused goes_sent
+ends_refused says denies untrusted p a held held' piece fed new e end live r sent is = record {
   at = new;
-  goes = goes_on says a held piece fed held new held' (goes_refused says a piece fed held cause live refuses) (goes_sent says fed new held held' sent.0 sent.1);
-  well = well new (ap (λ (t : Standing). t.output) sent.0) (ap (λ (t : Standing). t.failed) sent.0 ∙ refuses.failed);
-}
+  goes = goes_on says a held piece fed held new held' (goes_refused says a piece fed held r.cause live r.refuses) (goes_sent says fed new held held' sent.0 sent.1);
+  well = end_well (λ error. EndsRefused says denies untrusted a (FedLast piece ∷ []) error (untouched fed.output [] new)) p [] e end new
+      (ap (λ (t : Standing). t.output) sent.0) (ap (λ (t : Standing). t.failed) sent.0 ∙ r.refuses.failed)
+      (record { earlier = []; piece = piece; mid = a; moves_are = refl; follows = refl; refuses = subst (λ t. RefusesPiece says denies untrusted a piece e t) (sym back) r }) is;
+} where
+  back : untouched fed.output [] new ≡ fed
+  back = ap (untouched fed.output []) sent.0 ∙ ap (λ (o : List ℕ). record fed { output = o }) (append-nil fed.output)
 
 -- and where the sink failed then
-pub ends_unsent : (says : Says) (a : Standing) (held held' : Option (List ℕ)) (piece : List ℕ) (fed : Standing) (cause : RefusalCause)
-    → a.failed ≡ false → RefusesInput says a piece cause fed → AppendsFront fed.output held held' → Ends says a held piece held' SinkFailed
-ends_unsent says a held held' piece fed cause live refuses front = record {
+pub ends_unsent : (says : Says) (denies : Denies) (untrusted : ServerHost → Type 0) (p : DeskState) (a : Standing) (held held' : Option (List ℕ)) (piece : List ℕ) (fed : Standing) (cause : RefusalCause)
+    → a.failed ≡ false → RefusesInput says a piece cause fed → AppendsFront fed.output held held' → Ends says denies untrusted p a held piece held' SinkFailed
+ends_unsent says denies untrusted p a held held' piece fed cause live refuses front = record {
   at = record fed { output = drop front.0 fed.output };
   goes = goes_on says a held piece fed held (record fed { output = drop front.0 fed.output }) held' (goes_refused says a piece fed held cause live refuses) (goes_front says fed held held' front);
   well = tt;
 }
 
 -- the sink failed
-pub ends_front : (says : Says) (t : Standing) (held held' : Option (List ℕ)) → AppendsFront t.output held held' → Ends says t held [] held' SinkFailed
-ends_front says t held held' front = record { at = record t { output = drop front.0 t.output }; goes = goes_front says t held held' front; well = tt }
-
--- all was written, and the talk ended
-pub ends_sent : (says : Says) (t new : Standing) (held held' : Option (List ℕ)) (end : TalkEnd) → (new ≡ record t { output = [] }) × Appends t.output held held' → ((at : Standing) → at.output ≡ [] → EndsWell end at) → Ends says t held [] held' end
-ends_sent says t new held held' end sent well = record {
-  at = new;
-  goes = goes_sent says t new held held' sent.0 sent.1;
-  well = well new (ap (λ (t : Standing). t.output) sent.0);
-}
+pub ends_front : (says : Says) (denies : Denies) (untrusted : ServerHost → Type 0) (p : DeskState) (t : Standing) (held held' : Option (List ℕ)) → AppendsFront t.output held held' → Ends says denies untrusted p t held [] held' SinkFailed
+ends_front says denies untrusted p t held held' front = record { at = record t { output = drop front.0 t.output }; goes = goes_front says t held held' front; well = tt }
 
 -- all was written before
-pub goes_sent_before : (x : Config → Says) (t mid : Standing) (held held' held'' : Option (List ℕ)) (piece : List ℕ) (new : Standing) → (mid ≡ record t { output = [] }) × Appends t.output held held'
-    → Goes (x mid.config) mid held' piece new held'' → Goes (x t.config) t held piece new held''
-goes_sent_before x t mid held held' held'' piece new sent go =
-    let P : Config → Type 0 = λ k. Goes (x k) mid held' piece new held'' in
-    goes_join (x t.config) t held [] mid held' piece new held'' (goes_sent (x t.config) t mid held held' sent.0 sent.1) (subst P (ap (λ (s : Standing). s.config) sent.0) go)
+talks_sent : (says : Says) (p : DeskState) (t mid : Standing) (held held' : Option (List ℕ)) → (mid ≡ record t { output = [] }) × Appends t.output held held' → TalksOn says p t held [] p mid held'
+unfolding goes_sent
+talks_sent says p t mid held held' sent = record { goes = goes_sent says t mid held held' sent.0 sent.1; answers = answers_none p }
 
-pub ends_sent_before : (x : Config → Says) (t mid : Standing) (held held' held'' : Option (List ℕ)) (piece : List ℕ) (end : TalkEnd) → (mid ≡ record t { output = [] }) × Appends t.output held held'
-    → Ends (x mid.config) mid held' piece held'' end → Ends (x t.config) t held piece held'' end
-ends_sent_before x t mid held held' held'' piece end sent e = record {
-  at = e.at;
-  goes = goes_sent_before x t mid held held' held'' piece e.at sent e.goes;
-  well = e.well;
-}
+pub talks_sent_before : (x : Config → Says) (p q : DeskState) (t mid : Standing) (held held' held'' : Option (List ℕ)) (piece : List ℕ) (new : Standing) → (mid ≡ record t { output = [] }) × Appends t.output held held'
+    → TalksOn (x mid.config) p mid held' piece q new held'' → TalksOn (x t.config) p t held piece q new held''
+talks_sent_before x p q t mid held held' held'' piece new sent on =
+    let P : Config → Type 0 = λ k. TalksOn (x k) p mid held' piece q new held'' in
+    talks_after (x t.config) p p q t held [] mid held' piece new held'' (talks_sent (x t.config) p t mid held held' sent) (subst P (ap (λ (s : Standing). s.config) sent.0) on)
+
+pub ends_sent_before : (x : Config → Says) (denies : Denies) (untrusted : ServerHost → Type 0) (p : DeskState) (t mid : Standing) (held held' held'' : Option (List ℕ)) (piece : List ℕ) (end : TalkEnd) → (mid ≡ record t { output = [] }) × Appends t.output held held'
+    → Ends (x mid.config) denies untrusted p mid held' piece held'' end → Ends (x t.config) denies untrusted p t held piece held'' end
+ends_sent_before x denies untrusted p t mid held held' held'' piece end sent e =
+    let P : Config → Type 0 = λ k. Ends (x k) denies untrusted p mid held' piece held'' end in
+    ends_after (x t.config) denies untrusted p p t held [] mid held' piece held'' end (talks_sent (x t.config) p t mid held held' sent) (subst P (ap (λ (s : Standing). s.config) sent.0) e)
 
 -- what a source gave
 pub takes_next : (n : ℕ) (buffer : List ℕ) (old new : Option (List ℕ)) → TakesNext n buffer old new → TakesFront (take n buffer) old new
@@ -398,23 +556,22 @@ some_weaker None P Q f h = tt
 some_weaker (Some x) P Q f h = f x h
 
 -- nothing was done, and the talk ended
-pub ends_nowhere : (says : Says) (t : Standing) (held : Option (List ℕ)) (end : TalkEnd) → EndsWell end t → Ends says t held [] held end
-ends_nowhere says t held end well = record { at = t; goes = goes_nowhere says t held; well = well }
+pub ends_nowhere : (says : Says) (denies : Denies) (untrusted : ServerHost → Type 0) (p : DeskState) (t : Standing) (held : Option (List ℕ)) (end : TalkEnd) → EndsWell (λ e. EndsRefused says denies untrusted t [] e (untouched [] [] t)) p [] end t → Ends says denies untrusted p t held [] held end
+unfolding goes_nowhere
+ends_nowhere says denies untrusted p t held end well = record { at = t; goes = goes_nowhere says t held; well = well }
 
 -- payloads were submitted first, by parts that are as they were
-pub ends_begun : {A H G : Type 0} (says : Config → A → H → G → Says) (a a' : A) (h h' : H) (g g' : G) (t mid : Standing) (held : Option (List ℕ)) (fed : List ℕ) (held' : Option (List ℕ)) (end : TalkEnd)
-    → mid.config ≡ t.config → a' ≡ a → h' ≡ h → g' ≡ g → Sends (says t.config a h g) t mid → Ends (says mid.config a' h' g') mid held fed held' end → Ends (says t.config a h g) t held fed held' end
-ends_begun says a a' h h' g g' t mid held fed held' end c e k m sends ends =
-    let goes : Goes (says t.config a h g) mid held fed ends.at held' =
-    subst (λ x. Goes (says x a h g) mid held fed ends.at held') c
-    (subst (λ x. Goes (says mid.config x h g) mid held fed ends.at held') e
-    (subst (λ x. Goes (says mid.config a' x g) mid held fed ends.at held') k
-    (subst (λ x. Goes (says mid.config a' h' x) mid held fed ends.at held') m ends.goes))) in
-    record {
-      at = ends.at;
-      goes = goes_join (says t.config a h g) t held [] mid held fed ends.at held' (goes_submitted (says t.config a h g) t sends.0 mid held sends.1) goes;
-      well = ends.well;
-    }
+pub ends_begun : {A H G : Type 0} (says : Config → A → H → G → Says) (denies : A → H → G → Denies) (untrusted : H → ServerHost → Type 0) (p : DeskState) (a a' : A) (h h' : H) (g g' : G) (t mid : Standing) (held : Option (List ℕ)) (fed : List ℕ) (held' : Option (List ℕ)) (end : TalkEnd)
+    → mid.config ≡ t.config → a' ≡ a → h' ≡ h → g' ≡ g → Sends (says t.config a h g) t mid → Ends (says mid.config a' h' g') (denies a' h' g') (untrusted h') p mid held fed held' end → Ends (says t.config a h g) (denies a h g) (untrusted h) p t held fed held' end
+unfolding goes_submitted
+ends_begun says denies untrusted p a a' h h' g g' t mid held fed held' end c e k m sends ends =
+    let same : Ends (says t.config a h g) (denies a h g) (untrusted h) p mid held fed held' end =
+    subst (λ x. Ends (says x a h g) (denies a h g) (untrusted h) p mid held fed held' end) c
+    (subst (λ x. Ends (says mid.config x h g) (denies x h g) (untrusted h) p mid held fed held' end) e
+    (subst (λ x. Ends (says mid.config a' x g) (denies a' x g) (untrusted x) p mid held fed held' end) k
+    (subst (λ x. Ends (says mid.config a' h' x) (denies a' h' x) (untrusted h') p mid held fed held' end) m ends))) in
+    let on : TalksOn (says t.config a h g) p t held [] p mid held = record { goes = goes_submitted (says t.config a h g) t sends.0 mid held sends.1; answers = answers_none p } in
+    ends_after (says t.config a h g) (denies a h g) (untrusted h) p p t held [] mid held fed held' end on same
 
 -- the end is reached where none is left
 pub at_end : (buffer : List ℕ) (old new : Option (List ℕ)) → TakesNext 0 buffer old new → IsAtEnd old → ReachesEnd old new
@@ -433,3 +590,64 @@ pub asked_of : (o : Option (List ℕ)) (payload : List ℕ) → o ≡ Some paylo
 asked_of o payload is h =
     let P : Option (List ℕ) → Type 0 = λ x. IfSome x IsAsking in
     inr (subst P is h)
+
+-- what a side makes of a payload may be submitted
+pub message_good : (r : Reply) (payload : List ℕ) → r ≡ Message payload → LetsNobodyIn r → is_good_payload payload ≡ true
+message_good r payload is h = by (subst LetsNobodyIn is h) where
+  by : LetsNobodyIn (Message payload) → is_good_payload payload ≡ true
+  by (inl failure) = ap is_good_payload failure
+  by (inr grant) = grant_good payload grant
+
+-- one payload of some ends the talk
+pub cut_behind : (d mid : DeskState) (xs : List (List ℕ)) (payload : List ℕ) (behind payloads : List (List ℕ)) (end : TalkEnd) → AnswersMore d xs mid → xs ++ payload ∷ behind ≡ payloads → IsCutAt mid (payload ∷ []) end → IsCutAt d payloads end
+cut_behind d mid xs payload behind payloads end h all cut = by end cut where
+  replied : (reply : Reply) → GetsReply mid (payload ∷ []) reply → GetsReply d payloads reply
+  replied reply g =
+      let k = reply_behind d mid xs (payload ∷ []) reply h g in
+      record {
+        before = k.before;
+        payload = k.payload;
+        behind = k.behind ++ behind;
+        all = sym (append_assoc k.before (k.payload ∷ k.behind) behind) ∙ (ap (λ l. l ++ behind) k.all ∙ (append_assoc xs (payload ∷ []) behind ∙ all));
+        reply_is = k.reply_is;
+      }
+
+  by : (end : TalkEnd) → IsCutAt mid (payload ∷ []) end → IsCutAt d payloads end
+  by InputEnded cut = cut
+  by Disconnected cut = cut
+  by Granted cut = cut
+  by (Refused e) (inl m) = inl m
+  by (Refused e) (inr g) = inr (replied (replies.Bad e) g)
+  by NotServed cut = replied replies.NotServed cut
+  by SourceFailed cut = cut
+  by SinkFailed cut = cut
+  by Exhausted cut = cut
+
+-- the one payload gets this reply
+pub one_reply : (d : DeskState) (payload : List ℕ) (r reply : Reply) → r ≡ reply → ((earlier : List (List ℕ)) → HasAnswered d earlier → r ≡ reply_to d.side earlier payload) → GetsReply d (payload ∷ []) reply
+one_reply d payload r reply is h = record {
+  before = [];
+  payload = payload;
+  behind = [];
+  all = refl;
+  reply_is = λ earlier a. ap (λ l. reply_to d.side l payload) (append-nil earlier) ∙ (sym (h earlier a) ∙ is);
+}
+
+-- a client's service was granted, and no exchange is open
+pub granted_here : (d : DeskState) (t : Standing) → d.side ≡ Client → d.granted ≡ true → is_outside t.state.stands ≡ true → IsGranted d [] t
+granted_here d t client granted outside = record {
+  client = client;
+  granted = λ earlier a. ap (λ l. was_granted d.side l) (append-nil earlier) ∙ (sym a.granted ∙ granted);
+  outside = outside;
+}
+
+-- what a client sends first may be submitted
+pub first_good : (o : Option (List ℕ)) (payload slice : List ℕ) → o ≡ Some payload → (side : Side) → o ≡ first_of side → slice ≡ payload → is_good_payload slice ≡ true
+first_good o payload slice is Client first same =
+    let text : spelling (Request login_service) ≡ payload = ap (λ (x : Option (List ℕ)). unwrap_or x []) (sym first ∙ is) in
+    ap is_good_payload (same ∙ sym text)
+first_good o payload slice is Server first same = let both : Some payload ≡ None = sym is ∙ first in cc
+
+pub wants_memory : {A : Type 0} (r : Result A Error) (P : Type 0) → OnErr r ((r ≡ Err errors.Memory) × P) → IfErr r (λ e. e ≡ errors.Memory)
+wants_memory (Ok a) P h = tt
+wants_memory (Err e) P h = let is = h.0 in cc

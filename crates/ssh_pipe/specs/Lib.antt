@@ -1,5 +1,6 @@
 pub mod Commands
 pub mod Ends
 pub mod Desks
+pub mod Keys
 pub mod Known
 pub mod Talks

@@ -1,14 +1,23 @@
 -- What is done with one side of a connection, move by move, and what of it was written.
-use Rattle.std.specs.Prelude.{◌≡◌, ℕ, List, [], ◌∷◌, ◌++◌, map, Option, true, false}
-use Rattle.ssh_wire.specs.Outside.{Appends}
+use Rattle.std.specs.Prelude.{◌≡◌, ◌⊎◌, ℕ, List, [], ◌∷◌, ◌++◌, map, Option, Some, true, false}
+use Rattle.ssh_wire.specs.Outside.{Appends, Rose}
+use Rattle.ssh_wire.specs.declared.error.ConfigFault.{ConfigFault}
+use Rattle.ssh_wire.specs.declared.error.Error.{Error}
+use Rattle.ssh_wire.specs.declared.error.Error.TheVariants as errors
 use Rattle.ssh_wire.specs.declared.side.Side.{Side}
 use Rattle.ssh_wire.specs.declared.side.Side.TheVariants.{Client}
+use Rattle.ssh_kex.specs.Refusals.{Denies}
 use Rattle.ssh_kex.specs.Setting.{Says}
 use Rattle.ssh_kex.specs.declared.config.Config.{Config}
+use Rattle.ssh_kex.specs.declared.exchange.ServerHost.{ServerHost}
 use Rattle.ssh_rules.specs.Parts.{Accepting, Trusting}
-use Rattle.ssh_rules.specs.Standing.{IsNew, RefusalCause, RefusesInput, Standing, Submitted, TakesInput}
-use Rattle.ssh_pipe.specs.Desks.{IsSaid}
+use Rattle.ssh_rules.specs.Refusing.{RefusesPiece}
+use Rattle.ssh_rules.specs.Standing.{IsNew, RefusalCause, RefusesInput, Standing, Submitted, TakesInput, is_outside}
+use Rattle.ssh_rules.specs.Valid.{config_fault}
+use Rattle.ssh_pipe.specs.Desks.{DeskState, HasAnswered, IsSaid, reply_to, was_granted}
 use Rattle.ssh_pipe.specs.Known.{IsSignedClient}
+use Rattle.ssh_pipe.specs.declared.desk.Reply.{Reply}
+use Rattle.ssh_pipe.specs.declared.desk.Reply.TheVariants as replies
 use Rattle.ssh_pipe.specs.declared.end.TalkEnd.{TalkEnd}
 use Rattle.ssh_pipe.specs.declared.end.TalkEnd.TheVariants.{Disconnected, Exhausted, Granted, InputEnded, NotServed, Refused, SinkFailed, SourceFailed}
 
@@ -63,33 +72,108 @@ pub record Goes (says : Says) (old : Standing) (held : Option (List ℕ)) (fed :
   pub fed_is : fed_in moves ≡ fed
   pub written : Appends sent held held'
 
--- Where the talk came to its end, all of the output was written. Behind DISCONNECT the side is closed.
-abbrev pub EndsWell : TalkEnd → Standing → Type 0
-EndsWell InputEnded at = at.output ≡ []
-EndsWell Disconnected at = (at.output ≡ []) × (at.failed ≡ true)
-EndsWell Granted at = at.output ≡ []
-EndsWell (Refused e) at = Unit {0}
-EndsWell NotServed at = Unit {0}
-EndsWell SourceFailed at = Unit {0}
-EndsWell SinkFailed at = Unit {0}
-EndsWell Exhausted at = Unit {0}
+-- Between two states a desk answered these payloads.
+abbrev pub AnswersMore : DeskState → List (List ℕ) → DeskState → Type 0
+AnswersMore d payloads d' = (d'.side ≡ d.side)
+    × ((earlier : List (List ℕ)) → HasAnswered d earlier → HasAnswered d' (earlier ++ payloads))
+
+-- A talk went on: what was taken of what was delivered, the desk answered.
+pub record TalksOn (says : Says) (d : DeskState) (old : Standing) (held : Option (List ℕ)) (fed : List ℕ)
+    (d' : DeskState) (new : Standing) (held' : Option (List ℕ)) : Type 0 where
+  pub goes : Goes says old held fed new held'
+  pub answers : AnswersMore d goes.answered d'
+
+-- ---- why a talk ends
+
+-- The last of some moves is a piece that was refused, and answered with this error.
+pub record EndsRefused (says : Says) (denies : Denies) (untrusted : ServerHost → Type 0) (old : Standing)
+    (moves : List Move) (error : Error) (new : Standing) : Type 0 where
+  pub earlier : List Move
+  pub piece : List ℕ
+  pub mid : Standing
+  pub moves_are : moves ≡ earlier ++ FedLast piece ∷ []
+  pub follows : Follows says old earlier mid
+  pub refuses : RefusesPiece says denies untrusted mid piece error new
+
+-- One of these payloads gets this reply of the desk, behind those before it.
+pub record GetsReply (d : DeskState) (payloads : List (List ℕ)) (reply : Reply) : Type 0 where
+  pub before : List (List ℕ)
+  pub payload : List ℕ
+  pub behind : List (List ℕ)
+  pub all : before ++ payload ∷ behind ≡ payloads
+  pub reply_is : (earlier : List (List ℕ)) → HasAnswered d earlier
+      → reply_to d.side (earlier ++ before) payload ≡ reply
+
+-- the configuration has a fault, of which the error tells
+abbrev pub HasFault : Standing → Error → Type 0
+HasFault at e = (fault : ConfigFault) × (config_fault at.side at.config ≡ Some fault) × (e ≡ errors.InvalidConfig fault)
+
+-- Nothing was refused of what was fed: memory was wanting, the configuration has a fault, or a payload that was
+-- delivered may not come there.
+abbrev pub IsRefusedUnfed : DeskState → (answered : List (List ℕ)) → Standing → Error → Type 0
+IsRefusedUnfed d answered at e = (at.failed ≡ false)
+    × ((e ≡ errors.Memory) ⊎ (HasFault at e ⊎ GetsReply d (answered ++ at.delivered) (replies.Bad e)))
+
+-- The service was granted to a client, and no exchange is open.
+pub record IsGranted (d : DeskState) (answered : List (List ℕ)) (at : Standing) : Type 0 where
+  pub client : d.side ≡ Client
+  pub granted : (earlier : List (List ℕ)) → HasAnswered d earlier
+      → was_granted d.side (earlier ++ answered) ≡ true
+  pub outside : is_outside at.state.stands ≡ true
+
+-- What each end tells. `refused` says of an error that the last move was a piece that was refused for it: behind such a
+-- piece the talk ends as refused for it, but for DISCONNECT, or the sink failed. Else the side hasn't failed. Where the
+-- talk came to its end, all of the output was written.
+abbrev pub EndsWell : (refused : Error → Type 0) → DeskState → (answered : List (List ℕ)) → TalkEnd → Standing → Type 0
+EndsWell refused d answered InputEnded at = (at.output ≡ []) × (at.failed ≡ false)
+EndsWell refused d answered Disconnected at = (at.output ≡ []) × (at.failed ≡ true) × refused errors.Disconnect
+EndsWell refused d answered Granted at = (at.output ≡ []) × (at.failed ≡ false) × IsGranted d answered at
+EndsWell refused d answered (Refused e) at =
+    ((at.output ≡ []) × (at.failed ≡ true) × (e ≡ errors.Disconnect → ⊥) × refused e) ⊎ IsRefusedUnfed d answered at e
+EndsWell refused d answered NotServed at =
+    (at.failed ≡ false) × GetsReply d (answered ++ at.delivered) replies.NotServed
+EndsWell refused d answered SourceFailed at = (at.output ≡ []) × (at.failed ≡ false)
+EndsWell refused d answered SinkFailed at = Unit {0}
+EndsWell refused d answered Exhausted at = at.failed ≡ false
 
 -- A talk ended at some standing of the side.
-pub record Ends (says : Says) (old : Standing) (held : Option (List ℕ)) (fed : List ℕ) (held' : Option (List ℕ))
-    (end : TalkEnd) : Type 0 where
+pub record Ends (says : Says) (denies : Denies) (untrusted : ServerHost → Type 0) (d : DeskState) (old : Standing)
+    (held : Option (List ℕ)) (fed : List ℕ) (held' : Option (List ℕ)) (end : TalkEnd) : Type 0 where
   pub at : Standing
   pub goes : Goes says old held fed at held'
-  pub well : EndsWell end at
+  pub well : EndsWell
+      (λ e. EndsRefused says denies untrusted old goes.moves e (untouched goes.sent goes.answered at))
+      d goes.answered end at
 
--- an end of which nothing is told
-abbrev pub IsCut : TalkEnd → Type 0
-IsCut end = ((at : Standing) → EndsWell end at) × (end ≡ InputEnded → ⊥)
+-- why a desk ends a talk at one of these payloads: it isn't served, it may not come there, or memory was wanting
+abbrev pub IsCutAt : DeskState → (payloads : List (List ℕ)) → TalkEnd → Type 0
+IsCutAt d payloads InputEnded = ⊥
+IsCutAt d payloads Disconnected = ⊥
+IsCutAt d payloads Granted = ⊥
+IsCutAt d payloads (Refused e) = (e ≡ errors.Memory) ⊎ GetsReply d payloads (replies.Bad e)
+IsCutAt d payloads NotServed = GetsReply d payloads replies.NotServed
+IsCutAt d payloads SourceFailed = ⊥
+IsCutAt d payloads SinkFailed = ⊥
+IsCutAt d payloads Exhausted = ⊥
 
--- A new side of this configuration talked: it was fed these bytes, and what was written of its output, the sink holds.
--- Where it is a client, each exchange that it finished was signed by a host that it trusts.
-pub record Talked (side : Side) (config : Config) (says : Says) (accepts : Accepting) (trusts : Trusting)
-    (held : Option (List ℕ)) (fed : List ℕ) (held' : Option (List ℕ)) (end : TalkEnd) : Type 0 where
+-- the end behind a piece that was refused for this error
+abbrev pub IsEndFor : Error → TalkEnd → Type 0
+IsEndFor e end = ((e ≡ errors.Disconnect) × (end ≡ Disconnected)) ⊎ ((e ≡ errors.Disconnect → ⊥) × (end ≡ Refused e))
+
+-- A count of faults rose where the talk ended so, and else stayed.
+abbrev pub TellsFault : (failed : TalkEnd) → (before now : ℕ) → TalkEnd → Type 0
+TellsFault failed before now end = (end ≡ failed → Rose before now) × ((end ≡ failed → ⊥) → now ≡ before)
+
+-- A new side of this configuration talked, and its desk had answered nothing: it was fed these bytes, and what was
+-- written of its output, the sink holds. Where it is a client, each exchange that it finished was signed by a host that
+-- it trusts.
+pub record Talked (side : Side) (config : Config) (says : Says) (denies : Denies) (untrusted : ServerHost → Type 0)
+    (accepts : Accepting) (trusts : Trusting) (held : Option (List ℕ)) (fed : List ℕ) (held' : Option (List ℕ))
+    (end : TalkEnd) : Type 0 where
   pub start : Standing
   pub new : IsNew side config start
-  pub ends : Ends says start held fed held' end
+  pub desk : DeskState
+  pub of_side : desk.side ≡ side
+  pub fresh : HasAnswered desk []
+  pub ends : Ends says denies untrusted desk start held fed held' end
   pub known : side ≡ Client → IsSignedClient accepts trusts says config fed ends.at

@@ -1,8 +1,13 @@
 //! The files of keys.
 
+ghost use Rattle.std.specs.Prelude.{◌≡◌, Ok, IfOk};
+ghost use Rattle.base64.specs.Engines.{standard};
+ghost use Rattle.base64.specs.GeneralPurpose.{decode_of};
+ghost use Rattle.ssh_pipe.specs.Keys.{NamesHost};
+
 use base64::DecodeAllocError;
 use base64::engine::general_purpose::STANDARD;
-use ssh_lines::Words;
+use ssh_lines::{Words, cut};
 use ssh_modp::RsaKey;
 use ssh_wire::{Blob, EncodingFault, Error, Reader};
 use std::alloc::{AllocError, Global};
@@ -17,7 +22,9 @@ const RSA: &[u8] = b"ssh-rsa";
 const NO_KEY: Error = Error::SshEncoding(EncodingFault::CharacterEncoding);
 
 /// The bytes that a text in base64 stands for. SshEncoding(CharacterEncoding) where it isn't base64; Memory.
-fn decoded(alloc: Global, text: &[u8]) -> Result<Vec<u8>, Error> {
+fn decoded(alloc: Global, text: &[u8]) -> Result<Vec<u8>, Error>
+    ensures { IfOk result (λ v. decode_of standard text.now ≡ Ok v.items) }
+{
     match STANDARD.decode(alloc, text) {
         Ok(bytes) => Ok(bytes),
         Err(DecodeAllocError::OutOfMemory) => Err(Error::Memory),
@@ -89,8 +96,11 @@ fn inner_exponent<'a>(private: &'a [u8]) -> Result<&'a [u8], Error> {
 }
 
 /// The blob of an RSA key from the line of its public key's file. SshEncoding where the file isn't one; Memory.
-pub fn known_blob(alloc: Global, text: &[u8]) -> Result<Blob, Error> {
-    let mut words = Words::of(first_line(text));
+pub fn known_blob(alloc: Global, text: &[u8]) -> Result<Blob, Error>
+    ensures { IfOk result (NamesHost text.now) }
+{
+    let (line, _behind) = cut(text, b'\n');
+    let mut words = Words::of(line);
     let Some(kind) = words.take() else {
         return Err(NO_KEY);
     };
@@ -101,8 +111,4 @@ pub fn known_blob(alloc: Global, text: &[u8]) -> Result<Blob, Error> {
         return Err(NO_KEY);
     };
     Ok(Blob::new(decoded(alloc, blob)?))
-}
-
-fn first_line(text: &[u8]) -> &[u8] {
-    ssh_lines::cut(text, b'\n').0
 }

@@ -14,7 +14,7 @@ pub use crate::command::{PipeCommand, command_of};
 pub use crate::desk::{Desk, Reply};
 pub use crate::end::{TalkEnd, status_of};
 pub use crate::keys::{known_blob, private_key};
-pub use crate::program::{exit_code, talk_as};
+pub use crate::program::{exit_code, run_with_key, set_up, talk_as};
 pub use crate::setup::{PipeParts, config_of, parts_of};
 pub use crate::talking::talk;
 pub use ssh_program::{StdSink, StdSource, Word};

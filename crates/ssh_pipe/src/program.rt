@@ -1,14 +1,26 @@
 //! The top call of the program.
 
-ghost use Rattle.std.specs.Prelude.{◌≡◌, ◌≤◌, ◌^◌, List, ℕ, IfOk, false};
+ghost use Rattle.std.specs.Prelude.{◌≡◌, ◌⊎◌, ◌≤◌, ◌^◌, List, [], ℕ, Some, IfErr, IfOk};
 ghost use Rattle.std.specs.Process.{exit_status};
 ghost use Rattle.ssh_wire.specs.Outside.{ReachesEnd, TakesFront};
 ghost use Rattle.ssh_program.specs.Statuses.{want_of_memory};
-ghost use Rattle.ssh_modp.specs.Hosts.{is_known};
+ghost use Rattle.rand_chacha.specs.ChaCha.{ChaCha, of_seed};
+ghost use Rattle.ssh_kex.specs.declared.config.Config.{Config};
+ghost use Rattle.ssh_kex.specs.declared.parts.Parts.{Parts};
+ghost use Rattle.ssh_modp.specs.Counts.{Counts};
+ghost use Rattle.ssh_modp.specs.declared.groups.ModpGroups.{ModpGroups};
+ghost use Rattle.ssh_modp.specs.Hosts.{RsaAsked, is_known};
 ghost use Rattle.ssh_modp.specs.Rsa.{rsa_accepts};
 ghost use Rattle.ssh_rules.specs.Standing.{IsNew};
-ghost use Rattle.ssh_pipe.specs.Talks.{Talked};
-ghost use Rattle.ssh_pipe.specs.declared.end.TalkEnd.TheVariants.{InputEnded};
+ghost use Rattle.ssh_rules.specs.Valid.{config_fault};
+ghost use Rattle.ssh_wire.specs.declared.error.ConfigFault.{ConfigFault};
+ghost use Rattle.ssh_wire.specs.declared.error.Error.TheVariants.{InvalidConfig, Memory};
+ghost use Rattle.ssh_pipe.specs.Desks.{HasAnswered};
+ghost use Rattle.ssh_pipe.specs.Ends.{IsUnbegun, end_status};
+ghost use Rattle.ssh_pipe.specs.Keys.{IsSetUp};
+ghost use Rattle.ssh_pipe.specs.Talks.{Talked, TellsFault};
+ghost use Rattle.ssh_pipe.specs.declared.end.TalkEnd.{TalkEnd};
+ghost use Rattle.ssh_pipe.specs.declared.end.TalkEnd.TheVariants.{InputEnded, SinkFailed, SourceFailed};
 
 use crate::command::{PipeCommand, command_of};
 use crate::desk::Desk;
@@ -21,6 +33,7 @@ use rand_chacha::ChaCha20Rng;
 use ssh_kex::{Config, Handed, Parts};
 use ssh_modp::{FieldAgreement, ModpGroups, RsaHosts};
 use ssh_program::{NO_COMMAND, SCRIPT_FAULTY, StdSource, WANT_OF_MEMORY, Word, words_of};
+use ssh_rules::Asked;
 use ssh_transport::Transport;
 use ssh_wire::{Blob, Error, Side, Sink, Source};
 use std::alloc::Global;
@@ -80,7 +93,35 @@ fn run<R: Files + RandomSource, S: Source, K: Sink, N: Sink>(
         tell(b"sshpipe: there are no random bytes\n", notes);
         return SCRIPT_FAULTY;
     }
-    match set_up(alloc, &command, text.as_slice(), seed) {
+    run_with_key(alloc, &command, text.as_slice(), seed, source, sink, notes)
+}
+
+/// Runs a command by the text of its key's file and a seed, and gives the exit status. Where the file isn't a key that
+/// can be used, or memory is wanting, nothing is read, and nothing is written but a note.
+pub fn run_with_key<S: Source, K: Sink, N: Sink>(
+    alloc: Global,
+    command: &PipeCommand<'_>,
+    text: &[u8],
+    seed: [u8; 32],
+    source: &mut S,
+    sink: &mut K,
+    notes: &mut N,
+) -> u8
+    requires some { 1 ≤ command.now.limit }
+    requires most { command.now.limit ≤ 2 ^ 30 }
+    ensures status { result ≤ want_of_memory }
+    ensures ran { (IsUnbegun result × (S.left source.new ≡ S.left source.old) × (K.held sink.new ≡ K.held sink.old))
+        ⊎ ((config : Config) × (parts : Parts Counts RsaAsked ModpGroups ChaCha)
+        × (left : Parts Counts RsaAsked ModpGroups ChaCha) × (end : TalkEnd) × (bytes : List ℕ)
+        × IsSetUp command.now.side text.now command.now.limit config parts.hosts × (parts.rng ≡ of_seed seed)
+        × (result ≡ end_status end) × TakesFront bytes (S.left source.old) (S.left source.new)
+        × Talked command.now.side config
+        (⟦<Parts<FieldAgreement, RsaHosts, ModpGroups, ChaCha20Rng> as Handed>⟧.says config parts)
+        (⟦<Parts<FieldAgreement, RsaHosts, ModpGroups, ChaCha20Rng> as Handed>⟧.denies parts left)
+        (⟦<Parts<FieldAgreement, RsaHosts, ModpGroups, ChaCha20Rng> as Asked>⟧.distrusts parts left)
+        rsa_accepts (is_known parts.hosts.known) (K.held sink.old) bytes (K.held sink.new) end) }
+{
+    match set_up(alloc, command, text, seed) {
         Ok((config, mut parts)) => {
             let end = talk_as(
                 alloc,
@@ -124,8 +165,9 @@ fn key_file<R: Files>(rt: &R, alloc: Global, name: &str) -> Option<Vec<u8>> {
     None
 }
 
-/// The configuration and the parts of a side, by the text of its key's file.
-fn set_up(
+/// The configuration and the parts of a side, by the text of its key's file. SshEncoding where the file isn't a key of
+/// that side; Memory.
+pub fn set_up(
     alloc: Global,
     command: &PipeCommand<'_>,
     text: &[u8],
@@ -133,6 +175,8 @@ fn set_up(
 ) -> Result<(Config, PipeParts), Error>
     requires some { 1 ≤ command.now.limit }
     requires most { command.now.limit ≤ 2 ^ 30 }
+    ensures hosts { IfOk result (λ v. IsSetUp command.now.side text.now command.now.limit v.0 v.1.hosts) }
+    ensures rng { IfOk result (λ v. v.1.rng ≡ of_seed seed) }
 {
     match command.side {
         Side::Server => {
@@ -165,9 +209,13 @@ pub fn talk_as<S: Source, K: Sink, N: Sink>(
 ) -> TalkEnd
     ensures talked { (bytes : List ℕ) × TakesFront bytes (S.left source.old) (S.left source.new)
         × Talked side config.now
-        (⟦<Parts<FieldAgreement, RsaHosts, ModpGroups, ChaCha20Rng> as Handed>⟧.says config.now parts.old) rsa_accepts
-        (is_known parts.old.hosts.known) (K.held sink.old) bytes (K.held sink.new) result }
+        (⟦<Parts<FieldAgreement, RsaHosts, ModpGroups, ChaCha20Rng> as Handed>⟧.says config.now parts.old)
+        (⟦<Parts<FieldAgreement, RsaHosts, ModpGroups, ChaCha20Rng> as Handed>⟧.denies parts.old parts.new)
+        (⟦<Parts<FieldAgreement, RsaHosts, ModpGroups, ChaCha20Rng> as Asked>⟧.distrusts parts.old parts.new)
+        rsa_accepts (is_known parts.old.hosts.known) (K.held sink.old) bytes (K.held sink.new) result }
     ensures whole { result ≡ InputEnded → ReachesEnd (S.left source.old) (S.left source.new) }
+    ensures source { TellsFault SourceFailed (S.faults source.old) (S.faults source.new) result }
+    ensures sink { TellsFault SinkFailed (K.faults sink.old) (K.faults sink.new) result }
 {
     match opened(alloc, side, config) {
         Ok((mut transport, mut desk)) => {
@@ -179,7 +227,11 @@ pub fn talk_as<S: Source, K: Sink, N: Sink>(
 
 /// A transport that has written its version line, and a desk.
 fn opened<'c>(alloc: Global, side: Side, config: &'c Config) -> Result<(Transport<'c>, Desk), Error>
-    ensures { IfOk result (λ v. IsNew side config.now v.0) }
+    ensures transport { IfOk result (λ v. IsNew side config.now v.0) }
+    ensures side { IfOk result (λ v. v.1.side ≡ side) }
+    ensures desk { IfOk result (λ v. HasAnswered v.1 []) }
+    ensures err { IfErr result (λ e. (e ≡ Memory) ⊎ ((f : ConfigFault) × (config_fault side config.now ≡ Some f)
+        × (e ≡ InvalidConfig f))) }
 {
     let desk = Desk::new(alloc, side)?;
     let transport = match side {

@@ -1,6 +1,8 @@
 //! How a side is set up.
 
-ghost use Rattle.std.specs.Prelude.{◌≡◌, ◌≤◌, ◌^◌};
+ghost use Rattle.std.specs.Prelude.{◌≡◌, ◌∷◌, ◌≤◌, ◌^◌, [], List, ℕ, IfOk, MatchOption, map};
+ghost use Rattle.ssh_negotiate.specs.declared.preferred.HostKey.{HostKey};
+ghost use Rattle.ssh_pipe.specs.Keys.{IsConfigOf};
 ghost use Rattle.rand_chacha.specs.ChaCha.{of_seed};
 
 use rand_chacha::ChaCha20Rng;
@@ -26,6 +28,8 @@ pub type PipeParts = Parts<FieldAgreement, RsaHosts, ModpGroups, ChaCha20Rng>;
 pub fn config_of(alloc: Global, key: Option<&[u8]>, limit: usize) -> Result<Config, Error>
     requires some { 1 ≤ limit }
     requires most { limit ≤ 2 ^ 30 }
+    ensures { IfOk result (λ config. MatchOption key.entry (IsConfigOf [] limit config)
+        (λ blob. IsConfigOf (blob.now ∷ []) limit config)) }
 {
     let keys = host_keys(alloc, key)?;
     let preferred = preferred_of(alloc)?;
@@ -43,7 +47,10 @@ pub fn config_of(alloc: Global, key: Option<&[u8]>, limit: usize) -> Result<Conf
     })
 }
 
-fn host_keys(alloc: Global, key: Option<&[u8]>) -> Result<Vec<HostKey>, AllocError> {
+fn host_keys(alloc: Global, key: Option<&[u8]>) -> Result<Vec<HostKey>, AllocError>
+    ensures { IfOk result (λ keys. MatchOption key.entry (keys.items ≡ [])
+        (λ blob. map (λ (k : HostKey). k.blob) keys.items ≡ blob.now ∷ [])) }
+{
     let mut keys = Vec::new(alloc);
     if let Some(blob) = key {
         let blob = Blob::copy_of(alloc, blob)?;

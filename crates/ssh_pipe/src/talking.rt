@@ -1,16 +1,19 @@
 //! The talk with the other side: pieces are read as they come, fed, and answered at once.
 
-ghost use Rattle.std.specs.Prelude.{◌≡◌, List, ℕ, [], None, true, false, IfSome, OnOk};
-ghost use Rattle.ssh_rules.specs.Standing.{Standing, Submitted};
+ghost use Rattle.std.specs.Prelude.{◌≡◌, List, ℕ, [], ◌∷◌, None, true, false, IfErr, IfSome, OnOk};
+ghost use Rattle.ssh_rules.specs.Standing.{Submitted};
+ghost use Rattle.ssh_rules.specs.Valid.{is_good_payload};
 ghost use Rattle.ssh_wire.specs.Outside.{Appends, AppendsFront, ReachesEnd, Rose, TakesFront};
-ghost use Rattle.ssh_pipe.specs.Talks.{Ends, EndsWell, Goes, IsCut, Sends};
-ghost use Rattle.ssh_pipe.specs.declared.end.TalkEnd.TheVariants.{InputEnded};
+ghost use Rattle.ssh_wire.specs.declared.error.Error.TheVariants.{Memory};
+ghost use Rattle.ssh_pipe.specs.Talks.{AnswersMore, Ends, IsCutAt, IsEndFor, Sends, TalksOn, TellsFault};
+ghost use Rattle.ssh_pipe.specs.declared.end.TalkEnd.TheVariants.{InputEnded, Refused, SinkFailed, SourceFailed};
 
 use crate::desk::{Desk, Reply};
 use crate::end::TalkEnd;
 use crate::notes::tell_exchanges;
 use rand_core::Rng;
 use ssh_kex::{Agreement, GroupLookup, Handed, HostKeys, Parts};
+use ssh_rules::Asked;
 use ssh_transport::Transport;
 use ssh_wire::{Error, Sink, Source, write_all};
 use std::alloc::Global;
@@ -32,9 +35,13 @@ pub fn talk<A: Agreement, H: HostKeys, G: GroupLookup, R: Rng, S: Source, K: Sin
 ) -> TalkEnd
     requires live { transport.old.failed ≡ false }
     ensures talked { (bytes : List ℕ) × TakesFront bytes (S.left source.old) (S.left source.new)
-        × Ends (⟦<Parts<A, H, G, R> as Handed>⟧.says transport.old.config parts.old) transport.old (K.held sink.old)
-        bytes (K.held sink.new) result }
+        × Ends (⟦<Parts<A, H, G, R> as Handed>⟧.says transport.old.config parts.old)
+        (⟦<Parts<A, H, G, R> as Handed>⟧.denies parts.old parts.new)
+        (⟦<Parts<A, H, G, R> as Asked>⟧.distrusts parts.old parts.new) desk.old transport.old
+        (K.held sink.old) bytes (K.held sink.new) result }
     ensures whole { result ≡ InputEnded → ReachesEnd (S.left source.old) (S.left source.new) }
+    ensures source { TellsFault SourceFailed (S.faults source.old) (S.faults source.new) result }
+    ensures sink { TellsFault SinkFailed (K.faults sink.old) (K.faults sink.new) result }
 {
     match begin(alloc, transport, parts, desk) {
         Ok(()) => take_turns(alloc, transport, parts, desk, source, sink, notes),
@@ -54,9 +61,13 @@ fn take_turns<A: Agreement, H: HostKeys, G: GroupLookup, R: Rng, S: Source, K: S
 ) -> TalkEnd
     requires live { transport.old.failed ≡ false }
     ensures talked { (bytes : List ℕ) × TakesFront bytes (S.left source.old) (S.left source.new)
-        × Ends (⟦<Parts<A, H, G, R> as Handed>⟧.says transport.old.config parts.old) transport.old (K.held sink.old)
-        bytes (K.held sink.new) result }
+        × Ends (⟦<Parts<A, H, G, R> as Handed>⟧.says transport.old.config parts.old)
+        (⟦<Parts<A, H, G, R> as Handed>⟧.denies parts.old parts.new)
+        (⟦<Parts<A, H, G, R> as Asked>⟧.distrusts parts.old parts.new) desk.old transport.old
+        (K.held sink.old) bytes (K.held sink.new) result }
     ensures whole { result ≡ InputEnded → ReachesEnd (S.left source.old) (S.left source.new) }
+    ensures source { TellsFault SourceFailed (S.faults source.old) (S.faults source.new) result }
+    ensures sink { TellsFault SinkFailed (K.faults sink.old) (K.faults sink.new) result }
 {
     let mut told = 0;
     'turns: for _ in 0..u64::MAX {
@@ -77,6 +88,8 @@ fn begin<A: Agreement, H: HostKeys, G: GroupLookup, R: Rng>(
     parts: &mut Parts<A, H, G, R>,
     desk: &Desk,
 ) -> Result<(), Error>
+    requires live { transport.old.failed ≡ false }
+    ensures memory { IfErr result (λ e. e ≡ Memory) }
     ensures sent { OnOk result (Sends (⟦<Parts<A, H, G, R> as Handed>⟧.says transport.old.config parts.old)
         transport.old transport.new) }
     ensures live { OnOk result (transport.old.failed ≡ false → transport.new.failed ≡ false) }
@@ -102,13 +115,19 @@ fn turn<A: Agreement, H: HostKeys, G: GroupLookup, R: Rng, S: Source, K: Sink>(
 ) -> Option<TalkEnd>
     requires live { transport.old.failed ≡ false }
     ensures more { result ≡ None → (piece : List ℕ) × TakesFront piece (S.left source.old) (S.left source.new)
-        × Goes (⟦<Parts<A, H, G, R> as Handed>⟧.says transport.old.config parts.old) transport.old (K.held sink.old)
-        piece transport.new (K.held sink.new) }
+        × TalksOn (⟦<Parts<A, H, G, R> as Handed>⟧.says transport.old.config parts.old) desk.old transport.old
+        (K.held sink.old) piece desk.new transport.new (K.held sink.new) }
     ensures ends { IfSome result (λ end. (piece : List ℕ) × TakesFront piece (S.left source.old) (S.left source.new)
-        × Ends (⟦<Parts<A, H, G, R> as Handed>⟧.says transport.old.config parts.old) transport.old (K.held sink.old)
-        piece (K.held sink.new) end) }
+        × Ends (⟦<Parts<A, H, G, R> as Handed>⟧.says transport.old.config parts.old)
+        (⟦<Parts<A, H, G, R> as Handed>⟧.denies parts.old parts.new)
+        (⟦<Parts<A, H, G, R> as Asked>⟧.distrusts parts.old parts.new) desk.old transport.old
+        (K.held sink.old) piece (K.held sink.new) end) }
     ensures live { result ≡ None → transport.new.failed ≡ false }
     ensures whole { IfSome result (λ end. end ≡ InputEnded → ReachesEnd (S.left source.old) (S.left source.new)) }
+    ensures source { IfSome result (TellsFault SourceFailed (S.faults source.old) (S.faults source.new)) }
+    ensures sink { IfSome result (TellsFault SinkFailed (K.faults sink.old) (K.faults sink.new)) }
+    ensures unfailed { result ≡ None → (S.faults source.new ≡ S.faults source.old)
+        × (K.faults sink.new ≡ K.faults sink.old) }
     ensures config { result ≡ None → transport.new.config ≡ transport.old.config }
     ensures keeps { ⟦<Parts<A, H, G, R> as Handed>⟧.keeps parts.old parts.new }
 {
@@ -131,13 +150,19 @@ fn read_on<A: Agreement, H: HostKeys, G: GroupLookup, R: Rng, S: Source, K: Sink
     requires live { transport.old.failed ≡ false }
     requires sent { transport.old.output ≡ [] }
     ensures more { result ≡ None → (piece : List ℕ) × TakesFront piece (S.left source.old) (S.left source.new)
-        × Goes (⟦<Parts<A, H, G, R> as Handed>⟧.says transport.old.config parts.old) transport.old (K.held sink.old)
-        piece transport.new (K.held sink.new) }
+        × TalksOn (⟦<Parts<A, H, G, R> as Handed>⟧.says transport.old.config parts.old) desk.old transport.old
+        (K.held sink.old) piece desk.new transport.new (K.held sink.new) }
     ensures ends { IfSome result (λ end. (piece : List ℕ) × TakesFront piece (S.left source.old) (S.left source.new)
-        × Ends (⟦<Parts<A, H, G, R> as Handed>⟧.says transport.old.config parts.old) transport.old (K.held sink.old)
-        piece (K.held sink.new) end) }
+        × Ends (⟦<Parts<A, H, G, R> as Handed>⟧.says transport.old.config parts.old)
+        (⟦<Parts<A, H, G, R> as Handed>⟧.denies parts.old parts.new)
+        (⟦<Parts<A, H, G, R> as Asked>⟧.distrusts parts.old parts.new) desk.old transport.old
+        (K.held sink.old) piece (K.held sink.new) end) }
     ensures live { result ≡ None → transport.new.failed ≡ false }
     ensures whole { IfSome result (λ end. end ≡ InputEnded → ReachesEnd (S.left source.old) (S.left source.new)) }
+    ensures source { IfSome result (TellsFault SourceFailed (S.faults source.old) (S.faults source.new)) }
+    ensures sink { IfSome result (TellsFault SinkFailed (K.faults sink.old) (K.faults sink.new)) }
+    ensures unfailed { result ≡ None → (S.faults source.new ≡ S.faults source.old)
+        × (K.faults sink.new ≡ K.faults sink.old) }
     ensures config { result ≡ None → transport.new.config ≡ transport.old.config }
     ensures keeps { ⟦<Parts<A, H, G, R> as Handed>⟧.keeps parts.old parts.new }
 {
@@ -159,6 +184,7 @@ fn send<K: Sink>(transport: &mut Transport<'_>, sink: &mut K) -> bool
     ensures failed { result ≡ false → (transport.new ≡ transport.old)
         × AppendsFront transport.old.output (K.held sink.old) (K.held sink.new)
         × Rose (K.faults sink.old) (K.faults sink.new) }
+    ensures unfailed { result ≡ true → K.faults sink.new ≡ K.faults sink.old }
 {
     match write_all(sink, transport.output()) {
         Ok(()) => {
@@ -181,12 +207,17 @@ fn take_piece<A: Agreement, H: HostKeys, G: GroupLookup, R: Rng, K: Sink>(
 ) -> Option<TalkEnd>
     requires live { transport.old.failed ≡ false }
     ensures more { result ≡ None
-        → Goes (⟦<Parts<A, H, G, R> as Handed>⟧.says transport.old.config parts.old) transport.old (K.held sink.old)
-        piece.now transport.new (K.held sink.new) }
+        → TalksOn (⟦<Parts<A, H, G, R> as Handed>⟧.says transport.old.config parts.old) desk.old transport.old
+        (K.held sink.old) piece.now desk.new transport.new (K.held sink.new) }
     ensures live { result ≡ None → transport.new.failed ≡ false }
     ensures ends { IfSome result (λ end. Ends (⟦<Parts<A, H, G, R> as Handed>⟧.says transport.old.config parts.old)
-        transport.old (K.held sink.old) piece.now (K.held sink.new) end) }
+        (⟦<Parts<A, H, G, R> as Handed>⟧.denies parts.old parts.new)
+        (⟦<Parts<A, H, G, R> as Asked>⟧.distrusts parts.old parts.new) desk.old transport.old
+        (K.held sink.old) piece.now (K.held sink.new) end) }
     ensures other { IfSome result (λ end. end ≡ InputEnded → ⊥) }
+    ensures unread { IfSome result (λ end. end ≡ SourceFailed → ⊥) }
+    ensures sink { IfSome result (TellsFault SinkFailed (K.faults sink.old) (K.faults sink.new)) }
+    ensures unfailed { result ≡ None → K.faults sink.new ≡ K.faults sink.old }
     ensures config { result ≡ None → transport.new.config ≡ transport.old.config }
     ensures keeps { ⟦<Parts<A, H, G, R> as Handed>⟧.keeps parts.old parts.new }
 {
@@ -204,8 +235,7 @@ fn take_piece<A: Agreement, H: HostKeys, G: GroupLookup, R: Rng, K: Sink>(
 
 /// The end behind a refusal.
 fn refused(error: Error) -> TalkEnd
-    ensures well { (at : Standing) → at.output ≡ [] → at.failed ≡ true → EndsWell result at }
-    ensures other { result ≡ InputEnded → ⊥ }
+    ensures { IsEndFor error result }
 {
     match error {
         Error::Disconnect => TalkEnd::Disconnected,
@@ -223,9 +253,10 @@ fn answer_all<A: Agreement, H: HostKeys, G: GroupLookup, R: Rng>(
     requires live { transport.old.failed ≡ false }
     ensures sent { result ≡ None → Sends (⟦<Parts<A, H, G, R> as Handed>⟧.says transport.old.config parts.old)
         (record transport.old { delivered = [] }) transport.new }
+    ensures answered { result ≡ None → AnswersMore desk.old transport.old.delivered desk.new }
     ensures live { result ≡ None → transport.new.failed ≡ false }
     ensures config { result ≡ None → transport.new.config ≡ transport.old.config }
-    ensures cut { IfSome result IsCut }
+    ensures cut { IfSome result (IsCutAt desk.old transport.old.delivered) }
     ensures parts { (parts.new.agreement ≡ parts.old.agreement) × (parts.new.hosts ≡ parts.old.hosts)
         × (parts.new.groups ≡ parts.old.groups) }
 {
@@ -250,9 +281,10 @@ fn answer_one<A: Agreement, H: HostKeys, G: GroupLookup, R: Rng>(
     requires live { transport.old.failed ≡ false }
     ensures sent { result ≡ None → Sends (⟦<Parts<A, H, G, R> as Handed>⟧.says transport.old.config parts.old)
         transport.old transport.new }
+    ensures answered { result ≡ None → AnswersMore desk.old (payload.now ∷ []) desk.new }
     ensures live { result ≡ None → transport.new.failed ≡ false }
     ensures config { result ≡ None → transport.new.config ≡ transport.old.config }
-    ensures cut { IfSome result IsCut }
+    ensures cut { IfSome result (IsCutAt desk.old (payload.now ∷ [])) }
     ensures parts { (parts.new.agreement ≡ parts.old.agreement) × (parts.new.hosts ≡ parts.old.hosts)
         × (parts.new.groups ≡ parts.old.groups) }
 {
@@ -271,9 +303,11 @@ fn submit<A: Agreement, H: HostKeys, G: GroupLookup, R: Rng>(
     parts: &mut Parts<A, H, G, R>,
     payload: &[u8],
 ) -> Option<TalkEnd>
+    requires live { transport.old.failed ≡ false }
+    requires good { is_good_payload payload.now ≡ true }
     ensures sent { result ≡ None → Submitted (⟦<Parts<A, H, G, R> as Handed>⟧.says transport.old.config parts.old)
         transport.old payload.now transport.new }
-    ensures cut { IfSome result IsCut }
+    ensures memory { IfSome result (λ end. end ≡ Refused Memory) }
     ensures parts { (parts.new.agreement ≡ parts.old.agreement) × (parts.new.hosts ≡ parts.old.hosts)
         × (parts.new.groups ≡ parts.old.groups) }
 {

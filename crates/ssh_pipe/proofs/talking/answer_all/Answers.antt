@@ -1,6 +1,8 @@
-use Rattle.std.proofs.Common.{◌∙◌}
+use Rattle.std.proofs.Common.{◌∙◌, ◌+◌, drop, rules, subst, sym, take}
 use Rattle.ssh_kex.specs.Stepping.{says_of}
-use Rattle.ssh_pipe.proofs.Ways.{sends_more}
+use Rattle.ssh_pipe.specs.Talks.{AnswersMore}
+use Rattle.ssh_pipe.proofs.Replies.{split_at, taken_next}
+use Rattle.ssh_pipe.proofs.Ways.{answers_join, cut_behind, sends_more}
 use Rattle.ssh_pipe.proofs.talking.answer_all.Goals as goal
 
 pub loop-payload-preserved : goal.loop-payload-preserved
@@ -8,9 +10,14 @@ loop-payload-preserved g c =
     let inv = c.loop-payload.invariant in
     record {
       sent = sends_more (says_of g.A.Agreement.lawful g.A.Agreement.offered g.A.Agreement.client_makes g.A.Agreement.server_makes g.A.Agreement.agrees g.H.HostKeys.lawful g.H.HostKeys.signs g.H.HostKeys.judges g.H.HostKeys.accepts g.H.HostKeys.trusts g.H.HostKeys.makes g.G.GroupLookup.lawful g.G.GroupLookup.group) _ _ _ _ _ _ _ _ _ _ _ inv.config inv.agreement inv.hosts inv.groups inv.sent (c.answer_one.ensures.sent c.in-None.is);
+      answered = subst (λ l. AnswersMore c.args.desk.now l c.answer_one.new.desk) (sym (taken_next c.args.transport.now.delivered c.loop-payload.payload-index c.as_slice.result.now (search rules) (search rules)))
+          (answers_join c.args.desk.now c.loop-payload.desk c.answer_one.new.desk _ _ inv.answered (c.answer_one.ensures.answered c.in-None.is));
       live = c.answer_one.ensures.live c.in-None.is;
       config = c.answer_one.ensures.config c.in-None.is ∙ inv.config;
       agreement = c.answer_one.ensures.parts.0 ∙ inv.agreement;
       hosts = c.answer_one.ensures.parts.1 ∙ inv.hosts;
       groups = c.answer_one.ensures.parts.2 ∙ inv.groups;
     }
+
+pub returns-in-Some-clause-cut : goal.returns-in-Some-clause-cut
+returns-in-Some-clause-cut g c = cut_behind c.args.desk.now c.loop-payload.desk (take c.loop-payload.payload-index c.args.transport.now.delivered) c.as_slice.result.now (drop (c.loop-payload.payload-index + 1) c.args.transport.now.delivered) _ c.in-Some.end c.loop-payload.invariant.answered (split_at c.args.transport.now.delivered c.loop-payload.payload-index c.as_slice.result.now (search rules) (search rules)) c.in-Some.ensures.cut

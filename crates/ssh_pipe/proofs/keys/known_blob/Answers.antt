@@ -1,0 +1,16 @@
+use Rattle.std.proofs.Common.{rules, codes}
+use Rattle.ssh_pipe.proofs.FirstLines.{first_line, three_words}
+use Rattle.ssh_pipe.proofs.keys.known_blob.Goals as goal
+
+pub returns : goal.returns
+returns c =
+    let lines = first_line c.args.text.now c.cut.result.0.now c.cut.result.1 c.cut.ensures.pieces in
+    record {
+      line = c.cut.result.0.now;
+      lines = lines.0;
+      text_is = lines.1;
+      key = c.in-Some-take.blob.now;
+      comment = c.take-2.new.self;
+      words_are = three_words c.of-words.result c.take.new.self c.take-2.new.self c.cut.result.0.now c.in-Some.kind.now (codes "ssh-rsa") c.in-Some-take.blob.now c.of-words.ensures c.in-Some.ensures.words (search rules) c.in-Some-take.ensures.words;
+      key_is = search rules;
+    }
