@@ -1,10 +1,10 @@
 -- What is carried, and steps one after the other.
-use Rattle.std.proofs.Common.{◌≡◌, ℕ, zero, suc, ◌+◌, ◌<◌, ◌≤◌, max, Bool, true, false, ◌⊎◌, inl, inr, List, [], ◌∷◌, ◌++◌, length, get_or, take, drop, Option, Some, None, Result, Ok, Err, IfErr, OnOk, refl, sym, ap, ◌∙◌, subst, arith, append_assoc, append-nil, length-append}
+use Rattle.std.proofs.Common.{◌≡◌, ℕ, zero, suc, ◌+◌, ◌<◌, max, Bool, true, false, ◌⊎◌, inl, inr, List, [], ◌∷◌, ◌++◌, length, get_or, take, drop, Option, Some, None, Result, Ok, Err, OnOk, refl, sym, ap, ◌∙◌, subst, arith, append_assoc, append-nil, length-append}
 use Rattle.std.proofs.lemmas.List.{drop_more, take-append-drop, take_more}
 use Rattle.ssh_wire.specs.Sides.{other_side}
 use Rattle.ssh_wire.specs.declared.side.Side.{Side}
 use Rattle.ssh_wire.specs.declared.side.Side.TheVariants.{Client, Server}
-use Rattle.ssh_channels.specs.Asking.{IsRefused, MuxState, TakesPayload, payload_fault, ReceivesAll, RefusesOneOf}
+use Rattle.ssh_channels.specs.Asking.{IsRefused, ReceivesAll}
 use Rattle.ssh_channels.specs.declared.fault.MuxFault.{MuxFault}
 use Rattle.ssh_kex.specs.Setting.{Says}
 use Rattle.ssh_rules.specs.declared.link.Step.{Step}

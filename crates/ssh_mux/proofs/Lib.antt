@@ -13,3 +13,4 @@ pub mod Good
 pub mod Stopping
 pub mod Finishing
 pub mod Obliging
+pub mod DefaultSides

@@ -36,7 +36,7 @@ same_weaker : (a : Says) → Weaker a a
 same_weaker a = record {
   agrees = λ n q c v x k. k;
   client_makes = λ n q l c k. k;
-  server_makes = λ n q v k. k;
+  server_makes = λ n q c v k. k;
   reply = λ n q l c v x k m. k m;
   finds = λ sizes q k. k;
   signs = λ host hash signature k. k;
@@ -102,7 +102,7 @@ taken_then c c' s s' old mid new h v w k = (h.0 ++ k.0, each_then c s h.0 k.0 ol
 
 -- ---- what the parts keep
 
-pub parts_after : {A H G : Type 0} {lawful : A → Setup → Type 0} {obliging : A → A → Setup → Type 0} {offered : A → kexes.Name → Bool} {refusals calls : A → ℕ}
+pub parts_after : {A H G : Type 0} {lawful : A → Setup → Type 0} {obliging : A → A → Setup → Option DhGroup → Type 0} {offered : A → kexes.Name → Bool} {refusals calls : A → ℕ}
     {lawful_hosts : H → Setup → Type 0} {signs judges : H → H → Setup → Type 0} {accepts : H → ServerHost → List ℕ → List ℕ → Bool} {trusts : H → ServerHost → Bool} {refused_sign refused_verify refused_check calls_hosts : H → ℕ}
     {lawful_groups : G → Setup → Type 0} {obliging_groups : G → G → Setup → Type 0} {group : G → GexParams → DhGroup} {refusals_groups calls_groups : G → ℕ} {a a' a'' : A} {h h' h'' : H} {g g' g'' : G}
     → KeepsParts (KeepsAgreement lawful obliging offered refusals calls a a') (KeepsHosts lawful_hosts signs judges accepts trusts refused_sign refused_verify refused_check calls_hosts h h') (KeepsGroups lawful_groups obliging_groups group refusals_groups calls_groups g g')
@@ -115,10 +115,10 @@ parts_after k m = record {
 }
 
 -- steps behind others, with the parts as the first left them
-pub goes_then : {A H G : Type 0} {lawful : A → Setup → Type 0} {obliging : A → A → Setup → Type 0} {offered : A → kexes.Name → Bool} {refusals calls : A → ℕ}
+pub goes_then : {A H G : Type 0} {lawful : A → Setup → Type 0} {obliging : A → A → Setup → Option DhGroup → Type 0} {offered : A → kexes.Name → Bool} {refusals calls : A → ℕ}
     {lawful_hosts : H → Setup → Type 0} {signs judges : H → H → Setup → Type 0} {accepts : H → ServerHost → List ℕ → List ℕ → Bool} {trusts : H → ServerHost → Bool} {refused_sign refused_verify refused_check calls_hosts : H → ℕ}
     {lawful_groups : G → Setup → Type 0} {obliging_groups : G → G → Setup → Type 0} {group : G → GexParams → DhGroup} {refusals_groups calls_groups : G → ℕ} {a a' b b' : A} {h h' i i' : H} {g g' j j' : G}
-    (client_makes : kexes.Name → Option DhGroup → List ℕ → List ℕ → Type 0) (server_makes : kexes.Name → Option DhGroup → List ℕ → Type 0)
+    (client_makes : kexes.Name → Option DhGroup → List ℕ → List ℕ → Type 0) (server_makes : kexes.Name → Option DhGroup → List ℕ → List ℕ → Type 0)
     (agrees : kexes.Name → Option DhGroup → List ℕ → List ℕ → List ℕ → Type 0) (makes : Config → ServerHost → List ℕ → List ℕ → Type 0) (old mid new : LinkState)
     → KeepsParts (KeepsAgreement lawful obliging offered refusals calls a a') (KeepsHosts lawful_hosts signs judges accepts trusts refused_sign refused_verify refused_check calls_hosts h h') (KeepsGroups lawful_groups obliging_groups group refusals_groups calls_groups g g')
     → KeepsParts (KeepsAgreement lawful obliging offered refusals calls b b') (KeepsHosts lawful_hosts signs judges accepts trusts refused_sign refused_verify refused_check calls_hosts i i') (KeepsGroups lawful_groups obliging_groups group refusals_groups calls_groups j j')

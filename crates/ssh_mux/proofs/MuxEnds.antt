@@ -21,7 +21,7 @@ faulty_told fault (Ran report) h = cc
 wide_told : (plan : MuxPlan) (answer : MuxAnswer) → are_within plan.channels ≡ false → AnswersMuxScript (Ok plan) answer → mux_answer_status answer ≡ run_refused
 wide_told plan (Faulty told) out h = absurd h
 wide_told plan (Refused end) out h = refl
-wide_told plan (Ran report) out h = let w = h.within in cc
+wide_told plan (Ran report) out h = let w = h.run.within in cc
 
 -- what the calls are told of a script
 abbrev pub IsSure : List (List ℕ) → Option (List ℕ) → ℕ → Type 0

@@ -11,7 +11,7 @@ use Rattle.ssh_negotiate.specs.declared.negotiation.Names.{Names}
 use Rattle.ssh_kex.specs.Fields.{IsOutside}
 use Rattle.ssh_kex.specs.declared.config.Config.{Config}
 use Rattle.ssh_kex.specs.declared.group.DhGroup.{DhGroup}
-use Rattle.ssh_rules.specs.Headline.{chosen_by}
+use Rattle.ssh_rules.specs.Headline.{chosen_by, kind_by}
 use Rattle.ssh_rules.specs.LinkCauses.{IsCauseOf, Rises}
 use Rattle.ssh_rules.specs.Valid.{config_fault, first_config_fault}
 use Rattle.ssh_run.specs.RefusedCarrying.{IsConfigFault}
@@ -47,10 +47,10 @@ pub record NoneRises (rises : Side → Rises) : Type 0 where
   pub verifying : (rises Client).verifying → ⊥
   pub checking : (rises Client).checking → ⊥
 
-part : (rises : Side → Rises) (config : Side → Config) (offered : Side → kexes.Name → Bool) (group : DhGroup) → IsValidRun config offered [] → NoneRises rises → (IsOutside (config Client).gex group → ⊥) → (side : Side) (e : Error)
+part : (rises : Side → Rises) (config : Side → Config) (offered : Side → kexes.Name → Bool) (group : DhGroup) → IsValidRun config offered [] → NoneRises rises → (kind_by (chosen_by (config Client) (config Server)) ≡ true → IsOutside (config Client).gex group → ⊥) → (side : Side) (e : Error)
     → IsCauseOf (rises side) side config (offered side) group e → e ≡ errors.Memory
 part rises config offered group v n inside side errors.Memory h = refl
-part rises config offered group v n inside side errors.KexInit h = absurd (inside h.1)
+part rises config offered group v n inside side errors.KexInit h = absurd (inside h.0 h.1)
 part rises config offered group v n inside side errors.UnknownAlgo h = absurd (no_offer (offered side) (chosen_by (config Client) (config Server)) h.names v.names h.chosen v.chosen (v.offers side) h.none)
 part rises config offered group v n inside side (errors.NoCommonAlgo kind ours theirs) h = absurd (no_kind (chosen_by (config Client) (config Server)) v.names kind v.chosen h.none)
 part rises config offered group v n inside side errors.Kex (inl h) = absurd (n.agreement side h)
@@ -74,7 +74,7 @@ part rises config offered group v n inside side (errors.StrictKeyExchangeViolati
 part rises config offered group v n inside side (errors.SshEncoding fault) h = absurd h
 part rises config offered group v n inside side (errors.InvalidConfig fault) h = absurd h
 
-pub memory_only : (rises : Side → Rises) (config : Side → Config) (offered : Side → kexes.Name → Bool) (group : DhGroup) (e : Error) → IsValidRun config offered [] → NoneRises rises → (IsOutside (config Client).gex group → ⊥)
+pub memory_only : (rises : Side → Rises) (config : Side → Config) (offered : Side → kexes.Name → Bool) (group : DhGroup) (e : Error) → IsValidRun config offered [] → NoneRises rises → (kind_by (chosen_by (config Client) (config Server)) ≡ true → IsOutside (config Client).gex group → ⊥)
     → IsLinkCause rises config offered group e → e ≡ errors.Memory
 memory_only rises config offered group e v n inside (inl m) = m
 memory_only rises config offered group e v n inside (inr (inl f)) = absurd (no_config config offered e v f)

@@ -1,5 +1,5 @@
 -- How a run ends.
-use Rattle.std.proofs.Common.{◌≡◌, ◌⊎◌, inl, inr, Bool, true, false, List, [], ◌∷◌, ◌++◌, Option, Some, None, Result, Ok, Err, IfOk, refl, sym, ap, ◌∙◌, subst}
+use Rattle.std.proofs.Common.{◌≡◌, ◌⊎◌, inl, inr, Bool, true, false, List, [], ◌∷◌, ◌++◌, Option, Some, None, Result, Ok, Err, IfErr, IfOk, IfSome, refl, sym, ap, ◌∙◌, subst}
 use Rattle.ssh_mux.specs.Pairs.{are_within, new_pair}
 use Rattle.ssh_mux.specs.Program.{HasBefore, IsRefusedRun, IsWholeRun}
 use Rattle.ssh_run.specs.Carrying.{CarriedLink}
@@ -55,6 +55,24 @@ ended_wanting fault other b end e link = subst (IsEndBehind fault b) (sym e) (Un
 
 pub ended_told : (fault : RunFault) (b : PairOnLink) (end : MuxEnd) (report : MuxReport) → is_call_refused fault ≡ true → end ≡ record { fault = fault; before = Some report } → TellsRun b report → IsEndBehind fault b end
 ended_told fault b end report call e tells = subst (IsEndBehind fault b) (sym e) (Told report call refl refl tells)
+
+-- an end without a report has none of which anything is so
+pub none_before : (end : MuxEnd) (fault : RunFault) (T : MuxReport → Type 0) → end ≡ record { fault = fault; before = None } → IfSome end.before T
+none_before end fault T e = subst (λ (x : MuxEnd). IfSome x.before T) (sym e) tt
+
+-- where a call was refused, its report is one of what was carried before
+pub before_told : (T : MuxReport → Type 0) (fault : RunFault) (b : PairOnLink) (end : MuxEnd) → IsEndBehind fault b end → (is_call_refused fault ≡ true → (report : MuxReport) → TellsRun b report → T report) → IfSome end.before T
+before_told T fault b end (Told report refused same before tells) f = subst (λ o. IfSome o T) (sym before) (f refused report tells)
+before_told T fault b end (Untold link none) f = subst (λ o. IfSome o T) (sym none) tt
+
+-- what is so of the link where a call is refused, and where the link refuses
+pub called_so : {A : Type 0} (r : Result A RunFault) (T : Type 0) → T → IfErr r (λ f. is_call_refused f ≡ true → T)
+called_so (Ok x) T t = tt
+called_so (Err f) T t = λ _. t
+
+pub uncalled_so : {A : Type 0} (r : Result A RunFault) (T : Type 0) → IfErr r IsLinkFault → IfErr r (λ f. is_call_refused f ≡ true → T)
+uncalled_so (Ok x) T h = tt
+uncalled_so (Err f) T h = λ m. absurd (let n : true ≡ false = sym m ∙ h.0 in cc)
 
 -- the answer of a run that went to its end, with memory for its report
 pub whole_told : (config : PairConfig) (steps : List ChannelStep) (p : Pair) (l : LinkState) (b : PairOnLink) (r : Result MuxReport MuxEnd) (report : Result MuxReport RunFault) → are_within config ≡ true → p ≡ new_pair config → l ≡ first_link_state l.carried

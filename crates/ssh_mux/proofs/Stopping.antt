@@ -101,13 +101,13 @@ refused_now keeps tells old p p' q q' step fault error is kp kq few h e d good =
     on false e = inr (subst (λ x. WhereLive old (RefusesLinkStep (tells old.carried.client.transport.config p p') (tells old.carried.server.transport.config q q') old.bound step old.carried x)) same (h e))
 
 -- what the parts keep, and what they tell
-abbrev pub keeps_of : {A H G R : Type 0} (lawful : A → Setup → Type 0) (obliging : A → A → Setup → Type 0) (offered : A → kexes.Name → Bool) (refusals calls : A → ℕ)
+abbrev pub keeps_of : {A H G R : Type 0} (lawful : A → Setup → Type 0) (obliging : A → A → Setup → Option DhGroup → Type 0) (offered : A → kexes.Name → Bool) (refusals calls : A → ℕ)
     (lawful_hosts : H → Setup → Type 0) (signs judges : H → H → Setup → Type 0) (accepts : H → ServerHost → List ℕ → List ℕ → Bool) (trusts : H → ServerHost → Bool) (refused_sign refused_verify refused_check calls_hosts : H → ℕ)
     (lawful_groups : G → Setup → Type 0) (obliging_groups : G → G → Setup → Type 0) (group : G → GexParams → DhGroup) (refusals_groups calls_groups : G → ℕ) → Parts A H G R → Parts A H G R → Type 0
 keeps_of lawful obliging offered refusals calls lh sg jd accepts trusts rs rv rc ch lg og group rg cg a b = KeepsParts (KeepsAgreement lawful obliging offered refusals calls a.agreement b.agreement) (KeepsHosts lh sg jd accepts trusts rs rv rc ch a.hosts b.hosts) (KeepsGroups lg og group rg cg a.groups b.groups)
 
-abbrev pub tells_of : {A H G R : Type 0} (lawful : A → Setup → Type 0) (obliging : A → A → Setup → Type 0) (offered : A → kexes.Name → Bool)
-    (client_makes : kexes.Name → Option DhGroup → List ℕ → List ℕ → Type 0) (server_makes : kexes.Name → Option DhGroup → List ℕ → Type 0)
+abbrev pub tells_of : {A H G R : Type 0} (lawful : A → Setup → Type 0) (obliging : A → A → Setup → Option DhGroup → Type 0) (offered : A → kexes.Name → Bool)
+    (client_makes : kexes.Name → Option DhGroup → List ℕ → List ℕ → Type 0) (server_makes : kexes.Name → Option DhGroup → List ℕ → List ℕ → Type 0)
     (agrees : kexes.Name → Option DhGroup → List ℕ → List ℕ → List ℕ → Type 0) (refusals : A → ℕ)
     (lawful_hosts : H → Setup → Type 0) (signs judges : H → H → Setup → Type 0) (accepts : H → ServerHost → List ℕ → List ℕ → Bool) (trusts : H → ServerHost → Bool)
     (makes : Config → ServerHost → List ℕ → List ℕ → Type 0) (refused_sign refused_verify refused_check : H → ℕ)
@@ -115,10 +115,10 @@ abbrev pub tells_of : {A H G R : Type 0} (lawful : A → Setup → Type 0) (obli
 tells_of lawful obliging offered cm sm ag refusals lh sg jd accepts trusts makes rs rv rc lg og group rl config a b = telling_of lawful obliging offered cm sm ag refusals lh sg jd accepts trusts makes rs rv rc lg og group rl config a.agreement b.agreement a.hosts b.hosts a.groups b.groups
 
 -- behind some steps
-pub refused_then : {A H G R : Type 0} {lawful : A → Setup → Type 0} {obliging : A → A → Setup → Type 0} {offered : A → kexes.Name → Bool} {refusals calls : A → ℕ}
+pub refused_then : {A H G R : Type 0} {lawful : A → Setup → Type 0} {obliging : A → A → Setup → Option DhGroup → Type 0} {offered : A → kexes.Name → Bool} {refusals calls : A → ℕ}
     {lawful_hosts : H → Setup → Type 0} {signs judges : H → H → Setup → Type 0} {accepts : H → ServerHost → List ℕ → List ℕ → Bool} {trusts : H → ServerHost → Bool} {refused_sign refused_verify refused_check calls_hosts : H → ℕ}
     {lawful_groups : G → Setup → Type 0} {obliging_groups : G → G → Setup → Type 0} {group : G → GexParams → DhGroup} {refusals_groups calls_groups : G → ℕ}
-    (client_makes : kexes.Name → Option DhGroup → List ℕ → List ℕ → Type 0) (server_makes : kexes.Name → Option DhGroup → List ℕ → Type 0)
+    (client_makes : kexes.Name → Option DhGroup → List ℕ → List ℕ → Type 0) (server_makes : kexes.Name → Option DhGroup → List ℕ → List ℕ → Type 0)
     (agrees : kexes.Name → Option DhGroup → List ℕ → List ℕ → List ℕ → Type 0) (makes : Config → ServerHost → List ℕ → List ℕ → Type 0) (old mid : LinkState) (p p' p'' q q' q'' : Parts A H G R) (error : Error)
     → KeepsParts (KeepsAgreement lawful obliging offered refusals calls p.agreement p'.agreement) (KeepsHosts lawful_hosts signs judges accepts trusts refused_sign refused_verify refused_check calls_hosts p.hosts p'.hosts) (KeepsGroups lawful_groups obliging_groups group refusals_groups calls_groups p.groups p'.groups)
     → KeepsParts (KeepsAgreement lawful obliging offered refusals calls q.agreement q'.agreement) (KeepsHosts lawful_hosts signs judges accepts trusts refused_sign refused_verify refused_check calls_hosts q.hosts q'.hosts) (KeepsGroups lawful_groups obliging_groups group refusals_groups calls_groups q.groups q'.groups)
@@ -184,8 +184,8 @@ refuses_link keeps tells client server first p p' q q' error later vc vs n is r 
     refl bound (later p r.client_now p' start.client.transport.config r.mid.carried.client.transport.config runs.configs.of_client r.client_keeps)
     (later q r.server_now q' start.server.transport.config r.mid.carried.server.transport.config runs.configs.of_server r.server_keeps) runs refused lc ls)
 
-pub parts_later : {A H G R : Type 0} (lawful : A → Setup → Type 0) (obliging : A → A → Setup → Type 0) (offered : A → kexes.Name → Bool)
-    (client_makes : kexes.Name → Option DhGroup → List ℕ → List ℕ → Type 0) (server_makes : kexes.Name → Option DhGroup → List ℕ → Type 0)
+pub parts_later : {A H G R : Type 0} (lawful : A → Setup → Type 0) (obliging : A → A → Setup → Option DhGroup → Type 0) (offered : A → kexes.Name → Bool)
+    (client_makes : kexes.Name → Option DhGroup → List ℕ → List ℕ → Type 0) (server_makes : kexes.Name → Option DhGroup → List ℕ → List ℕ → Type 0)
     (agrees : kexes.Name → Option DhGroup → List ℕ → List ℕ → List ℕ → Type 0) (refusals calls : A → ℕ)
     (lawful_hosts : H → Setup → Type 0) (signs judges : H → H → Setup → Type 0) (accepts : H → ServerHost → List ℕ → List ℕ → Bool) (trusts : H → ServerHost → Bool)
     (makes : Config → ServerHost → List ℕ → List ℕ → Type 0) (refused_sign refused_verify refused_check calls_hosts : H → ℕ)

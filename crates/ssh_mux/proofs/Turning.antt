@@ -12,12 +12,12 @@ use Rattle.ssh_record.proofs.Lemmas.{front_length}
 use Rattle.ssh_channels.specs.Laws.{AreSettings}
 use Rattle.ssh_talks.specs.Making.{still_made}
 use Rattle.ssh_mux.specs.Pairs.{are_within}
-use Rattle.ssh_mux.specs.Running.{Both, Carries, HasReceived, IsEmptied, LinkGoes, PairOnLink, RunsSteps, first_on_link, request_of, state_at}
-use Rattle.ssh_mux.specs.Stopping.{RunsOut, TurnsOn, TurnsOnce, TurnsOut, submitted_in, turns_after, turns_behind}
+use Rattle.ssh_mux.specs.Running.{Carries, HasReceived, LinkGoes, PairOnLink, first_on_link, request_of, state_at}
+use Rattle.ssh_mux.specs.Stopping.{RunsOut, TurnsOn, TurnsOnce, submitted_in, turns_after, turns_behind}
 use Rattle.ssh_mux.specs.declared.pair.PairConfig.{PairConfig}
 use Rattle.ssh_mux.specs.declared.step.ChannelStep.{ChannelStep}
 use Rattle.ssh_mux.specs.declared.step.ChannelStep.TheVariants.{Start, Write, Read, Eof, Close, Deliver, Rekey, Settle}
-use Rattle.ssh_mux.proofs.Honesty.{IsAtMoment, LeadsTo, IsStillAt, added_in, asked_in, at_called, at_carries, at_first, at_steps, before_self, before_then, carries_before, made_in, runs_marked, settings, submitted_on}
+use Rattle.ssh_mux.proofs.Honesty.{IsAtMoment, added_in, asked_in, at_called, at_carries, at_first, at_steps, before_self, before_then, carries_before, made_in, runs_marked, settings, submitted_on}
 use Rattle.ssh_mux.proofs.OnTime.{IsBefore, IsMarkedLink, MakesHonest, submitted_front}
 
 -- ---- how many messages are submitted

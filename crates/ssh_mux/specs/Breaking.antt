@@ -1,7 +1,7 @@
 -- Where a run is refused for a message that came.
-use Rattle.std.specs.Prelude.{◌≡◌, ℕ, Bool, true, false, List, ◌∷◌, ◌++◌, drop}
+use Rattle.std.specs.Prelude.{◌≡◌, Bool, true, false, List, drop}
 use Rattle.ssh_wire.specs.declared.side.Side.{Side}
-use Rattle.ssh_channels.specs.Asking.{IsRefused, MuxState, payload_fault, ReceivesAll, RefusesOneOf}
+use Rattle.ssh_channels.specs.Asking.{RefusesOneOf}
 use Rattle.ssh_channels.specs.declared.fault.MuxFault.{MuxFault}
 use Rattle.ssh_channels.specs.declared.fault.MuxFault.TheVariants as mux
 use Rattle.ssh_run.specs.Stepping.{LinkState}

@@ -11,3 +11,4 @@ pub mod Breaking
 pub mod Doing
 pub mod Stopping
 pub mod Causes
+pub mod Sides

@@ -1,5 +1,5 @@
 -- The top call of the program: what it answers, and how it ends.
-use Rattle.std.specs.Prelude.{◌≡◌, ℕ, Bool, true, false, if◌then◌else◌, List, [], ◌∷◌, codes, Option, Some, None, Result, Ok, Err}
+use Rattle.std.specs.Prelude.{◌≡◌, ◌⊎◌, ℕ, Bool, true, false, if◌then◌else◌, List, [], ◌∷◌, codes, Option, Some, None, IfSome, Result, Ok, Err}
 use Rattle.std.specs.Str.{bytes_eq}
 use Rattle.ssh_lines.specs.Printed.{fault_line}
 use Rattle.ssh_lines.specs.declared.script.ScriptFault.{ScriptFault}
@@ -8,6 +8,7 @@ use Rattle.ssh_mux.specs.Pairs.{are_within}
 use Rattle.ssh_mux.specs.Printing.{channels_text, run_fault_line}
 use Rattle.ssh_mux.specs.Running.{IsMuxRun, IsRunBefore, is_call_refused}
 use Rattle.ssh_mux.specs.Script.{MuxPlan, channel_script}
+use Rattle.ssh_mux.specs.Sides.{IsDefaultLink}
 use Rattle.ssh_mux.specs.declared.answer.MuxAnswer.{MuxAnswer}
 use Rattle.ssh_mux.specs.declared.answer.MuxAnswer.TheVariants.{Faulty, Refused, Ran}
 use Rattle.ssh_mux.specs.declared.answer.MuxMain.{MuxMain}
@@ -49,11 +50,23 @@ pub record IsWholeRun (config : PairConfig) (steps : List ChannelStep) (report :
   pub within : are_within config ≡ true
   pub run : IsMuxRun config steps report
 
+-- A script's run went to its end: its link is one between the default sides.
+pub record IsScriptRun (plan : MuxPlan) (report : MuxReport) : Type 0 where
+  pub run : IsWholeRun plan.channels plan.steps report
+  pub link : IsDefaultLink report
+
+-- A script's run was refused: for a number out of its bounds, or for a call. The link refused nothing, and that of the
+-- steps before is one between the default sides.
+pub record IsScriptRefused (plan : MuxPlan) (end : MuxEnd) : Type 0 where
+  pub run : IsRefusedRun plan.channels plan.steps end
+  pub cause : (end.fault ≡ Config) ⊎ (is_call_refused end.fault ≡ true)
+  pub link : IfSome end.before IsDefaultLink
+
 -- what is answered to a plan
 abbrev pub AnswersMuxPlan : MuxPlan → MuxAnswer → Type 0
 AnswersMuxPlan plan (Faulty told) = ⊥
-AnswersMuxPlan plan (Refused end) = IsRefusedRun plan.channels plan.steps end
-AnswersMuxPlan plan (Ran report) = IsWholeRun plan.channels plan.steps report
+AnswersMuxPlan plan (Refused end) = IsScriptRefused plan end
+AnswersMuxPlan plan (Ran report) = IsScriptRun plan report
 
 -- what is answered to what a script says, or to its fault
 abbrev pub AnswersMuxScript : Result MuxPlan ScriptFault → MuxAnswer → Type 0

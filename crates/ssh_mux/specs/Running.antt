@@ -8,7 +8,7 @@ use Rattle.ssh_rules.specs.declared.link.Step.{Step}
 use Rattle.ssh_rules.specs.declared.link.Step.TheVariants as steps
 use Rattle.ssh_run.specs.Carrying.{CarriedLink, both_marks}
 use Rattle.ssh_run.specs.Stepping.{LinkState, first_link_state, report_so_far}
-use Rattle.ssh_channels.specs.Asking.{Answers, MuxState, TakesPayload, request_fault, ReceivesAll}
+use Rattle.ssh_channels.specs.Asking.{Answers, MuxState, request_fault, ReceivesAll}
 use Rattle.ssh_channels.specs.Ends as ends
 use Rattle.ssh_channels.specs.Muxes.{On, Request}
 use Rattle.ssh_channels.specs.Muxes as muxes

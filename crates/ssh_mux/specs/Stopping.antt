@@ -1,5 +1,5 @@
 -- Where a run is refused for an error of the link: the turns of a settle are all taken, or the link refuses a step.
-use Rattle.std.specs.Prelude.{◌≡◌, ◌⊎◌, ℕ, zero, suc, ◌+◌, ◌-◌, ◌^◌, ◌<◌, min, true, List, [], ◌∷◌, ◌++◌, length}
+use Rattle.std.specs.Prelude.{◌≡◌, ◌≢◌, ◌⊎◌, ℕ, zero, suc, ◌+◌, ◌-◌, ◌^◌, ◌<◌, min, true, List, [], ◌∷◌, ◌++◌, length}
 use Rattle.ssh_wire.specs.declared.error.Error.{Error}
 use Rattle.ssh_wire.specs.declared.error.Error.TheVariants.{Disconnect, Memory}
 use Rattle.ssh_wire.specs.declared.side.Side.{Side}
@@ -11,10 +11,11 @@ use Rattle.ssh_rules.specs.declared.link.Step.{Step}
 use Rattle.ssh_run.specs.RefusedCarrying.{RefusesLinkStep, Telling}
 use Rattle.ssh_run.specs.RunCauses.{submits_good}
 use Rattle.ssh_run.specs.Stepping.{LinkState, WhereLive}
+use Rattle.ssh_channels.specs.declared.fault.MuxFault.TheVariants as mux
 use Rattle.ssh_mux.specs.Linking.{TakesSteps}
 use Rattle.ssh_mux.specs.Running.{Both, Called, Carries, PairOnLink, RunsSteps, state_at}
 use Rattle.ssh_mux.specs.declared.fault.RunFault.{RunFault}
-use Rattle.ssh_mux.specs.declared.fault.RunFault.TheVariants.{Link}
+use Rattle.ssh_mux.specs.declared.fault.RunFault.TheVariants.{Link, Mux}
 use Rattle.ssh_mux.specs.declared.step.ChannelStep.{ChannelStep}
 use Rattle.ssh_mux.specs.declared.step.ChannelStep.TheVariants.{Start, Write, Read, Eof, Close, Deliver, Rekey, Settle}
 
@@ -28,6 +29,10 @@ WhereStopped fault why = (e : Error) → fault ≡ Link e → why e
 -- the link wants memory, if the run is refused for an error of the link
 abbrev pub IsWanting : RunFault → Type 0
 IsWanting fault = WhereStopped fault (λ e. e ≡ Memory)
+
+-- memory isn't wanting
+abbrev pub IsKept : RunFault → Type 0
+IsKept fault = (fault ≢ Mux mux.Memory) × (fault ≢ Link Memory)
 
 -- ---- payloads
 

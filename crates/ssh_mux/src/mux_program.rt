@@ -1,10 +1,13 @@
 //! The program as its outer part sees it.
 
+ghost use Rattle.ssh_mux.specs.Breaking.{IsNoMessageFault};
 ghost use Rattle.ssh_mux.specs.Program.{AnswersMuxPlan, AnswersMuxScript, IsRefusedRun, IsWholeRun};
 ghost use Rattle.ssh_mux.specs.Script.{channel_script};
+ghost use Rattle.ssh_mux.specs.Sides.{IsDefaultLink, default_plan};
+ghost use Rattle.ssh_mux.specs.Stopping.{IsKept, IsWanting};
 ghost use Rattle.ssh_mux.specs.declared.answer.MuxAnswer.TheVariants.{Refused};
 ghost use Rattle.ssh_lines.specs.LineFaults.{IsRefusal};
-ghost use Rattle.std.specs.Prelude.{◌≡◌, ◌≤◌, Ok, IfOk, IfErr};
+ghost use Rattle.std.specs.Prelude.{◌≡◌, ◌≤◌, Ok, IfOk, IfErr, IfSome, false};
 
 use crate::answer::MuxAnswer;
 use crate::fault::RunFault;
@@ -111,6 +114,7 @@ fn take_script(alloc: Global, text: Vec<u8>) -> Result<MuxScript, ScriptError>
 }
 
 /// What is answered to what a script says.
+#[tactic(auto, using(crate::proofs::DefaultSides::ran_told, crate::proofs::DefaultSides::refusal_told))]
 fn run_answer(alloc: Global, script: MuxScript) -> Result<MuxAnswer, AllocError>
     ensures answer { IfOk result (λ answer. AnswersMuxPlan (record {
       channels = script.channels;
@@ -126,6 +130,7 @@ fn run_answer(alloc: Global, script: MuxScript) -> Result<MuxAnswer, AllocError>
 /// What is answered to a refused run; want of memory is no refusal.
 fn refused(end: MuxEnd) -> Result<MuxAnswer, AllocError>
     ensures answer { IfOk result (λ answer. answer ≡ Refused end) }
+    ensures kept { IfOk result (λ answer. IsKept end.fault) }
 {
     if is_memory(&end.fault) {
         return Err(AllocError);
@@ -134,7 +139,9 @@ fn refused(end: MuxEnd) -> Result<MuxAnswer, AllocError>
 }
 
 /// Whether memory was wanting.
-fn is_memory(fault: &RunFault) -> bool {
+fn is_memory(fault: &RunFault) -> bool
+    ensures { result ≡ false → IsKept fault.now }
+{
     matches!(
         fault,
         RunFault::Mux(MuxFault::Memory) | RunFault::Link(Error::Memory)
@@ -145,8 +152,29 @@ fn is_memory(fault: &RunFault) -> bool {
 fn run_script(alloc: Global, script: &MuxScript) -> Result<Result<MuxReport, MuxEnd>, AllocError>
     ensures ran { IfOk result (λ ended. IfOk ended (IsWholeRun script.now.channels script.now.steps.items)) }
     ensures refused { IfOk result (λ ended. IfErr ended (IsRefusedRun script.now.channels script.now.steps.items)) }
+    ensures link { IfOk result (λ ended. IfOk ended IsDefaultLink) }
+    ensures before { IfOk result (λ ended. IfErr ended (λ end. IfSome end.before IsDefaultLink)) }
+    ensures unrefused { IfOk result (λ ended. IfErr ended (λ end. IsNoMessageFault end.fault)) }
+    ensures complete { IfOk result (λ ended. IfErr ended (λ end. IsWanting end.fault)) }
 {
     let sides = default_sides(alloc)?;
+    run_between(alloc, &sides, script)
+}
+
+/// Runs a script between these sides. Their parts are test parts.
+fn run_between(
+    alloc: Global,
+    sides: &Script,
+    script: &MuxScript,
+) -> Result<Result<MuxReport, MuxEnd>, AllocError>
+    requires { sides.now ≡ default_plan }
+    ensures ran { IfOk result (λ ended. IfOk ended (IsWholeRun script.now.channels script.now.steps.items)) }
+    ensures refused { IfOk result (λ ended. IfErr ended (IsRefusedRun script.now.channels script.now.steps.items)) }
+    ensures link { IfOk result (λ ended. IfOk ended IsDefaultLink) }
+    ensures before { IfOk result (λ ended. IfErr ended (λ end. IfSome end.before IsDefaultLink)) }
+    ensures unrefused { IfOk result (λ ended. IfErr ended (λ end. IsNoMessageFault end.fault)) }
+    ensures complete { IfOk result (λ ended. IfErr ended (λ end. IsWanting end.fault)) }
+{
     let server = &sides.server.config.host;
     let mut client_parts = mux_parts(alloc, sides.client.seed, server)?;
     let mut server_parts = mux_parts(alloc, sides.server.seed, server)?;
@@ -165,7 +193,9 @@ fn run_script(alloc: Global, script: &MuxScript) -> Result<Result<MuxReport, Mux
 }
 
 /// Two sides as they are where a script says nothing of them.
-fn default_sides(alloc: Global) -> Result<Script, AllocError> {
+fn default_sides(alloc: Global) -> Result<Script, AllocError>
+    ensures { IfOk result (λ script. script ≡ default_plan) }
+{
     let Ok(forms) = RunForms::new(alloc) else {
         return Err(AllocError);
     };

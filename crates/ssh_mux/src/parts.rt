@@ -1,5 +1,8 @@
 //! The parts of a side of a run: test parts.
 
+ghost use Rattle.std.specs.Prelude.{◌≡◌, IfOk, map};
+ghost use Rattle.ssh_mux.specs.Sides.{trusted_key};
+
 use rand_chacha::ChaCha20Rng;
 use rand_core::SeedableRng;
 use ssh_kex::Parts;
@@ -16,7 +19,10 @@ pub(crate) fn mux_parts(
     alloc: Global,
     seed: u64,
     server: &ServerKeys,
-) -> Result<MuxParts, AllocError> {
+) -> Result<MuxParts, AllocError>
+    ensures trusted { IfOk result (λ parts. parts.hosts.trusted ≡ map trusted_key server.now.keys) }
+    ensures bits { IfOk result (λ parts. parts.groups.bits ≡ 0) }
+{
     let trusted = trusted_keys(alloc, server.keys.as_slice())?;
     Ok(Parts {
         agreement: TestAgreement::new(),
@@ -34,7 +40,9 @@ fn seed_of(seed: u64) -> [u8; 32] {
 }
 
 /// Trusts each key as its own. Memory.
-fn trusted_keys(alloc: Global, keys: &[HostKey]) -> Result<Vec<TrustedHost>, AllocError> {
+fn trusted_keys(alloc: Global, keys: &[HostKey]) -> Result<Vec<TrustedHost>, AllocError>
+    ensures { IfOk result (λ trusted. trusted.items ≡ map trusted_key keys.now) }
+{
     let mut trusted = Vec::new(alloc);
     for key in keys {
         trusted.push(TrustedHost {

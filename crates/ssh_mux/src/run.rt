@@ -1,9 +1,10 @@
 //! The run of channels over a link.
 
-ghost use Rattle.std.specs.Prelude.{List, ◌≡◌, ◌⊎◌, None, Some, IfErr, IfOk, OnOk, Ok, ◌++◌, ◌∷◌, [], true, false};
+ghost use Rattle.std.specs.Prelude.{List, ◌≡◌, ◌⊎◌, None, Some, IfErr, IfOk, IfSome, OnOk, Ok, ◌++◌, ◌∷◌, [], true, false};
 ghost use Rattle.ssh_kex.specs.Parts.{between};
 ghost use Rattle.ssh_wire.specs.declared.error.Error.TheVariants.{Disconnect};
-ghost use Rattle.ssh_rules.specs.Headline.{IsLink};
+ghost use Rattle.ssh_rules.specs.Headline.{IsLink, chosen_by, kind_by};
+ghost use Rattle.ssh_rules.specs.Refused.{group_due};
 ghost use Rattle.ssh_rules.specs.RunLaws.{config_of};
 ghost use Rattle.ssh_run.specs.RunCauses.{IsValidRun, offered_on, rises_by};
 ghost use Rattle.ssh_channels.specs.Asking.{IsRefused};
@@ -51,11 +52,11 @@ pub struct Setup<'c> {
 /// Config where a window or a largest packet is out of its bounds, before any step. Unknown, Ended or Full by the first
 /// call that a side refuses, with the report of the steps before. Link where the link refuses a step. Memory.
 ///
-/// Of lawful parts the link of the report is a link between both sides, no run is refused for a message that comes, and
-/// no settle comes to no end. The link refuses such a run only for a configuration, for what a part decides, or for
-/// want of memory. Where the parts oblige and the configurations are valid and offer what they choose, that is for want
-/// of memory alone.
-#[tactic(auto, using(crate::proofs::Refusing::refused_config, crate::proofs::Refusing::refused_link, crate::proofs::Refusing::refused_behind, crate::proofs::Refusing::whole, crate::proofs::Breaking::end_unbroken, crate::proofs::Stopping::end_no_disconnect, crate::proofs::Stopping::config_no_disconnect, crate::proofs::Stopping::new_no_disconnect, crate::proofs::Stopping::end_stopped, crate::proofs::Stopping::config_caused, crate::proofs::Stopping::new_caused))]
+/// Of lawful parts the link of a report is a link between both sides, also of the steps before a refused call. No run
+/// is refused for a message that comes, and no settle comes to no end. The link refuses such a run only for a
+/// configuration, for what a part decides, or for want of memory. Where the parts oblige and the configurations are
+/// valid and offer what they choose, that is for want of memory alone.
+#[tactic(auto, using(crate::proofs::Refusing::refused_config, crate::proofs::Refusing::refused_link, crate::proofs::Refusing::refused_behind, crate::proofs::Refusing::whole, crate::proofs::Refusing::none_before, crate::proofs::Breaking::end_unbroken, crate::proofs::Stopping::end_no_disconnect, crate::proofs::Stopping::config_no_disconnect, crate::proofs::Stopping::new_no_disconnect, crate::proofs::Stopping::end_stopped, crate::proofs::Stopping::config_caused, crate::proofs::Stopping::new_caused))]
 pub fn run_channels<'c, A: Agreement, H: HostKeys, G: GroupLookup, R: Rng>(
     alloc: Global,
     setup: &Setup<'c>,
@@ -70,6 +71,11 @@ pub fn run_channels<'c, A: Agreement, H: HostKeys, G: GroupLookup, R: Rng>(
         → G.lawful server_parts.old.groups (between setup.now.client.now setup.now.server.now)
         → IfOk result (λ r. IsLink A.client_makes A.server_makes A.agrees setup.now.client.now setup.now.server.now
         r.steps.items r.link) }
+    ensures before { A.lawful client_parts.old.agreement (between setup.now.client.now setup.now.server.now)
+        → A.lawful server_parts.old.agreement (between setup.now.client.now setup.now.server.now)
+        → G.lawful server_parts.old.groups (between setup.now.client.now setup.now.server.now)
+        → IfErr result (λ end. IfSome end.before (λ r. IsLink A.client_makes A.server_makes A.agrees
+        setup.now.client.now setup.now.server.now r.steps.items r.link)) }
     ensures unrefused { A.lawful client_parts.old.agreement (between setup.now.client.now setup.now.server.now)
         → A.lawful server_parts.old.agreement (between setup.now.client.now setup.now.server.now)
         → G.lawful server_parts.old.groups (between setup.now.client.now setup.now.server.now)
@@ -97,12 +103,18 @@ pub fn run_channels<'c, A: Agreement, H: HostKeys, G: GroupLookup, R: Rng>(
         (offered_on (A.offered client_parts.old.agreement) (A.offered server_parts.old.agreement)) []
         → A.obliging client_parts.old.agreement client_parts.new.agreement
         (between setup.now.client.now setup.now.server.now)
+        (group_due (between setup.now.client.now setup.now.server.now)
+        (G.group server_parts.old.groups setup.now.client.now.gex))
         → A.obliging server_parts.old.agreement server_parts.new.agreement
         (between setup.now.client.now setup.now.server.now)
+        (group_due (between setup.now.client.now setup.now.server.now)
+        (G.group server_parts.old.groups setup.now.client.now.gex))
         → H.judges client_parts.old.hosts client_parts.new.hosts (between setup.now.client.now setup.now.server.now)
         → H.signs server_parts.old.hosts server_parts.new.hosts (between setup.now.client.now setup.now.server.now)
+        → G.lawful server_parts.old.groups (between setup.now.client.now setup.now.server.now)
+        → (kind_by (chosen_by setup.now.client.now setup.now.server.now) ≡ true
         → G.obliging server_parts.old.groups server_parts.new.groups
-        (between setup.now.client.now setup.now.server.now)
+        (between setup.now.client.now setup.now.server.now))
         → IfErr result (λ end. IsWanting end.fault) }
 {
     see_config(setup.client);
@@ -234,6 +246,8 @@ fn run_steps<'c, A: Agreement, H: HostKeys, G: GroupLookup, R: Rng>(
     ensures breaks { IfErr result (λ fault. is_message_refused fault ≡ true
         → BreaksRun fault (on_link pair.old link.old) link.new
         × ⟦<Parts<A, H, G, R> as Linked>⟧.goes_on link.old client_parts.old server_parts.old link.new) }
+    ensures called { IfErr result (λ fault. is_call_refused fault ≡ true
+        → ⟦<Parts<A, H, G, R> as Linked>⟧.goes_on link.old client_parts.old server_parts.old link.new) }
     ensures stops { IfErr result (λ fault. WhereStopped fault
         (λ e. MakesGood (both_of pair.old)
         → ((e ≡ Disconnect) × RunsOut 2 (on_link pair.old link.old) (on_link pair.new link.new)
@@ -273,6 +287,8 @@ fn run_step<'c, A: Agreement, H: HostKeys, G: GroupLookup, R: Rng>(
     ensures breaks { IfErr result (λ fault. is_message_refused fault ≡ true
         → BreaksRun fault (on_link pair.old link.old) link.new
         × ⟦<Parts<A, H, G, R> as Linked>⟧.goes_on link.old client_parts.old server_parts.old link.new) }
+    ensures called { IfErr result (λ fault. is_call_refused fault ≡ true
+        → ⟦<Parts<A, H, G, R> as Linked>⟧.goes_on link.old client_parts.old server_parts.old link.new) }
     ensures stops { IfErr result (λ fault. WhereStopped fault
         (λ e. MakesGood (both_of pair.old)
         → ((e ≡ Disconnect) × TurnsOut turns step.now (on_link pair.old link.old) (on_link pair.new link.new)

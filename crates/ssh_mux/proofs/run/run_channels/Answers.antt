@@ -1,10 +1,10 @@
-use Rattle.std.proofs.Common.{◌≡◌, ◌<◌, ◌++◌, ◌^◌, ◌∷◌, [], None, inl, inr, length, subst, sym, ◌∙◌, arith}
+use Rattle.std.proofs.Common.{◌≡◌, ◌<◌, ◌++◌, ◌^◌, ◌∷◌, [], None, inl, inr, length, subst, sym, ◌∙◌, arith, true}
 use Rattle.ssh_wire.specs.declared.error.Error.TheVariants.{Disconnect}
 use Rattle.ssh_wire.specs.declared.side.Side.{Side}
 use Rattle.ssh_wire.specs.declared.side.Side.TheVariants.{Client, Server}
 use Rattle.ssh_kex.specs.Parts.{Setup}
 use Rattle.ssh_kex.specs.Stepping.{says_of}
-use Rattle.ssh_rules.specs.Headline.{IsLink}
+use Rattle.ssh_rules.specs.Headline.{IsLink, chosen_by, kind_by}
 use Rattle.ssh_rules.specs.LinkCauses.{Rises, unobliged_of}
 use Rattle.ssh_rules.specs.RunLaws.{config_of}
 use Rattle.ssh_rules.specs.Snapshots.{IsWholeId}
@@ -23,7 +23,7 @@ use Rattle.ssh_mux.proofs.Linking.{run_is_link, so_far_is_link, told_of}
 use Rattle.ssh_kex.specs.Fields.{IsOutside}
 use Rattle.ssh_mux.proofs.Obliging.{NoneRises, memory_only, new_wanting}
 use Rattle.ssh_mux.proofs.OnTime.{link_honest}
-use Rattle.ssh_mux.proofs.Refusing.{whole_told}
+use Rattle.ssh_mux.proofs.Refusing.{before_told, whole_told}
 use Rattle.ssh_mux.proofs.Stopping.{end_wanting, first_out, keeps_of, link_cause, no_cause, parts_later, refused_good, refuses_link, tells_of}
 use Rattle.ssh_mux.proofs.Turning.{never_out}
 use Rattle.ssh_mux.proofs.run.run_channels.Goals as goal
@@ -43,10 +43,26 @@ returns-in-Ok-run_steps-clause-link g c = λ la lb lg.
     t.client t.server g.A.Agreement.client_makes g.A.Agreement.server_makes g.A.Agreement.agrees c.in-Ok.link last r
     c.in-Ok.ensures.client c.in-Ok.ensures.server c.see_config.ensures.sizes c.see_config-2.ensures.sizes c.see_config.ensures.text c.see_config-2.ensures.text
     (subst (λ l. length l < 2 ^ 64) c.steps.ensures c.see_steps.ensures.few)
-    (record { for_client = λ name group local public e. e t la; for_server = λ name group public e. e t lb; for_secret = λ name group x y secret e. e t la })
+    (record { for_client = λ name group local public e. e t la; for_server = λ name group client public e. e t lb; for_secret = λ name group x y secret e. e t la })
     (λ name group local client server p q cm sm cp sq. g.met.A.Agreement.one_secret c.args.client_parts.now.agreement t name group local client server p q la (cm t la) (sm t lb) (cp t la) (sq t lb))
     (λ sizes group f. (f t lg).1)
     c.in-Ok.ensures.new c.in-Ok.ensures.first c.in-Ok-run_steps.ensures.goes tells)
+
+pub returns-clause-before : goal.returns-clause-before
+returns-clause-before g c = λ la lb lg.
+    let t : Setup = record { client = c.args.setup.now.client.now; server = c.args.setup.now.server.now } in
+    let last = on_link c.run_steps.new.pair c.run_steps.new.link in
+    before_told (λ r. IsLink g.A.Agreement.client_makes g.A.Agreement.server_makes g.A.Agreement.agrees t.client t.server r.steps.items r.link) c.in-Err-run_steps.fault last c.broken_off.result c.broken_off.ensures.ended
+    (λ m r tells. run_is_link
+    (λ q. says_of g.A.Agreement.lawful g.A.Agreement.offered g.A.Agreement.client_makes g.A.Agreement.server_makes g.A.Agreement.agrees g.H.HostKeys.lawful g.H.HostKeys.signs g.H.HostKeys.judges g.H.HostKeys.accepts g.H.HostKeys.trusts g.H.HostKeys.makes g.G.GroupLookup.lawful g.G.GroupLookup.group q c.args.client_parts.now.agreement c.args.client_parts.now.hosts c.args.client_parts.now.groups)
+    (λ q. says_of g.A.Agreement.lawful g.A.Agreement.offered g.A.Agreement.client_makes g.A.Agreement.server_makes g.A.Agreement.agrees g.H.HostKeys.lawful g.H.HostKeys.signs g.H.HostKeys.judges g.H.HostKeys.accepts g.H.HostKeys.trusts g.H.HostKeys.makes g.G.GroupLookup.lawful g.G.GroupLookup.group q c.args.server_parts.now.agreement c.args.server_parts.now.hosts c.args.server_parts.now.groups)
+    t.client t.server g.A.Agreement.client_makes g.A.Agreement.server_makes g.A.Agreement.agrees c.in-Ok.link last r
+    c.in-Ok.ensures.client c.in-Ok.ensures.server c.see_config.ensures.sizes c.see_config-2.ensures.sizes c.see_config.ensures.text c.see_config-2.ensures.text
+    (subst (λ l. length l < 2 ^ 64) c.steps-in-Err-run_steps.ensures c.see_steps-in-Err-run_steps.ensures.few)
+    (record { for_client = λ name group local public e. e t la; for_server = λ name group client public e. e t lb; for_secret = λ name group x y secret e. e t la })
+    (λ name group local client server p q cm sm cp sq. g.met.A.Agreement.one_secret c.args.client_parts.now.agreement t name group local client server p q la (cm t la) (sm t lb) (cp t la) (sq t lb))
+    (λ sizes group f. (f t lg).1)
+    c.in-Ok.ensures.new c.in-Ok.ensures.first (c.in-Err-run_steps.ensures.called m) tells)
 
 pub returns-clause-unrefused : goal.returns-clause-unrefused
 returns-clause-unrefused g c = λ la lb lg.
@@ -61,7 +77,7 @@ returns-clause-unrefused g c = λ la lb lg.
     t.client t.server g.A.Agreement.client_makes g.A.Agreement.server_makes g.A.Agreement.agrees c.in-Ok.link c.run_steps.new.link
     c.in-Ok.ensures.client c.in-Ok.ensures.server c.see_config.ensures.sizes c.see_config-2.ensures.sizes c.see_config.ensures.text c.see_config-2.ensures.text
     (subst (λ l. length l < 2 ^ 64) c.steps-in-Err-run_steps.ensures c.see_steps-in-Err-run_steps.ensures.few)
-    (record { for_client = λ name group local public e. e t la; for_server = λ name group public e. e t lb; for_secret = λ name group x y secret e. e t la })
+    (record { for_client = λ name group local public e. e t la; for_server = λ name group client public e. e t lb; for_secret = λ name group x y secret e. e t la })
     (λ name group local client server p q cm sm cp sq. g.met.A.Agreement.one_secret c.args.client_parts.now.agreement t name group local client server p q la (cm t la) (sm t lb) (cp t la) (sq t lb))
     (λ sizes group f. (f t lg).1)
     c.in-Ok.ensures.new c.in-Ok.ensures.first b.1))
@@ -76,7 +92,7 @@ returns-clause-causes g c = λ la lb lh li lg.
     let keeps = keeps_of g.A.Agreement.lawful g.A.Agreement.obliging g.A.Agreement.offered g.A.Agreement.refusals g.A.Agreement.calls g.H.HostKeys.lawful g.H.HostKeys.signs g.H.HostKeys.judges g.H.HostKeys.accepts g.H.HostKeys.trusts g.H.HostKeys.refused_sign g.H.HostKeys.refused_verify g.H.HostKeys.refused_check g.H.HostKeys.calls g.G.GroupLookup.lawful g.G.GroupLookup.obliging g.G.GroupLookup.group g.G.GroupLookup.refusals g.G.GroupLookup.calls in
     let tells = tells_of g.A.Agreement.lawful g.A.Agreement.obliging g.A.Agreement.offered g.A.Agreement.client_makes g.A.Agreement.server_makes g.A.Agreement.agrees g.A.Agreement.refusals g.H.HostKeys.lawful g.H.HostKeys.signs g.H.HostKeys.judges g.H.HostKeys.accepts g.H.HostKeys.trusts g.H.HostKeys.makes g.H.HostKeys.refused_sign g.H.HostKeys.refused_verify g.H.HostKeys.refused_check g.G.GroupLookup.lawful g.G.GroupLookup.obliging g.G.GroupLookup.group g.G.GroupLookup.refusals in
     let tell : Side → Telling = tells_by (telling_of g.A.Agreement.lawful g.A.Agreement.obliging g.A.Agreement.offered g.A.Agreement.client_makes g.A.Agreement.server_makes g.A.Agreement.agrees g.A.Agreement.refusals g.H.HostKeys.lawful g.H.HostKeys.signs g.H.HostKeys.judges g.H.HostKeys.accepts g.H.HostKeys.trusts g.H.HostKeys.makes g.H.HostKeys.refused_sign g.H.HostKeys.refused_verify g.H.HostKeys.refused_check g.G.GroupLookup.lawful g.G.GroupLookup.obliging g.G.GroupLookup.group g.G.GroupLookup.refusals t.client c.args.client_parts.now.agreement c.run_steps.new.client_parts.agreement c.args.client_parts.now.hosts c.run_steps.new.client_parts.hosts c.args.client_parts.now.groups c.run_steps.new.client_parts.groups) (telling_of g.A.Agreement.lawful g.A.Agreement.obliging g.A.Agreement.offered g.A.Agreement.client_makes g.A.Agreement.server_makes g.A.Agreement.agrees g.A.Agreement.refusals g.H.HostKeys.lawful g.H.HostKeys.signs g.H.HostKeys.judges g.H.HostKeys.accepts g.H.HostKeys.trusts g.H.HostKeys.makes g.H.HostKeys.refused_sign g.H.HostKeys.refused_verify g.H.HostKeys.refused_check g.G.GroupLookup.lawful g.G.GroupLookup.obliging g.G.GroupLookup.group g.G.GroupLookup.refusals t.server c.args.server_parts.now.agreement c.run_steps.new.server_parts.agreement c.args.server_parts.now.hosts c.run_steps.new.server_parts.hosts c.args.server_parts.now.groups c.run_steps.new.server_parts.groups) in
-    let un = unobliged_of g.A.Agreement.obliging g.A.Agreement.refusals g.H.HostKeys.signs g.H.HostKeys.judges g.H.HostKeys.refused_sign g.H.HostKeys.refused_verify g.H.HostKeys.refused_check g.G.GroupLookup.obliging g.G.GroupLookup.refusals t c.args.server_parts.now.hosts in
+    let un = unobliged_of g.A.Agreement.obliging g.A.Agreement.refusals g.H.HostKeys.signs g.H.HostKeys.judges g.H.HostKeys.refused_sign g.H.HostKeys.refused_verify g.H.HostKeys.refused_check g.G.GroupLookup.obliging g.G.GroupLookup.group g.G.GroupLookup.refusals t c.args.server_parts.now.hosts c.args.server_parts.now.groups in
     let rises : Side → Rises = rises_by (un c.args.client_parts.now.agreement c.run_steps.new.client_parts.agreement c.args.client_parts.now.hosts c.run_steps.new.client_parts.hosts c.args.client_parts.now.groups c.run_steps.new.client_parts.groups) (un c.args.server_parts.now.agreement c.run_steps.new.server_parts.agreement c.args.server_parts.now.hosts c.run_steps.new.server_parts.hosts c.args.server_parts.now.groups c.run_steps.new.server_parts.groups) in
     let offered = offered_on (g.A.Agreement.offered c.args.client_parts.now.agreement) (g.A.Agreement.offered c.args.server_parts.now.agreement) in
     let found = g.G.GroupLookup.group c.args.server_parts.now.groups t.client.gex in
@@ -97,7 +113,7 @@ returns-clause-causes g c = λ la lb lh li lg.
             (so_far_is_link (λ q. says_of g.A.Agreement.lawful g.A.Agreement.offered g.A.Agreement.client_makes g.A.Agreement.server_makes g.A.Agreement.agrees g.H.HostKeys.lawful g.H.HostKeys.signs g.H.HostKeys.judges g.H.HostKeys.accepts g.H.HostKeys.trusts g.H.HostKeys.makes g.G.GroupLookup.lawful g.G.GroupLookup.group q c.args.client_parts.now.agreement c.args.client_parts.now.hosts c.args.client_parts.now.groups) (λ q. says_of g.A.Agreement.lawful g.A.Agreement.offered g.A.Agreement.client_makes g.A.Agreement.server_makes g.A.Agreement.agrees g.H.HostKeys.lawful g.H.HostKeys.signs g.H.HostKeys.judges g.H.HostKeys.accepts g.H.HostKeys.trusts g.H.HostKeys.makes g.G.GroupLookup.lawful g.G.GroupLookup.group q c.args.server_parts.now.agreement c.args.server_parts.now.hosts c.args.server_parts.now.groups) t.client t.server g.A.Agreement.client_makes g.A.Agreement.server_makes g.A.Agreement.agrees c.in-Ok.link c.run_steps.new.link
             vc vs c.see_config.ensures.sizes c.see_config-2.ensures.sizes c.see_config.ensures.text c.see_config-2.ensures.text
             (subst (λ l. length l < 2 ^ 64) c.steps-in-Err-run_steps.ensures c.see_steps-in-Err-run_steps.ensures.few)
-            (record { for_client = λ name group local public e. e t la; for_server = λ name group public e. e t lb; for_secret = λ name group x y secret e. e t la })
+            (record { for_client = λ name group local public e. e t la; for_server = λ name group client public e. e t lb; for_secret = λ name group x y secret e. e t la })
             (λ name group local client server p q cm sm cp sq. g.met.A.Agreement.one_secret a t name group local client server p q la (cm t la) (sm t lb) (cp t la) (sq t lb))
             (λ sizes group f. (f t lg).1)
             c.in-Ok.ensures.new c.in-Ok.ensures.first out.2))
@@ -118,16 +134,16 @@ returns-clause-causes g c = λ la lb lh li lg.
 pub returns-clause-ends : goal.returns-clause-ends
 returns-clause-ends g c = λ la lb lh li lg.
     let t : Setup = record { client = c.args.setup.now.client.now; server = c.args.setup.now.server.now } in
-    let un = unobliged_of g.A.Agreement.obliging g.A.Agreement.refusals g.H.HostKeys.signs g.H.HostKeys.judges g.H.HostKeys.refused_sign g.H.HostKeys.refused_verify g.H.HostKeys.refused_check g.G.GroupLookup.obliging g.G.GroupLookup.refusals t c.args.server_parts.now.hosts in
+    let un = unobliged_of g.A.Agreement.obliging g.A.Agreement.refusals g.H.HostKeys.signs g.H.HostKeys.judges g.H.HostKeys.refused_sign g.H.HostKeys.refused_verify g.H.HostKeys.refused_check g.G.GroupLookup.obliging g.G.GroupLookup.group g.G.GroupLookup.refusals t c.args.server_parts.now.hosts c.args.server_parts.now.groups in
     let rises : Side → Rises = rises_by (un c.args.client_parts.now.agreement c.run_steps.new.client_parts.agreement c.args.client_parts.now.hosts c.run_steps.new.client_parts.hosts c.args.client_parts.now.groups c.run_steps.new.client_parts.groups) (un c.args.server_parts.now.agreement c.run_steps.new.server_parts.agreement c.args.server_parts.now.hosts c.run_steps.new.server_parts.hosts c.args.server_parts.now.groups c.run_steps.new.server_parts.groups) in
     let offered = offered_on (g.A.Agreement.offered c.args.client_parts.now.agreement) (g.A.Agreement.offered c.args.server_parts.now.agreement) in
     let found = g.G.GroupLookup.group c.args.server_parts.now.groups t.client.gex in
     λ d. no_cause rises (config_of t) offered found (returns-clause-causes g c la lb lh li lg Disconnect d)
 
 pub returns-clause-complete : goal.returns-clause-complete
-returns-clause-complete g c = λ v oa ob jh si oj.
+returns-clause-complete g c = λ v oa ob jh si lg oj.
     let t : Setup = record { client = c.args.setup.now.client.now; server = c.args.setup.now.server.now } in
-    let un = unobliged_of g.A.Agreement.obliging g.A.Agreement.refusals g.H.HostKeys.signs g.H.HostKeys.judges g.H.HostKeys.refused_sign g.H.HostKeys.refused_verify g.H.HostKeys.refused_check g.G.GroupLookup.obliging g.G.GroupLookup.refusals t c.args.server_parts.now.hosts in
+    let un = unobliged_of g.A.Agreement.obliging g.A.Agreement.refusals g.H.HostKeys.signs g.H.HostKeys.judges g.H.HostKeys.refused_sign g.H.HostKeys.refused_verify g.H.HostKeys.refused_check g.G.GroupLookup.obliging g.G.GroupLookup.group g.G.GroupLookup.refusals t c.args.server_parts.now.hosts c.args.server_parts.now.groups in
     let rises : Side → Rises = rises_by (un c.args.client_parts.now.agreement c.run_steps.new.client_parts.agreement c.args.client_parts.now.hosts c.run_steps.new.client_parts.hosts c.args.client_parts.now.groups c.run_steps.new.client_parts.groups) (un c.args.server_parts.now.agreement c.run_steps.new.server_parts.agreement c.args.server_parts.now.hosts c.run_steps.new.server_parts.hosts c.args.server_parts.now.groups c.run_steps.new.server_parts.groups) in
     let offered = offered_on (g.A.Agreement.offered c.args.client_parts.now.agreement) (g.A.Agreement.offered c.args.server_parts.now.agreement) in
     let found = g.G.GroupLookup.group c.args.server_parts.now.groups t.client.gex in
@@ -137,19 +153,18 @@ returns-clause-complete g c = λ v oa ob jh si oj.
     let q' = c.run_steps.new.server_parts in
     let none : NoneRises rises = record {
       agreement = of_sides (λ s. (rises s).agreement → ⊥) (λ r. r.1 oa) (λ r. r.1 ob);
-      lookup = λ r. r.1 oj;
+      lookup = λ r. r.2 (oj r.1);
       signing = λ r. r.1 si;
       verifying = λ r. r.1 q'.hosts jh si;
       checking = λ r. r.1 jh;
     } in
-    let fits = g.met.G.GroupLookup.fitting q.groups q'.groups t oj in
-    let inside : IsOutside t.client.gex found → ⊥ = λ o. elim o [ inl l ↦ (let f = fits.0 in omega (arith, l, f)) | inr l ↦ (let f = fits.1 in omega (arith, l, f)) ] in
+    let inside : kind_by (chosen_by t.client t.server) ≡ true → IsOutside t.client.gex found → ⊥ = λ k o. (let fits = g.met.G.GroupLookup.fitting q.groups q'.groups t (oj k) in elim o [ inl l ↦ (let f = fits.0 in omega (arith, l, f)) | inr l ↦ (let f = fits.1 in omega (arith, l, f)) ]) in
     λ e d. memory_only rises (config_of t) offered found e v none inside
-    (returns-clause-causes g c (g.met.A.Agreement.obliging_lawful p.agreement p'.agreement t oa) (g.met.A.Agreement.obliging_lawful q.agreement q'.agreement t ob)
-    (g.met.H.HostKeys.judges_lawful p.hosts p'.hosts t jh) (g.met.H.HostKeys.signs_lawful q.hosts q'.hosts t si) (g.met.G.GroupLookup.obliging_lawful q.groups q'.groups t oj) e d)
+    (returns-clause-causes g c (g.met.A.Agreement.obliging_lawful p.agreement p'.agreement t _ oa) (g.met.A.Agreement.obliging_lawful q.agreement q'.agreement t _ ob)
+    (g.met.H.HostKeys.judges_lawful p.hosts p'.hosts t jh) (g.met.H.HostKeys.signs_lawful q.hosts q'.hosts t si) lg e d)
 
 pub returns-in-Err-clause-complete : goal.returns-in-Err-clause-complete
-returns-in-Err-clause-complete g c = λ v oa ob jh si oj.
+returns-in-Err-clause-complete g c = λ v oa ob jh si lg oj.
     let t : Setup = record { client = c.args.setup.now.client.now; server = c.args.setup.now.server.now } in
     let offered = offered_on (g.A.Agreement.offered c.args.client_parts.now.agreement) (g.A.Agreement.offered c.args.server_parts.now.agreement) in
     end_wanting c.refused-in-Err.result (Link c.in-Err.error) c.refused-in-Err.ensures (new_wanting (config_of t) offered c.in-Err.error v c.in-Err.ensures.refused)

@@ -1,7 +1,8 @@
-use Rattle.std.proofs.Common.{rules}
+use Rattle.std.proofs.Common.{[], refl, rules}
 use Rattle.ssh_mux.specs.Running.{both_of, on_link}
 use Rattle.ssh_mux.proofs.Breaking.{call_breaks, step_breaks}
 use Rattle.ssh_mux.proofs.Doing.{step_runs}
+use Rattle.ssh_mux.proofs.Refusing.{called_so, uncalled_so}
 use Rattle.ssh_mux.proofs.Stopping.{call_stopped, step_out}
 use Rattle.ssh_mux.proofs.run.run_step.Goals as goal
 
@@ -19,3 +20,9 @@ returns-in_err-behind-clause-stops g c = call_stopped c.from_residual.result c.i
 
 pub returns-clause-stops : goal.returns-clause-stops
 returns-clause-stops g c = step_out c.carry.result c.args.turns c.args.step.now (on_link c.args.pair.now c.args.link.now) (both_of c.call.new.pair) (on_link c.carry.new.pair c.carry.new.link) _ _ c.in_ok-behind.ensures.ok c.carry.ensures.stops
+
+pub returns-in_err-behind-clause-called : goal.returns-in_err-behind-clause-called
+returns-in_err-behind-clause-called g c = called_so c.from_residual.result _ ([], refl)
+
+pub returns-clause-called : goal.returns-clause-called
+returns-clause-called g c = uncalled_so c.carry.result _ c.carry.ensures.fault

@@ -40,3 +40,6 @@ returns-in-Err-clause-stops g c = λ e d good. elim (c.in-Err.ensures.stops e d 
   | inr r ↦ inr (refused_then g.A.Agreement.client_makes g.A.Agreement.server_makes g.A.Agreement.agrees g.H.HostKeys.makes c.args.link.now c.loop-step.link c.args.client_parts.now c.loop-step.client_parts c.run_step.new.client_parts c.args.server_parts.now c.loop-step.server_parts c.run_step.new.server_parts e
       c.loop-step.invariant.client_keeps c.loop-step.invariant.server_keeps c.loop-step.invariant.goes r)
 ]
+
+pub returns-in-Err-clause-called : goal.returns-in-Err-clause-called
+returns-in-Err-clause-called g c = λ m. goes_then g.A.Agreement.client_makes g.A.Agreement.server_makes g.A.Agreement.agrees g.H.HostKeys.makes c.args.link.now c.loop-step.link c.run_step.new.link c.loop-step.invariant.client_keeps c.loop-step.invariant.server_keeps c.loop-step.invariant.goes (c.in-Err.ensures.called m)
