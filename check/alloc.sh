@@ -10,19 +10,16 @@
 # first N allocations fail, and each STEP-th after them. The programs are the proved ones if none is given. Needs cc, and
 # glibc.
 set -u
-usage() { sed -n '2,/^[^#]/s/^# \{0,1\}//p' "$0"; }
 top=$(cd "$(dirname "${BASH_SOURCE[0]}")/.." && pwd)
+# shellcheck source=check/begin.sh
+source "$top/check/begin.sh" || exit 1
 given=
 bound=
 step=1
 while [ $# -gt 0 ]; do
   case $1 in
   --help) usage; exit ;;
-  --program)
-    given=$(realpath "${2:-}" 2>/dev/null)
-    [ -x "$given" ] || { echo "there is no program ${2:-}" >&2; exit 2; }
-    shift
-    ;;
+  --program) given=$(named_program "${2:-}") || exit 2; shift ;;
   --bound)
     [[ ${2:-} =~ ^[0-9]{1,9}$ && ${3:-} =~ ^[1-9][0-9]{0,8}$ ]] || { usage >&2; exit 2; }
     bound=$2 step=$3

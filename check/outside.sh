@@ -5,17 +5,14 @@
 # answered otherwise. Where there is no cc, rows in which a call is refused by its number are passed over. The programs
 # are the proved ones. With --program the rows of `sshlink` alone are tried, with that file in its place.
 set -u
-usage() { sed -n '2,/^[^#]/s/^# \{0,1\}//p' "$0"; }
 top=$(cd "$(dirname "${BASH_SOURCE[0]}")/.." && pwd)
+# shellcheck source=check/begin.sh
+source "$top/check/begin.sh" || exit 1
 given=
 while [ $# -gt 0 ]; do
   case $1 in
   --help) usage; exit ;;
-  --program)
-    given=$(realpath "${2:-}" 2>/dev/null)
-    [ -x "$given" ] || { echo "there is no program ${2:-}" >&2; exit 2; }
-    shift
-    ;;
+  --program) given=$(named_program "${2:-}") || exit 2; shift ;;
   -*) usage >&2; exit 2 ;;
   *) break ;;
   esac
