@@ -6,7 +6,7 @@ use ssh_packet::PacketWriter;
 use ssh_vectors::MemorySink;
 use ssh_wire::{Failed, Sink};
 use uses::carry_three;
-use vector_rows::{Fault, Row, Words, say_bytes, say_number, say_shown, words_of};
+use vector_rows::{Fault, Found, Row, Words, words_of};
 
 /// A sink that takes at most so many bytes a call.
 #[derive(Drop)]
@@ -27,49 +27,57 @@ impl Sink for SlowSink {
 }
 
 /// Answers a row of one of these kinds. False where the kind is another.
-pub(crate) fn answer(kind: &str, row: &mut Row<'_>, found: &mut String) -> Result<bool, Fault> {
-    match kind {
-        "flush" => flush(row, found)?,
-        "carry" => carry(row, found)?,
-        _ => return Ok(false),
-    }
-    Ok(true)
+pub(crate) fn answer(kind: &str, row: &mut Row<'_>, found: &mut Found) -> bool {
+    let outcome = match kind {
+        "flush" => flush(row, found),
+        "carry" => carry(row, found),
+        _ => return false,
+    };
+    found.note(outcome);
+    true
 }
 
 /// `flush STEP FAIL ROOM PAYLOAD..`: what a clear writer of these payloads answers when it is flushed into a sink that
 /// takes so many bytes a call, whose call of this number fails, with room for so many bytes; its answer to a second
 /// flush; what the sink holds, how often it failed, and what the writer still has.
-fn flush(row: &mut Row<'_>, found: &mut String) -> Result<(), Fault> {
-    let step = row.count()?;
+fn flush(row: &mut Row<'_>, found: &mut Found) -> Result<(), Fault> {
+    let step = row.count();
     let mut fails = Vec::new(row.alloc());
-    fails.push(row.number()?)?;
+    fails.push(row.number())?;
     let mut sink = SlowSink {
-        sink: MemorySink::new(row.alloc(), fails, row.count()?)?,
+        sink: MemorySink::new(row.alloc(), fails, row.count())?,
         step,
     };
+    say_flushed(row, &mut sink, found)
+}
+
+/// Appends what comes of flushing the payloads that are left into a sink.
+fn say_flushed(row: &mut Row<'_>, sink: &mut SlowSink, found: &mut Found) -> Result<(), Fault> {
     let mut writer = PacketWriter::clear(row.alloc());
     for _ in 0..row.left() {
-        let payload = row.bytes()?;
+        let payload = row.bytes();
         writer.packet_raw(&mut Words::of(&[]), payload.as_slice())?;
     }
-    say_shown(found, &writer.flush_into(&mut sink))?;
-    say_shown(found, &writer.flush_into(&mut sink))?;
-    say_bytes(found, sink.sink.held())?;
-    say_number(found, sink.sink.faults())?;
-    say_bytes(found, writer.output())
+    found.say_shown(&writer.flush_into(sink));
+    found.say_shown(&writer.flush_into(sink));
+    found.say_bytes(sink.sink.held());
+    found.say_number(sink.sink.faults());
+    found.say_bytes(writer.output());
+    Ok(())
 }
 
 /// `carry KEY NONCE A B C`: three payloads sealed under `aes256-gcm@openssh.com`, and opened.
-fn carry(row: &mut Row<'_>, found: &mut String) -> Result<(), Fault> {
-    let key = row.array::<32>()?;
-    let nonce = row.array::<12>()?;
-    let (a, b, c) = (row.bytes()?, row.bytes()?, row.bytes()?);
-    if a.is_empty() || b.is_empty() || c.is_empty() {
-        return Err(Fault::Malformed);
-    }
+fn carry(row: &mut Row<'_>, found: &mut Found) -> Result<(), Fault> {
+    let key = row.array::<32>();
+    let nonce = row.array::<12>();
     let words = words_of(row.alloc(), key.as_slice())?;
     let mut rng = Words::of(words.as_slice());
-    let carried = carry_three(
+    let (a, b, c) = (row.bytes(), row.bytes(), row.bytes());
+    if a.is_empty() || b.is_empty() || c.is_empty() {
+        row.reject();
+        return Ok(());
+    }
+    match carry_three(
         row.alloc(),
         &mut rng,
         &key,
@@ -77,8 +85,13 @@ fn carry(row: &mut Row<'_>, found: &mut String) -> Result<(), Fault> {
         a.as_slice(),
         b.as_slice(),
         c.as_slice(),
-    )?;
-    say_bytes(found, carried.0.as_slice())?;
-    say_bytes(found, carried.1.as_slice())?;
-    say_bytes(found, carried.2.as_slice())
+    ) {
+        Ok(carried) => {
+            found.say_bytes(carried.0.as_slice());
+            found.say_bytes(carried.1.as_slice());
+            found.say_bytes(carried.2.as_slice());
+            Ok(())
+        }
+        Err(error) => Err(Fault::from(error)),
+    }
 }

@@ -10,7 +10,7 @@ mod joined;
 mod zeroed;
 
 use std::process::ExitCode;
-use vector_rows::{Answers, Fault, Row, check};
+use vector_rows::{Answers, Fault, Found, Row, check};
 
 /// Answers the rows of all kinds.
 #[derive(Drop)]
@@ -26,12 +26,13 @@ impl Answers for Exchanges {
         Ok(false)
     }
 
-    fn answer(&mut self, kind: &str, row: &mut Row<'_>, found: &mut String) -> Result<bool, Fault> {
+    fn answer(&mut self, kind: &str, row: &mut Row<'_>, found: &mut Found) -> Result<bool, Fault> {
         Ok(
-            forms::answer(kind, row, found)?
-                || handed::answer(kind, row, found)?
-                || callers::answer(kind, row, found)?
-                || joined::answer(kind, row, found)?,
+            forms::answer(kind, row, found)
+                || handed::answer(kind, row, found)
+                || handed::answer_refusing(kind, row, found)
+                || callers::answer(kind, row, found)
+                || joined::answer(kind, row, found),
         )
     }
 }

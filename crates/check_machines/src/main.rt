@@ -6,7 +6,7 @@ mod play;
 mod without;
 
 use std::process::ExitCode;
-use vector_rows::{Answers, Fault, Row, check};
+use vector_rows::{Answers, Fault, Found, Row, check};
 
 /// Answers the rows, each by itself.
 #[derive(Drop)]
@@ -23,8 +23,12 @@ impl Answers for PlayRows {
         Ok(false)
     }
 
-    fn answer(&mut self, kind: &str, row: &mut Row<'_>, found: &mut String) -> Result<bool, Fault> {
-        play::answer(kind, row, found)
+    fn answer(&mut self, kind: &str, row: &mut Row<'_>, found: &mut Found) -> Result<bool, Fault> {
+        if kind != "play" {
+            return Ok(false);
+        }
+        play::answer(row, found)?;
+        Ok(true)
     }
 }
 

@@ -13,7 +13,7 @@ use ssh_vectors::{Refusing, TestAgreement, TestGroups, TestHosts, TrustedHost};
 use ssh_wire::Side;
 use std::alloc::Global;
 use vector_rows::preferences::{certificates, keys, preferred, settings};
-use vector_rows::{Fault, Row, Words, say, say_bytes, say_number, say_shown};
+use vector_rows::{Fault, Found, Row, Words};
 
 const CLIENT_ID: &str = "SSH-2.0-client";
 
@@ -32,29 +32,35 @@ type Handed = Parts<
 /// `play PREFERENCES PREFERENCES KEYS CERTIFICATES CAUSE SETTINGS MESSAGES..`: what each step of both machines writes
 /// and leads to, the client's first, where each is given the other's packets in turn. The first message goes to the
 /// client.
-pub(crate) fn answer(kind: &str, row: &mut Row<'_>, found: &mut String) -> Result<bool, Fault> {
-    if kind != "play" {
-        return Ok(false);
-    }
-    let alloc = row.alloc();
+pub(crate) fn answer(row: &mut Row<'_>, found: &mut Found) -> Result<(), Fault> {
+    let mut client = client_of(row)?;
+    play_client_row(&mut client, row, found)
+}
+
+/// How a client is set up, by the next word.
+fn client_of(row: &mut Row<'_>) -> Result<Config, Fault> {
     let none = ServerKeys {
-        keys: Vec::new(alloc),
-        certificates: Vec::new(alloc),
+        keys: Vec::new(row.alloc()),
+        certificates: Vec::new(row.alloc()),
     };
-    let mut client = config_of(alloc, CLIENT_ID, preferred(row)?, sizes(), none)?;
-    let mut server = server_of(row)?;
-    play_row(&mut client, &mut server, row, found)?;
-    Ok(true)
+    config_of(row.alloc(), CLIENT_ID, preferred(row)?, sizes(), none)
 }
 
 /// How a server is set up, by the next words.
 fn server_of(row: &mut Row<'_>) -> Result<Config, Fault> {
     let prefers = preferred(row)?;
-    let host = ServerKeys {
-        keys: keys(row)?.ok_or(Fault::Malformed)?,
-        certificates: certificates(row)?.ok_or(Fault::Malformed)?,
-    };
-    config_of(row.alloc(), SERVER_ID, prefers, sizes(), host)
+    match host_of(row) {
+        Ok(host) => config_of(row.alloc(), SERVER_ID, prefers, sizes(), host),
+        Err(fault) => Err(fault),
+    }
+}
+
+/// The keys and certificates of the next words.
+fn host_of(row: &mut Row<'_>) -> Result<ServerKeys, Fault> {
+    match (keys(row)?, certificates(row)?) {
+        (Some(keys), Some(certificates)) => Ok(ServerKeys { keys, certificates }),
+        _ => Err(Fault::Malformed),
+    }
 }
 
 /// The sizes of groups where none are set.
@@ -66,21 +72,27 @@ fn sizes() -> GexParams {
     }
 }
 
+/// Lets a client speak with a server that the next words set up.
+fn play_client_row(client: &mut Config, row: &mut Row<'_>, found: &mut Found) -> Result<(), Fault> {
+    let mut server = server_of(row)?;
+    play_row(client, &mut server, row, found)
+}
+
 /// Lets a client and a server speak by the words that are left, once these have set what else they set.
 fn play_row(
     client: &mut Config,
     server: &mut Config,
     row: &mut Row<'_>,
-    found: &mut String,
+    found: &mut Found,
 ) -> Result<(), Fault> {
-    let cause = cause_of(row)?;
+    let cause = cause_of(row);
     let settings = Settings::of(row)?;
-    client.gex = settings.gex;
-    server.gex = settings.gex;
+    let given = given_of(row)?;
     if settings.blob > 0 {
         server.host.keys = keys_of(row.alloc(), settings.blob)?;
     }
-    let given = given_of(row)?;
+    client.gex = settings.gex;
+    server.gex = settings.gex;
     let setup = Setup {
         client,
         server,
@@ -110,8 +122,8 @@ impl Setup<'_> {
     }
 
     /// Lets both machines speak.
-    fn play(&self, given: &[Given], found: &mut String) -> Result<(), Fault> {
-        let mut client = Machine::new(*found.allocator());
+    fn play(&self, given: &[Given], found: &mut Found) -> Result<(), Fault> {
+        let mut client = Machine::new(found.alloc());
         self.play_client(&mut client, given, found)
     }
 
@@ -120,12 +132,22 @@ impl Setup<'_> {
         &'c self,
         machine: &mut Machine<'c>,
         given: &[Given],
-        found: &mut String,
+        found: &mut Found,
     ) -> Result<(), Fault> {
-        let alloc = *found.allocator();
-        let trusted = self.trusted(alloc)?;
+        let trusted = self.trusted(found.alloc())?;
         let mut parts = self.settings.handed(&self.settings.client, trusted);
-        let mut client = Seat::new(alloc, "client", machine, &mut parts);
+        self.play_client_with(machine, &mut parts, given, found)
+    }
+
+    /// Lets them speak, the client with these parts.
+    fn play_client_with<'c>(
+        &'c self,
+        machine: &mut Machine<'c>,
+        parts: &mut Handed,
+        given: &[Given],
+        found: &mut Found,
+    ) -> Result<(), Fault> {
+        let mut client = Seat::new(found.alloc(), "client", machine, parts);
         client.begin(Side::Client, self.client, SERVER_ID, self.cause)?;
         self.play_against(&mut client, given, found)
     }
@@ -135,9 +157,9 @@ impl Setup<'_> {
         &self,
         client: &mut Seat<'_, '_>,
         given: &[Given],
-        found: &mut String,
+        found: &mut Found,
     ) -> Result<(), Fault> {
-        let mut server = Machine::new(*found.allocator());
+        let mut server = Machine::new(found.alloc());
         self.play_server(client, &mut server, given, found)
     }
 
@@ -147,13 +169,26 @@ impl Setup<'_> {
         client: &mut Seat<'_, '_>,
         machine: &mut Machine<'c>,
         given: &[Given],
-        found: &mut String,
+        found: &mut Found,
     ) -> Result<(), Fault> {
-        let alloc = *found.allocator();
-        let mut parts = self.settings.handed(&self.settings.server, Vec::new(alloc));
-        let mut server = Seat::new(alloc, "server", machine, &mut parts);
+        let none = Vec::new(found.alloc());
+        let mut parts = self.settings.handed(&self.settings.server, none);
+        self.play_server_with(client, machine, &mut parts, given, found)
+    }
+
+    /// Lets it speak with these parts.
+    fn play_server_with<'c>(
+        &'c self,
+        client: &mut Seat<'_, '_>,
+        machine: &mut Machine<'c>,
+        parts: &mut Handed,
+        given: &[Given],
+        found: &mut Found,
+    ) -> Result<(), Fault> {
+        let mut server = Seat::new(found.alloc(), "server", machine, parts);
         server.begin(Side::Server, self.server, CLIENT_ID, self.cause)?;
-        spoken(client, &mut server, given, found)
+        spoken(client, &mut server, given, found);
+        Ok(())
     }
 }
 
@@ -162,37 +197,30 @@ fn spoken(
     client: &mut Seat<'_, '_>,
     server: &mut Seat<'_, '_>,
     given: &[Given],
-    found: &mut String,
-) -> Result<(), Fault> {
-    if played(client, server, given, found)? {
-        say_end(found, client, server)?;
+    found: &mut Found,
+) {
+    if played(client, server, given, found) {
+        say_end(found, client, server);
     }
-    Ok(())
 }
 
 /// The next word as why the exchange begins: `first`, or a later one behind a first that was strict or not,
 /// `strict:HASH` or `plain:HASH`.
-fn cause_of(row: &mut Row<'_>) -> Result<KexCause, Fault> {
-    let word = row.word()?;
+fn cause_of(row: &mut Row<'_>) -> KexCause {
+    let word = row.word();
     if word == "first" {
-        return Ok(KexCause::Initial);
+        return KexCause::Initial;
     }
-    let Some((order, digits)) = word.split_once(':') else {
-        return Err(Fault::Malformed);
-    };
-    let bytes = bytes_of(row.alloc(), digits)?;
+    let (order, digits) = row.expect(word.split_once(':'), ("", ""));
+    let bytes = row.bytes_of(digits);
     if bytes.len() > 64 || (order != "strict" && order != "plain") {
-        return Err(Fault::Malformed);
+        row.reject();
+        return KexCause::Initial;
     }
-    Ok(KexCause::Rekey {
+    KexCause::Rekey {
         strict: order == "strict",
         session_id: HashValue::of(bytes.as_slice()),
-    })
-}
-
-fn bytes_of(alloc: Global, digits: &str) -> Result<Vec<u8>, Fault> {
-    let mut row = Row::of(alloc, digits)?;
-    row.bytes()
+    }
 }
 
 /// Which call of each part of a side is refused, 0 for none; and which key exchange its agreement lacks.
@@ -236,32 +264,30 @@ impl Settings {
             server: none,
         };
         for (name, value) in settings(row)? {
-            given.set(name, value)?;
+            if !given.set(name, value) {
+                row.reject();
+            }
         }
         Ok(given)
     }
 
-    fn set(&mut self, name: &str, value: &str) -> Result<(), Fault> {
+    /// Sets what a name says. False where it or the value is none.
+    fn set(&mut self, name: &str, value: &str) -> bool {
         if name == "trust" && value == "none" {
             self.trusts = false;
-            return Ok(());
+            return true;
         }
         match name {
-            "client_without" => self.client.without = kex::Name::from_str(value).ok_or(
-                Fault::Malformed,
-            )?,
-            "server_without" => self.server.without = kex::Name::from_str(value).ok_or(
-                Fault::Malformed,
-            )?,
-            _ => return self.set_number(name, value),
+            "client_without" => set_name(&mut self.client.without, value),
+            "server_without" => set_name(&mut self.server.without, value),
+            _ => match value.parse::<u32>() {
+                Ok(number) => self.set_number(name, number),
+                Err(_) => false,
+            },
         }
-        Ok(())
     }
 
-    fn set_number(&mut self, name: &str, value: &str) -> Result<(), Fault> {
-        let Ok(number) = value.parse::<u32>() else {
-            return Err(Fault::Malformed);
-        };
+    fn set_number(&mut self, name: &str, number: u32) -> bool {
         match name {
             "least" => self.gex.min_group_size = number,
             "wanted" => self.gex.preferred_group_size = number,
@@ -273,9 +299,9 @@ impl Settings {
             "server_agreement" => self.server.agreement = u64::from(number),
             "server_hosts" => self.server.hosts = u64::from(number),
             "server_groups" => self.server.groups = u64::from(number),
-            _ => return Err(Fault::Malformed),
+            _ => return false,
         }
-        Ok(())
+        true
     }
 
     /// The parts of a side.
@@ -289,6 +315,17 @@ impl Settings {
             groups: refusing(TestGroups { bits: self.bits }, refused.groups),
             rng: Words::of(&[]),
         }
+    }
+}
+
+/// Sets the name of a key exchange. False where the value is none.
+fn set_name(name: &mut kex::Name, value: &str) -> bool {
+    match kex::Name::from_str(value) {
+        Some(named) => {
+            *name = named;
+            true
+        }
+        None => false,
     }
 }
 
@@ -343,31 +380,38 @@ impl How {
 fn given_of(row: &mut Row<'_>) -> Result<Vec<Given>, Fault> {
     let mut given = Vec::new(row.alloc());
     for _ in 0..row.left() {
-        let Some((at, how)) = row.word()?.split_once(':') else {
-            return Err(Fault::Malformed);
-        };
-        let mut number = Row::of(row.alloc(), at)?;
-        given.push(Given {
-            at: number.count()?,
-            how: how_of(row.alloc(), how)?,
-        })?;
+        given.push(next_given(row))?;
     }
     Ok(given)
 }
 
-fn how_of(alloc: Global, how: &str) -> Result<How, Fault> {
-    if how == "none" {
-        return Ok(How::Nothing);
+/// The next word as what is given.
+fn next_given(row: &mut Row<'_>) -> Given {
+    let word = row.word();
+    let (at, how) = row.expect(word.split_once(':'), ("", ""));
+    let at = number_of(row, at);
+    if at > 1 << 24 {
+        row.reject();
     }
-    if how == "same" {
-        return Ok(How::Itself);
+    Given {
+        at: at as usize,
+        how: how_of(row, how),
     }
-    match how.split_once('#') {
-        Some((_, digits)) => {
-            let mut number = Row::of(alloc, digits)?;
-            Ok(How::Numbered(number.number32()?))
-        }
-        None => Ok(How::Payload(bytes_of(alloc, how)?)),
+}
+
+/// A part of a word as a number below 2^32.
+fn number_of(row: &mut Row<'_>, digits: &str) -> u32 {
+    row.expect(digits.parse::<u32>().ok(), 0)
+}
+
+fn how_of(row: &mut Row<'_>, how: &str) -> How {
+    match how {
+        "none" => How::Nothing,
+        "same" => How::Itself,
+        _ => match how.split_once('#') {
+            Some((_, digits)) => How::Numbered(number_of(row, digits)),
+            None => How::Payload(row.bytes_of(how)),
+        },
     }
 }
 
@@ -415,20 +459,21 @@ impl<'s, 'c> Seat<'s, 'c> {
     }
 
     /// Gives its machine a message, or none. False where it is refused.
-    fn give(&mut self, input: Option<Incoming<'_>>, found: &mut String) -> Result<bool, Fault> {
+    fn give(&mut self, input: Option<Incoming<'_>>, found: &mut Found) -> bool {
         if !self.machine.runs() {
-            return Err(Fault::Malformed);
+            found.fail(Fault::Malformed);
+            return false;
         }
         let before = self.output.output().len();
-        say(found, self.name)?;
+        found.say(self.name);
         match self.machine.step(self.parts, input, &mut self.output) {
             Ok(progress) => {
-                say_progress(found, progress, self.written(before))?;
-                Ok(true)
+                say_progress(found, progress, self.written(before));
+                true
             }
             Err(error) => {
-                say_shown(found, &error)?;
-                Ok(false)
+                found.say_shown(&error);
+                false
             }
         }
     }
@@ -443,16 +488,15 @@ impl<'s, 'c> Seat<'s, 'c> {
 }
 
 /// Appends what a step leads to: how many bytes it wrote, or these where the machine is done.
-fn say_progress(found: &mut String, progress: Progress, written: &[u8]) -> Result<(), Fault> {
+fn say_progress(found: &mut Found, progress: Progress, written: &[u8]) {
     if progress == Progress::Done {
-        say(found, "done")?;
-        return say_bytes(found, written);
+        found.say("done");
+        return found.say_bytes(written);
     }
-    say_number(found, written.len() as u64)?;
+    found.say_number(written.len() as u64);
     if progress == Progress::Resets {
-        say(found, "reset")?;
+        found.say("reset");
     }
-    Ok(())
 }
 
 /// Gives both machines each other's packets in turn, until none is left. False where one is refused.
@@ -460,11 +504,10 @@ fn played(
     client: &mut Seat<'_, '_>,
     server: &mut Seat<'_, '_>,
     given: &[Given],
-    found: &mut String,
-) -> Result<bool, Fault> {
-    let alloc = *found.allocator();
-    let mut to_client = PacketReader::new(alloc);
-    let mut to_server = PacketReader::new(alloc);
+    found: &mut Found,
+) -> bool {
+    let mut to_client = PacketReader::new(found.alloc());
+    let mut to_server = PacketReader::new(found.alloc());
     let mut taken = 0;
     for _ in 0..TURNS {
         if !turn(
@@ -474,18 +517,18 @@ fn played(
             &mut taken,
             given,
             found,
-        )? || !turn(
+        ) || !turn(
             &mut to_server,
             &mut client.output,
             server,
             &mut taken,
             given,
             found,
-        )? {
-            return Ok(false);
+        ) {
+            return false;
         }
     }
-    Ok(true)
+    true
 }
 
 /// Gives a side the other's next packet, or what is given in its place; nothing where there is none, or where the side
@@ -496,51 +539,65 @@ fn turn(
     seat: &mut Seat<'_, '_>,
     taken: &mut usize,
     given: &[Given],
-    found: &mut String,
-) -> Result<bool, Fault> {
+    found: &mut Found,
+) -> bool {
     if !seat.machine.runs() {
-        return Ok(true);
+        return true;
     }
     let n = other.output().len();
-    reader.push(other.output())?;
+    if reader.push(other.output()).is_err() {
+        found.fail(Fault::Memory);
+    }
     other.consume_output(n);
-    let Ok(Some(incoming)) = reader.next(&mut OpenKey::Clear(clear::Key)) else {
-        return Ok(true);
-    };
-    *taken = taken.saturating_add(1);
+    match reader.next(&mut OpenKey::Clear(clear::Key)) {
+        Ok(Some(incoming)) => {
+            *taken = taken.saturating_add(1);
+            is_taken(seat, incoming, *taken, given, found)
+        }
+        _ => true,
+    }
+}
+
+/// Gives a side the message of this number, or what is given in its place. False where that is refused.
+fn is_taken(
+    seat: &mut Seat<'_, '_>,
+    incoming: Incoming<'_>,
+    number: usize,
+    given: &[Given],
+    found: &mut Found,
+) -> bool {
     let mut is_given = false;
     for one in given {
-        if one.at == *taken {
+        if one.at == number {
             is_given = true;
-            if !seat.give(one.how.instead(incoming), found)? {
-                return Ok(false);
+            if !seat.give(one.how.instead(incoming), found) {
+                return false;
             }
         }
     }
-    if is_given {
-        return Ok(true);
-    }
-    seat.give(Some(incoming), found)
+    is_given || seat.give(Some(incoming), found)
 }
 
 /// Appends whether both sides have the same, how long the hash is, and the session id, or `own` where it is the hash.
-fn say_end(found: &mut String, client: &Seat<'_, '_>, server: &Seat<'_, '_>) -> Result<(), Fault> {
-    let (Some(client), Some(server)) = (client.machine.keys(), server.machine.keys()) else {
-        return say(found, "open");
-    };
-    say(
-        found,
-        if are_same(client, server) {
-            "same"
-        } else {
-            "other"
-        },
-    )?;
-    say_number(found, client.hash.as_bytes().len() as u64)?;
-    if client.session_id == client.hash {
-        say(found, "own")
+fn say_end(found: &mut Found, client: &Seat<'_, '_>, server: &Seat<'_, '_>) {
+    match (client.machine.keys(), server.machine.keys()) {
+        (Some(client), Some(server)) => say_same(found, client, server),
+        _ => found.say("open"),
+    }
+}
+
+/// The same of the keys of both.
+fn say_same(found: &mut Found, client: &NewKeys, server: &NewKeys) {
+    found.say(if are_same(client, server) {
+        "same"
     } else {
-        say_bytes(found, client.session_id.as_bytes())
+        "other"
+    });
+    found.say_number(client.hash.as_bytes().len() as u64);
+    if client.session_id == client.hash {
+        found.say("own");
+    } else {
+        found.say_bytes(client.session_id.as_bytes());
     }
 }
 

@@ -8,7 +8,7 @@ use ssh_modp::{FieldAgreement, ModpGroups, RsaHosts, RsaKey};
 use ssh_negotiate::{HostKey, kex};
 use ssh_wire::{Algorithm, Blob};
 use std::process::ExitCode;
-use vector_rows::{Answers, Fault, Row, Words, check, say, say_bytes, words_of};
+use vector_rows::{Answers, Fault, Found, Row, Words, check, words_of};
 
 /// Answers the rows, each by itself.
 #[derive(Drop)]
@@ -25,207 +25,260 @@ impl Answers for PartRows {
         Ok(false)
     }
 
-    fn answer(&mut self, kind: &str, row: &mut Row<'_>, found: &mut String) -> Result<bool, Fault> {
+    fn answer(&mut self, kind: &str, row: &mut Row<'_>, found: &mut Found) -> Result<bool, Fault> {
         match kind {
-            "offers" => offers(row, found)?,
-            "start" => started(row, found)?,
-            "answer" => answered(row, found)?,
-            "secret" => finished(row, found)?,
-            "group" => grouped(row, found)?,
-            "sign" => signed(row, found)?,
-            "verify" => verified(row, found)?,
-            "trust" => trusted(row, found)?,
-            _ => return Ok(false),
+            "offers" => offers(row, found),
+            "group" => grouped(row, found),
+            "secret" => finished(row, found),
+            "verify" => verified(row, found),
+            _ => return answer_fallible(kind, row, found),
         }
         Ok(true)
     }
 }
 
+/// Answers a row of one of the kinds whose words are copied first, which can fail. False where the kind is another.
+fn answer_fallible(kind: &str, row: &mut Row<'_>, found: &mut Found) -> Result<bool, Fault> {
+    let outcome = match kind {
+        "start" => started(row, found),
+        "answer" => answered(row, found),
+        "sign" => signed(row, found),
+        "trust" => trusted(row, found),
+        _ => return Ok(false),
+    };
+    outcome?;
+    Ok(true)
+}
+
 /// The name of a key exchange.
-fn kex_name(row: &mut Row<'_>) -> Result<kex::Name, Fault> {
-    match kex::Name::from_str(row.word()?) {
-        Some(name) => Ok(name),
-        None => Err(Fault::Malformed),
-    }
+fn kex_name(row: &mut Row<'_>) -> kex::Name {
+    let name = kex::Name::from_str(row.word());
+    row.expect(name, kex::NONE)
 }
 
 /// `PRIME GENERATOR`, or `own own` where no group is handed over.
-fn group_in(row: &mut Row<'_>) -> Result<Option<DhGroup>, Fault> {
-    let prime = row.word()?;
-    let generator = row.word()?;
+fn group_in(row: &mut Row<'_>) -> Option<DhGroup> {
+    let prime = row.word();
+    let generator = row.word();
     if prime == "own" {
-        return Ok(None);
+        return None;
     }
-    Ok(Some(DhGroup {
-        prime: Blob::new(bytes_in(row, prime)?),
-        generator: Blob::new(bytes_in(row, generator)?),
-    }))
+    Some(DhGroup {
+        prime: Blob::new(row.bytes_of(prime)),
+        generator: Blob::new(row.bytes_of(generator)),
+    })
 }
 
-/// The bytes that a word has.
-fn bytes_in(row: &mut Row<'_>, word: &str) -> Result<Vec<u8>, Fault> {
-    Row::of(row.alloc(), word)?.bytes()
+/// The next word as the words of a generator that draws its bytes.
+fn drawn_in(row: &mut Row<'_>) -> Result<Vec<u32>, Fault> {
+    let bytes = row.bytes();
+    words_of(row.alloc(), bytes.as_slice())
 }
 
-fn said(yes: bool, found: &mut String) -> Result<(), Fault> {
-    say(found, if yes { "yes" } else { "no" })
-}
-
-fn say_refusal(refusal: Refusal, found: &mut String) -> Result<(), Fault> {
+fn say_refusal(refusal: Refusal, found: &mut Found) {
     match refusal {
-        Refusal::Refused => say(found, "Refused"),
-        Refusal::Memory => Err(Fault::Memory),
+        Refusal::Refused => found.say("Refused"),
+        Refusal::Memory => found.fail(Fault::Memory),
     }
 }
 
 /// `offers NAME`
-fn offers(row: &mut Row<'_>, found: &mut String) -> Result<(), Fault> {
-    let name = kex_name(row)?;
-    said(FieldAgreement::new().offers(name), found)
+fn offers(row: &mut Row<'_>, found: &mut Found) {
+    let name = kex_name(row);
+    let offers = FieldAgreement::new().offers(name);
+    found.say(if offers { "yes" } else { "no" });
 }
 
 /// `start NAME PRIME GENERATOR DRAWN`: a client's public value, and what it keeps.
-fn started(row: &mut Row<'_>, found: &mut String) -> Result<(), Fault> {
-    let name = kex_name(row)?;
-    let group = group_in(row)?;
-    let words = words_of(row.alloc(), row.bytes()?.as_slice())?;
-    let mut rng = Words::of(words.as_slice());
-    match FieldAgreement::new().client_start(row.alloc(), name, group.as_ref(), &mut rng) {
+fn started(row: &mut Row<'_>, found: &mut Found) -> Result<(), Fault> {
+    let name = kex_name(row);
+    let group = group_in(row);
+    say_started(name, group.as_ref(), row, found)
+}
+
+fn say_started(
+    name: kex::Name,
+    group: Option<&DhGroup>,
+    row: &mut Row<'_>,
+    found: &mut Found,
+) -> Result<(), Fault> {
+    let drawn = drawn_in(row)?;
+    let mut rng = Words::of(drawn.as_slice());
+    match FieldAgreement::new().client_start(row.alloc(), name, group, &mut rng) {
         Ok(started) => {
-            say_bytes(found, started.public.as_slice())?;
-            say_bytes(found, started.local.as_slice())
+            found.say_bytes(started.public.as_slice());
+            found.say_bytes(started.local.as_slice());
         }
         Err(refusal) => say_refusal(refusal, found),
     }
+    Ok(())
 }
 
 /// `answer NAME PRIME GENERATOR CLIENT DRAWN`: a server's public value, and the secret.
-fn answered(row: &mut Row<'_>, found: &mut String) -> Result<(), Fault> {
-    let name = kex_name(row)?;
-    let group = group_in(row)?;
-    let client = row.bytes()?;
-    let words = words_of(row.alloc(), row.bytes()?.as_slice())?;
-    let mut rng = Words::of(words.as_slice());
+fn answered(row: &mut Row<'_>, found: &mut Found) -> Result<(), Fault> {
+    let name = kex_name(row);
+    let group = group_in(row);
+    say_answered(name, group.as_ref(), row, found)
+}
+
+fn say_answered(
+    name: kex::Name,
+    group: Option<&DhGroup>,
+    row: &mut Row<'_>,
+    found: &mut Found,
+) -> Result<(), Fault> {
+    let client = row.bytes();
+    let drawn = drawn_in(row)?;
+    let mut rng = Words::of(drawn.as_slice());
     let mut agreement = FieldAgreement::new();
-    match agreement.server_agree(
-        row.alloc(),
-        name,
-        group.as_ref(),
-        client.as_slice(),
-        &mut rng,
-    ) {
+    match agreement.server_agree(row.alloc(), name, group, client.as_slice(), &mut rng) {
         Ok(agreed) => {
-            say_bytes(found, agreed.public.as_slice())?;
-            say_bytes(found, agreed.secret.as_slice())
+            found.say_bytes(agreed.public.as_slice());
+            found.say_bytes(agreed.secret.as_slice());
         }
         Err(refusal) => say_refusal(refusal, found),
     }
+    Ok(())
 }
 
 /// `secret NAME PRIME GENERATOR LOCAL SERVER`: the secret of a client.
-fn finished(row: &mut Row<'_>, found: &mut String) -> Result<(), Fault> {
-    let name = kex_name(row)?;
-    let group = group_in(row)?;
-    let local = row.bytes()?;
-    let server = row.bytes()?;
+fn finished(row: &mut Row<'_>, found: &mut Found) {
+    let name = kex_name(row);
+    let group = group_in(row);
+    say_finished(name, group.as_ref(), row, found);
+}
+
+fn say_finished(name: kex::Name, group: Option<&DhGroup>, row: &mut Row<'_>, found: &mut Found) {
+    let local = row.bytes();
+    let server = row.bytes();
     let mut agreement = FieldAgreement::new();
     match agreement.client_agree(
         row.alloc(),
         name,
-        group.as_ref(),
+        group,
         local.as_slice(),
         server.as_slice(),
     ) {
-        Ok(secret) => say_bytes(found, secret.as_slice()),
+        Ok(secret) => found.say_bytes(secret.as_slice()),
         Err(refusal) => say_refusal(refusal, found),
     }
 }
 
 /// `group LEAST PREFERRED MOST`: the prime and the generator that are found.
-fn grouped(row: &mut Row<'_>, found: &mut String) -> Result<(), Fault> {
+fn grouped(row: &mut Row<'_>, found: &mut Found) {
     let sizes = GexParams {
-        min_group_size: row.number32()?,
-        preferred_group_size: row.number32()?,
-        max_group_size: row.number32()?,
+        min_group_size: row.number32(),
+        preferred_group_size: row.number32(),
+        max_group_size: row.number32(),
     };
     match ModpGroups.lookup_dh_gex_group(row.alloc(), &sizes) {
         Ok(group) => {
-            say_bytes(found, group.prime.as_slice())?;
-            say_bytes(found, group.generator.as_slice())
+            found.say_bytes(group.prime.as_slice());
+            found.say_bytes(group.generator.as_slice());
         }
         Err(refusal) => say_refusal(refusal, found),
     }
 }
 
-fn algorithm(row: &mut Row<'_>) -> Result<Algorithm, Fault> {
-    match Algorithm::from_str(row.word()?) {
-        Some(algorithm) => Ok(algorithm),
-        None => Err(Fault::Malformed),
-    }
+fn algorithm(row: &mut Row<'_>) -> Algorithm {
+    let algorithm = Algorithm::from_str(row.word());
+    row.expect(algorithm, Algorithm::Ed25519)
 }
 
 /// `sign ALGORITHM BLOB PRIVATE HASH`: the blob of the signature.
-fn signed(row: &mut Row<'_>, found: &mut String) -> Result<(), Fault> {
-    let algorithm = algorithm(row)?;
-    let blob = row.bytes()?;
+fn signed(row: &mut Row<'_>, found: &mut Found) -> Result<(), Fault> {
+    let algorithm = algorithm(row);
     let key = HostKey {
         algorithm: Algorithm::Rsa(None),
-        blob: Blob::copy_of(row.alloc(), blob.as_slice())?,
+        blob: Blob::new(row.bytes()),
     };
-    let private = RsaKey {
-        blob: Blob::new(blob),
-        private: Blob::new(row.bytes()?),
-    };
-    let hash = hash_in(row)?;
+    let private = private_in(row, key.blob.as_slice())?;
     let mut hosts = RsaHosts::new(Some(private), Vec::new(row.alloc()));
-    match hosts.sign(row.alloc(), &key, algorithm, &hash) {
-        Ok(signature) => say_bytes(found, signature.as_slice()),
+    say_signature(&mut hosts, &key, algorithm, row, found);
+    Ok(())
+}
+
+/// The next word as the private part of a key of this blob.
+fn private_in(row: &mut Row<'_>, blob: &[u8]) -> Result<RsaKey, Fault> {
+    Ok(RsaKey {
+        blob: Blob::copy_of(row.alloc(), blob)?,
+        private: Blob::new(row.bytes()),
+    })
+}
+
+fn say_signature(
+    hosts: &mut RsaHosts,
+    key: &HostKey,
+    algorithm: Algorithm,
+    row: &mut Row<'_>,
+    found: &mut Found,
+) {
+    let hash = hash_in(row);
+    match hosts.sign(row.alloc(), key, algorithm, &hash) {
+        Ok(signature) => found.say_bytes(signature.as_slice()),
         Err(refusal) => say_refusal(refusal, found),
     }
 }
 
 /// A hash, of at most 64 bytes.
-fn hash_in(row: &mut Row<'_>) -> Result<HashValue, Fault> {
-    let bytes = row.bytes()?;
+fn hash_in(row: &mut Row<'_>) -> HashValue {
+    let bytes = row.bytes();
     if bytes.as_slice().len() > 64 {
-        return Err(Fault::Malformed);
+        row.reject();
+        return HashValue::of(&[]);
     }
-    Ok(HashValue::of(bytes.as_slice()))
+    HashValue::of(bytes.as_slice())
 }
 
-fn host_in(row: &mut Row<'_>) -> Result<ServerHost, Fault> {
-    Ok(ServerHost {
-        algorithm: algorithm(row)?,
+fn host_in(row: &mut Row<'_>) -> ServerHost {
+    ServerHost {
+        algorithm: algorithm(row),
         is_certificate: false,
-        blob: Blob::new(row.bytes()?),
-    })
+        blob: Blob::new(row.bytes()),
+    }
 }
 
 /// `verify ALGORITHM BLOB HASH SIGNATURE`
-fn verified(row: &mut Row<'_>, found: &mut String) -> Result<(), Fault> {
-    let host = host_in(row)?;
-    let hash = hash_in(row)?;
-    let signature = row.bytes()?;
+fn verified(row: &mut Row<'_>, found: &mut Found) {
+    let host = host_in(row);
+    let hash = hash_in(row);
+    say_verified(&host, &hash, row, found);
+}
+
+fn say_verified(host: &ServerHost, hash: &HashValue, row: &mut Row<'_>, found: &mut Found) {
+    let signature = row.bytes();
     let mut hosts = RsaHosts::new(None, Vec::new(row.alloc()));
-    match hosts.verify(row.alloc(), &host, &hash, signature.as_slice()) {
-        Ok(()) => say(found, "Ok"),
-        Err(refusal) => say_refusal(refusal, found),
-    }
+    say_agreed(
+        hosts.verify(row.alloc(), host, hash, signature.as_slice()),
+        found,
+    );
 }
 
 /// `trust BLOB KNOWN..`: whether a host of the first blob is trusted, where the others are known.
-fn trusted(row: &mut Row<'_>, found: &mut String) -> Result<(), Fault> {
+fn trusted(row: &mut Row<'_>, found: &mut Found) -> Result<(), Fault> {
     let host = ServerHost {
         algorithm: Algorithm::Rsa(None),
         is_certificate: false,
-        blob: Blob::new(row.bytes()?),
+        blob: Blob::new(row.bytes()),
     };
+    let mut hosts = RsaHosts::new(None, known_in(row)?);
+    say_agreed(hosts.check(row.alloc(), &host), found);
+    Ok(())
+}
+
+/// The blobs that the words left have.
+fn known_in(row: &mut Row<'_>) -> Result<Vec<Blob>, Fault> {
     let mut known = Vec::new(row.alloc());
     for _ in 0..row.left() {
-        known.push(Blob::new(row.bytes()?))?;
+        known.push(Blob::new(row.bytes()))?;
     }
-    match RsaHosts::new(None, known).check(row.alloc(), &host) {
-        Ok(()) => say(found, "Ok"),
+    Ok(known)
+}
+
+/// Appends whether a host was found good.
+fn say_agreed(answer: Result<(), Refusal>, found: &mut Found) {
+    match answer {
+        Ok(()) => found.say("Ok"),
         Err(refusal) => say_refusal(refusal, found),
     }
 }

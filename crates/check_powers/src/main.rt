@@ -4,7 +4,7 @@
 
 use ssh_power::{Modulus, ModulusError, is_less, magnitude};
 use std::process::ExitCode;
-use vector_rows::{Answers, Fault, Row, check, say, say_bytes};
+use vector_rows::{Answers, Fault, Found, Row, check};
 
 /// Answers the rows, each by itself.
 #[derive(Drop)]
@@ -21,11 +21,11 @@ impl Answers for PowerRows {
         Ok(false)
     }
 
-    fn answer(&mut self, kind: &str, row: &mut Row<'_>, found: &mut String) -> Result<bool, Fault> {
+    fn answer(&mut self, kind: &str, row: &mut Row<'_>, found: &mut Found) -> Result<bool, Fault> {
         match kind {
-            "power" => power(row, found)?,
-            "less" => less(row, found)?,
-            "magnitude" => shortened(row, found)?,
+            "power" => power(row, found),
+            "less" => less(row, found),
+            "magnitude" => shortened(row, found),
             _ => return Ok(false),
         }
         Ok(true)
@@ -33,43 +33,45 @@ impl Answers for PowerRows {
 }
 
 /// `power BASE EXPONENT MODULUS`: the bytes of the power, or why the number is no modulus.
-fn power(row: &mut Row<'_>, found: &mut String) -> Result<(), Fault> {
-    let base = row.bytes()?;
-    let exponent = row.bytes()?;
-    let modulus = row.bytes()?;
-    let fault = match Modulus::new(row.alloc(), modulus.as_slice()) {
-        Ok(modulus) => {
-            let power = modulus.power(row.alloc(), base.as_slice(), exponent.as_slice())?;
-            return say_bytes(found, power.as_slice());
-        }
-        Err(fault) => fault,
-    };
+fn power(row: &mut Row<'_>, found: &mut Found) {
+    let base = row.bytes();
+    let exponent = row.bytes();
+    let modulus = row.bytes();
+    match Modulus::new(row.alloc(), modulus.as_slice()) {
+        Ok(modulus) => say_power(&modulus, base.as_slice(), exponent.as_slice(), found),
+        Err(fault) => say_fault(fault, found),
+    }
+}
+
+fn say_power(modulus: &Modulus, base: &[u8], exponent: &[u8], found: &mut Found) {
+    match modulus.power(found.alloc(), base, exponent) {
+        Ok(power) => found.say_bytes(power.as_slice()),
+        Err(_) => found.fail(Fault::Memory),
+    }
+}
+
+/// Appends why a number is no modulus.
+fn say_fault(fault: ModulusError, found: &mut Found) {
     match fault {
-        ModulusError::Even => say(found, "Even"),
-        ModulusError::Small => say(found, "Small"),
-        ModulusError::Long => say(found, "Long"),
-        ModulusError::Memory => Err(Fault::Memory),
+        ModulusError::Even => found.say("Even"),
+        ModulusError::Small => found.say("Small"),
+        ModulusError::Long => found.say("Long"),
+        ModulusError::Memory => found.fail(Fault::Memory),
     }
 }
 
 /// `less BYTES BYTES`: whether the first spell the lesser number.
-fn less(row: &mut Row<'_>, found: &mut String) -> Result<(), Fault> {
-    let first = row.bytes()?;
-    let second = row.bytes()?;
-    say(
-        found,
-        if is_less(first.as_slice(), second.as_slice()) {
-            "true"
-        } else {
-            "false"
-        },
-    )
+fn less(row: &mut Row<'_>, found: &mut Found) {
+    let first = row.bytes();
+    let second = row.bytes();
+    let is_less = is_less(first.as_slice(), second.as_slice());
+    found.say(if is_less { "true" } else { "false" });
 }
 
 /// `magnitude BYTES`: the bytes without zeros at the front.
-fn shortened(row: &mut Row<'_>, found: &mut String) -> Result<(), Fault> {
-    let bytes = row.bytes()?;
-    say_bytes(found, magnitude(bytes.as_slice()))
+fn shortened(row: &mut Row<'_>, found: &mut Found) {
+    let bytes = row.bytes();
+    found.say_bytes(magnitude(bytes.as_slice()));
 }
 
 fn main(rt: HostRuntime) -> ExitCode {

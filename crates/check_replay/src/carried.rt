@@ -1,6 +1,6 @@
 //! Rows of recorded connections: a transport of one side, fed the other side's bytes, or polled over them.
 
-use crate::given::{Given, parts_of};
+use crate::given::{Given, give_all, parts_drawing};
 use crate::polled::polled;
 use crate::replay::{cookie_of, set_up};
 use crate::talk::{Packet, Talk};
@@ -10,60 +10,82 @@ use ssh_kex::{Agreement, Config, GroupLookup, HostKeys, Parts};
 use ssh_transport::Transport;
 use ssh_wire::{Error, Side};
 use std::alloc::Global;
-use vector_rows::{Fault, Row, say, say_bytes, say_number, say_shown, words_of};
+use vector_rows::{Fault, Found, Row, words_of};
 
 /// `carried SIDE`: the connection whose packets stand before, by a transport of the side whose KEXINIT was written from
 /// its own preferences. It is fed the peer's bytes one by one, and submits the side's payloads in their places: the
 /// hash of each exchange, how many payloads were delivered, and how many bytes were written. In their place stands a
 /// refusal, or what was otherwise than recorded: `exchanges`, `delivered` or `wrote`. The side's own DISCONNECT isn't
 /// sent; `disconnected` stands behind where the peer's came.
-///
-/// `polled SIDE SIZE`: the same, where the transport keeps the peer's bytes in pieces of this size, and lends each
-/// payload; `queued` stands behind the number of bytes where any is delivered too.
-pub(crate) fn answer(
-    kind: &str,
+pub(crate) fn answer_carried(
     talk: &Talk,
     row: &mut Row<'_>,
-    found: &mut String,
-) -> Result<bool, Fault> {
-    if kind != "carried" && kind != "polled" {
-        return Ok(false);
-    }
-    let side = side_of(row)?;
-    let size = if kind == "polled" {
-        Some(row.count()?)
-    } else {
-        None
-    };
-    let alloc = row.alloc();
-    let (own, _) = talk.sides(side);
-    let words = drawn_by(alloc, own.packets.as_slice())?;
-    let mut parts = parts_of(alloc, side, talk.agreed.as_slice(), words.as_slice())?;
-    say_connection(talk, side, size, &mut parts, found)?;
-    Ok(true)
+    found: &mut Found,
+) -> Result<(), Fault> {
+    say_connection(talk, side_of(row), None, found)
 }
 
-/// Appends what a transport of a side with these parts makes of the connection.
+/// `polled SIDE SIZE`: the same, where the transport keeps the peer's bytes in pieces of this size, and lends each
+/// payload; `queued` stands behind the number of bytes where any is delivered too.
+pub(crate) fn answer_polled(
+    talk: &Talk,
+    row: &mut Row<'_>,
+    found: &mut Found,
+) -> Result<(), Fault> {
+    let side = side_of(row);
+    say_connection(talk, side, Some(row.count()), found)
+}
+
+/// Appends what a transport of a side makes of the connection, which polls where pieces have a size.
 fn say_connection(
     talk: &Talk,
     side: Side,
     size: Option<usize>,
-    parts: &mut Given<'_>,
-    found: &mut String,
+    found: &mut Found,
 ) -> Result<(), Fault> {
     let (own, _) = talk.sides(side);
-    let packets = own.packets.as_slice();
-    let Some(agreed) = talk.agreed.first() else {
-        return Err(Fault::Malformed);
-    };
-    let config = set_up(
-        *found.allocator(),
-        side,
-        own,
-        packets,
-        agreed.host.as_slice(),
-    )?;
+    let words = drawn_by(found.alloc(), own.packets.as_slice())?;
+    say_connection_drawing(talk, side, size, words.as_slice(), found)
+}
+
+/// The same where the side draws these words.
+fn say_connection_drawing(
+    talk: &Talk,
+    side: Side,
+    size: Option<usize>,
+    words: &[u32],
+    found: &mut Found,
+) -> Result<(), Fault> {
+    let mut parts = parts_drawing(found.alloc(), words);
+    found.note(give_all(&mut parts, side, talk.agreed.as_slice()));
+    say_connection_by(talk, side, size, &mut parts, found)
+}
+
+/// The same with these parts.
+fn say_connection_by(
+    talk: &Talk,
+    side: Side,
+    size: Option<usize>,
+    parts: &mut Given<'_>,
+    found: &mut Found,
+) -> Result<(), Fault> {
+    let config = connection_set_up(found.alloc(), talk, side)?;
     say_connection_under(talk, side, size, &config, parts, found)
+}
+
+/// How a side was set up for the whole connection.
+pub(crate) fn connection_set_up(alloc: Global, talk: &Talk, side: Side) -> Result<Config, Fault> {
+    let (own, _) = talk.sides(side);
+    match talk.agreed.first() {
+        Some(agreed) => set_up(
+            alloc,
+            side,
+            own,
+            own.packets.as_slice(),
+            agreed.host.as_slice(),
+        ),
+        None => Err(Fault::Malformed),
+    }
 }
 
 /// The same under this configuration.
@@ -73,16 +95,26 @@ fn say_connection_under(
     size: Option<usize>,
     config: &Config,
     parts: &mut Given<'_>,
-    found: &mut String,
+    found: &mut Found,
 ) -> Result<(), Fault> {
-    let alloc = *found.allocator();
-    let new = match side {
+    match transport_of(found.alloc(), side, config) {
+        Ok(mut transport) => {
+            say_outcome(talk, side, size, &mut transport, parts, found);
+            Ok(())
+        }
+        Err(error) => Err(Fault::from(error)),
+    }
+}
+
+/// A transport of a side.
+pub(crate) fn transport_of<'c>(
+    alloc: Global,
+    side: Side,
+    config: &'c Config,
+) -> Result<Transport<'c>, Error> {
+    match side {
         Side::Client => Transport::client(alloc, config),
         Side::Server => Transport::server(alloc, config),
-    };
-    match new {
-        Ok(mut transport) => say_outcome(talk, side, size, &mut transport, parts, found),
-        Err(error) => Err(Fault::from(error)),
     }
 }
 
@@ -93,11 +125,10 @@ fn say_outcome(
     size: Option<usize>,
     transport: &mut Transport<'_>,
     parts: &mut Given<'_>,
-    found: &mut String,
-) -> Result<(), Fault> {
-    let alloc = *found.allocator();
-    let mut payloads = Vec::new(alloc);
-    let mut refusal = String::new(alloc);
+    found: &mut Found,
+) {
+    let mut payloads = Vec::new(found.alloc());
+    let mut refusal = Found::new(found.alloc());
     carry(
         talk,
         side,
@@ -106,15 +137,18 @@ fn say_outcome(
         parts,
         &mut payloads,
         &mut refusal,
-    )?;
-    if refusal.as_str() != "" && refusal.as_str() != "Disconnect" {
-        return say(found, refusal.as_str());
+    );
+    if let Some(fault) = refusal.fault() {
+        found.fail(fault);
     }
-    say_carried(talk, side, transport, payloads.as_slice(), found)?;
-    if refusal.as_str() != "" {
-        say(found, "disconnected")?;
+    match refusal.as_str() {
+        "" => say_carried(talk, side, transport, payloads.as_slice(), found),
+        "Disconnect" => {
+            say_carried(talk, side, transport, payloads.as_slice(), found);
+            found.say("disconnected");
+        }
+        other => found.say(other),
     }
-    Ok(())
 }
 
 /// Appends the payloads that a new transport delivers or lends, and its refusal where there is one.
@@ -125,18 +159,20 @@ fn carry(
     transport: &mut Transport<'_>,
     parts: &mut Given<'_>,
     payloads: &mut Vec<Vec<u8>>,
-    refusal: &mut String,
-) -> Result<(), Fault> {
+    refusal: &mut Found,
+) {
     let (own, peer) = talk.sides(side);
     let packets = own.packets.as_slice();
     let mut wire = peer.wire.as_slice();
-    if let Some(size) = size {
-        return polled(transport, parts, packets, wire, size, payloads, refusal);
+    match size {
+        Some(size) => polled(transport, parts, packets, wire, size, payloads, refusal),
+        None => {
+            if let Err(error) = carried(transport, parts, packets, &mut wire) {
+                refusal.say_shown(&error);
+            }
+            refusal.note(take_delivered(transport, payloads));
+        }
     }
-    if let Err(error) = carried(transport, parts, packets, &mut wire) {
-        say_shown(refusal, &error)?;
-    }
-    take_delivered(transport, payloads)
 }
 
 /// Appends the payloads that a transport delivered.
@@ -155,12 +191,17 @@ pub(crate) fn drawn_by(alloc: Global, packets: &[Packet]) -> Result<Vec<u32>, Fa
     let mut words = Vec::new(alloc);
     for (i, packet) in packets.iter().enumerate() {
         if packet.message_type() == 20 {
-            let cookie = words_of(alloc, cookie_of(&packets[i..])?)?;
-            words.extend_from_slice(cookie.as_slice())?;
+            draw(&mut words, cookie_of(&packets[i..])?)?;
         }
-        words.extend_from_slice(words_of(alloc, packet.padding.as_slice())?.as_slice())?;
+        draw(&mut words, packet.padding.as_slice())?;
     }
     Ok(words)
+}
+
+/// Appends the words that give these bytes.
+fn draw(words: &mut Vec<u32>, bytes: &[u8]) -> Result<(), Fault> {
+    words.extend_from_slice(words_of(*words.allocator(), bytes)?.as_slice())?;
+    Ok(())
 }
 
 /// Lets a transport send its side's payloads, and begin its exchanges, each where it stands, and feeds it the peer's
@@ -208,39 +249,37 @@ fn say_carried(
     side: Side,
     transport: &mut Transport<'_>,
     payloads: &[Vec<u8>],
-    found: &mut String,
-) -> Result<(), Fault> {
+    found: &mut Found,
+) {
     let (own, peer) = talk.sides(side);
-    say_exchanges(talk, transport, found)?;
+    say_exchanges(talk, transport, found);
     if !are_sent(payloads, peer.packets.as_slice()) {
-        say(found, "delivered")?;
+        found.say("delivered");
     }
-    say_number(found, payloads.len() as u64)?;
+    found.say_number(payloads.len() as u64);
     if !own.wire.as_slice().starts_with(transport.output()) {
-        say(found, "wrote")?;
+        found.say("wrote");
     }
-    say_number(found, transport.output().len() as u64)?;
+    found.say_number(transport.output().len() as u64);
     if !transport.take_delivered().as_slice().is_empty() {
-        say(found, "queued")?;
+        found.say("queued");
     }
-    Ok(())
 }
 
 /// Appends the hash of each exchange, or what was otherwise.
-fn say_exchanges(talk: &Talk, transport: &Transport<'_>, found: &mut String) -> Result<(), Fault> {
+fn say_exchanges(talk: &Talk, transport: &Transport<'_>, found: &mut Found) {
     if transport.finished() != talk.agreed.len() {
-        say(found, "exchanges")?;
+        found.say("exchanges");
     }
     for (i, agreed) in talk.agreed.iter().enumerate() {
         if i < transport.finished() {
             let exchange = transport.exchange(i + 1);
-            say_bytes(found, exchange.hash.as_bytes())?;
+            found.say_bytes(exchange.hash.as_bytes());
             if exchange.hash != agreed.hash {
-                say(found, "exchanges")?;
+                found.say("exchanges");
             }
         }
     }
-    Ok(())
 }
 
 /// Whether these are the payloads among the packets.

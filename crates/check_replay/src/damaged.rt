@@ -1,17 +1,18 @@
 //! Rows of connections that were damaged on the way: a transport of one side, fed the other side's bytes with a packet
 //! changed, left out, doubled, or swapped with the next.
 
-use crate::carried::{are_sent, carried, drawn_by, take_delivered};
-use crate::given::{Given, parts_of};
+use crate::carried::{
+    are_sent, carried, connection_set_up, drawn_by, take_delivered, transport_of,
+};
+use crate::given::{Given, give_all, parts_drawing};
 use crate::place::Place;
-use crate::replay::set_up;
 use crate::talk::{Packet, Talk};
 use machine_rows::side_of;
 use ssh_kex::Config;
 use ssh_transport::Transport;
 use ssh_wire::Side;
 use std::alloc::Global;
-use vector_rows::{Fault, Row, say, say_number};
+use vector_rows::{Fault, Found, Row};
 
 /// What is done to a packet: one bit is flipped in its packet length, its padding length, the middle of its payload,
 /// its padding, or its tag; or it doesn't come, comes twice, or comes behind the next.
@@ -47,84 +48,86 @@ struct Tally {
     otherwise: u64,
 }
 
+impl Tally {
+    /// Counts a trial by the payloads that it delivered, where these packets stand before the damage, and all.
+    fn count(&mut self, payloads: &[Vec<u8>], before: &[Packet], all: &[Packet]) {
+        self.trials = self.trials.saturating_add(1);
+        if are_sent(payloads, before) {
+            return;
+        }
+        if are_sent(payloads, all) {
+            self.unnoticed = self.unnoticed.saturating_add(1);
+        } else {
+            self.otherwise = self.otherwise.saturating_add(1);
+        }
+    }
+}
+
 /// `damaged SIDE`: the connection whose packets stand before, by transports of the side, each fed the peer's bytes with
 /// one of its packets damaged. For each damage: how many trials there were, and in how many nobody noticed it and the
 /// payloads were delivered as they were sent. In all others exactly those were delivered that stand before the damage;
 /// where it was otherwise, `otherwise` and in how many trials stand behind.
-pub(crate) fn answer(
-    kind: &str,
+pub(crate) fn answer_damaged(
     talk: &Talk,
     row: &mut Row<'_>,
-    found: &mut String,
-) -> Result<bool, Fault> {
-    if kind != "damaged" {
-        return Ok(false);
-    }
-    let side = side_of(row)?;
+    found: &mut Found,
+) -> Result<(), Fault> {
+    let side = side_of(row);
     let (own, _) = talk.sides(side);
     let words = drawn_by(row.alloc(), own.packets.as_slice())?;
-    say_damages(talk, side, words.as_slice(), found)?;
-    Ok(true)
+    say_damages(talk, side, words.as_slice(), found)
 }
 
 /// Appends what became of the trials of each damage, where the side draws these words.
-fn say_damages(talk: &Talk, side: Side, words: &[u32], found: &mut String) -> Result<(), Fault> {
-    let alloc = *found.allocator();
-    let (own, _) = talk.sides(side);
-    let packets = own.packets.as_slice();
-    let Some(agreed) = talk.agreed.first() else {
-        return Err(Fault::Malformed);
-    };
-    let config = set_up(alloc, side, own, packets, agreed.host.as_slice())?;
-    for (damage, name) in DAMAGES {
-        say(found, name)?;
-        say_tally(tallied(alloc, talk, side, &config, words, damage)?, found)?;
-    }
+fn say_damages(talk: &Talk, side: Side, words: &[u32], found: &mut Found) -> Result<(), Fault> {
+    let config = connection_set_up(found.alloc(), talk, side)?;
+    say_damages_under(talk, side, &config, words, found);
     Ok(())
+}
+
+/// The same under this configuration.
+fn say_damages_under(talk: &Talk, side: Side, config: &Config, words: &[u32], found: &mut Found) {
+    for (damage, name) in DAMAGES {
+        let mut tally = Tally {
+            trials: 0,
+            unnoticed: 0,
+            otherwise: 0,
+        };
+        found.note(try_all(talk, side, config, words, damage, &mut tally));
+        found.say(name);
+        say_tally(tally, found);
+    }
 }
 
 /// Appends what became of trials.
-fn say_tally(tally: Tally, found: &mut String) -> Result<(), Fault> {
-    say_number(found, tally.trials)?;
-    say_number(found, tally.unnoticed)?;
+fn say_tally(tally: Tally, found: &mut Found) {
+    found.say_number(tally.trials);
+    found.say_number(tally.unnoticed);
     if tally.otherwise > 0 {
-        say(found, "otherwise")?;
-        say_number(found, tally.otherwise)?;
+        found.say("otherwise");
+        found.say_number(tally.otherwise);
     }
-    Ok(())
 }
 
-/// What becomes of the trials of a damage: one for each packet of the peer that can have it.
-fn tallied(
-    alloc: Global,
+/// Counts what becomes of the trials of a damage: one for each packet of the peer that can have it.
+fn try_all(
     talk: &Talk,
     side: Side,
     config: &Config,
     words: &[u32],
     damage: Damage,
-) -> Result<Tally, Fault> {
+    tally: &mut Tally,
+) -> Result<(), Fault> {
+    let alloc = *talk.agreed.allocator();
     let (_, peer) = talk.sides(side);
     let packets = peer.packets.as_slice();
-    let mut tally = Tally {
-        trials: 0,
-        unnoticed: 0,
-        otherwise: 0,
-    };
     for i in 0..packets.len() {
-        let Some(wire) = damaged(alloc, peer.wire.as_slice(), packets, i, damage)? else {
-            continue;
-        };
-        let payloads = delivered(talk, side, config, words, wire.as_slice())?;
-        tally.trials = tally.trials.saturating_add(1);
-        if are_sent(payloads.as_slice(), before(packets, i, damage)) {
-            continue;
-        } else if are_sent(payloads.as_slice(), packets) {
-            tally.unnoticed = tally.unnoticed.saturating_add(1);
-        } else {
-            tally.otherwise = tally.otherwise.saturating_add(1);
+        if let Some(wire) = damaged(alloc, peer.wire.as_slice(), packets, i, damage)? {
+            let payloads = delivered(talk, side, config, words, wire.as_slice())?;
+            tally.count(payloads.as_slice(), before(packets, i, damage), packets);
         }
     }
-    Ok(tally)
+    Ok(())
 }
 
 /// The packets that stand before the damage of the one with this index: of a doubled one the first does.
@@ -147,49 +150,42 @@ fn delivered(
     words: &[u32],
     wire: &[u8],
 ) -> Result<Vec<Vec<u8>>, Fault> {
-    let alloc = *talk.agreed.allocator();
-    let mut payloads = Vec::new(alloc);
-    let mut parts = parts_of(alloc, side, talk.agreed.as_slice(), words)?;
-    deliver(talk, side, config, &mut parts, wire, &mut payloads)?;
-    Ok(payloads)
+    let mut parts = parts_drawing(*talk.agreed.allocator(), words);
+    give_all(&mut parts, side, talk.agreed.as_slice())?;
+    delivered_by(talk, side, config, &mut parts, wire)
 }
 
-/// Appends the payloads that it delivers with these parts.
-fn deliver(
+/// The payloads that it delivers with these parts.
+fn delivered_by(
     talk: &Talk,
     side: Side,
     config: &Config,
     parts: &mut Given<'_>,
     wire: &[u8],
-    payloads: &mut Vec<Vec<u8>>,
-) -> Result<(), Fault> {
-    let alloc = *payloads.allocator();
-    let new = match side {
-        Side::Client => Transport::client(alloc, config),
-        Side::Server => Transport::server(alloc, config),
-    };
-    match new {
-        Ok(mut transport) => deliver_by(talk, side, &mut transport, parts, wire, payloads),
+) -> Result<Vec<Vec<u8>>, Fault> {
+    match transport_of(*talk.agreed.allocator(), side, config) {
+        Ok(mut transport) => delivered_through(talk, side, &mut transport, parts, wire),
         Err(error) => Err(Fault::from(error)),
     }
 }
 
-/// Appends the payloads that a new transport delivers until it refuses, or to the end of these bytes.
-fn deliver_by(
+/// The payloads that a new transport delivers until it refuses, or to the end of these bytes.
+fn delivered_through(
     talk: &Talk,
     side: Side,
     transport: &mut Transport<'_>,
     parts: &mut Given<'_>,
     wire: &[u8],
-    payloads: &mut Vec<Vec<u8>>,
-) -> Result<(), Fault> {
+) -> Result<Vec<Vec<u8>>, Fault> {
     let (own, _) = talk.sides(side);
     let mut rest = wire;
     let ended = carried(transport, parts, own.packets.as_slice(), &mut rest);
     if ended.is_ok() == transport.failed() {
         return Err(Fault::Refused);
     }
-    take_delivered(transport, payloads)
+    let mut payloads = Vec::new(*talk.agreed.allocator());
+    take_delivered(transport, &mut payloads)?;
+    Ok(payloads)
 }
 
 /// The wire with a packet damaged. None where that can't be: a packet in clear has no tag, and the last one no next.
@@ -201,31 +197,46 @@ fn damaged(
     damage: Damage,
 ) -> Result<Option<Vec<u8>>, Fault> {
     let place = place_of(packets, i)?;
-    let (front, rest) = cut(wire, place.start)?;
-    let (packet, behind) = cut(rest, place.end.saturating_sub(place.start))?;
     match damage {
-        Damage::LeftOut => Ok(Some(joined(alloc, [front, behind, b"", b""])?)),
-        Damage::Doubled => Ok(Some(joined(alloc, [front, packet, packet, behind])?)),
-        Damage::Swapped => {
-            let Some(next) = packets.get(i.saturating_add(1)) else {
-                return Ok(None);
-            };
-            let length = next.place.end.saturating_sub(next.place.start);
-            let (second, last) = cut(behind, length)?;
-            Ok(Some(joined(alloc, [front, second, packet, last])?))
+        Damage::LeftOut | Damage::Doubled | Damage::Swapped => {
+            moved(alloc, wire, packets, i, damage)
         }
-        _ => {
-            if damage == Damage::Tag && place.tag >= place.end {
-                return Ok(None);
-            }
-            let mut bytes = Vec::from_slice(alloc, wire)?;
-            let at = flipped_at(place, i, damage);
-            if let Some(byte) = bytes.get_mut(at) {
-                *byte ^= 1 << (i % 8) as u32;
-            }
-            Ok(Some(bytes))
-        }
+        Damage::Tag if place.tag >= place.end => Ok(None),
+        _ => flipped(alloc, wire, i, flipped_at(place, i, damage)),
     }
+}
+
+/// The wire without the packet of this index, with it twice, or with it behind the next.
+fn moved(
+    alloc: Global,
+    wire: &[u8],
+    packets: &[Packet],
+    i: usize,
+    damage: Damage,
+) -> Result<Option<Vec<u8>>, Fault> {
+    let place = place_of(packets, i)?;
+    let (front, rest) = cut(wire, place.start)?;
+    let (packet, behind) = cut(rest, place.size())?;
+    match damage {
+        Damage::LeftOut => joined(alloc, [front, behind, b"", b""]),
+        Damage::Doubled => joined(alloc, [front, packet, packet, behind]),
+        _ => match packets.get(i.saturating_add(1)) {
+            Some(next) => {
+                let (second, last) = cut(behind, next.place.size())?;
+                joined(alloc, [front, second, packet, last])
+            }
+            None => Ok(None),
+        },
+    }
+}
+
+/// The wire with a bit of this byte flipped: the index of the packet says which.
+fn flipped(alloc: Global, wire: &[u8], i: usize, at: usize) -> Result<Option<Vec<u8>>, Fault> {
+    let mut bytes = Vec::from_slice(alloc, wire)?;
+    if let Some(byte) = bytes.get_mut(at) {
+        *byte ^= 1 << (i % 8) as u32;
+    }
+    Ok(Some(bytes))
 }
 
 /// At which byte a bit is flipped of the packet of this index, which also says which bit it is.
@@ -262,10 +273,10 @@ fn cut(bytes: &[u8], at: usize) -> Result<(&[u8], &[u8]), Fault> {
 }
 
 /// Four pieces, one behind the other.
-fn joined(alloc: Global, pieces: [&[u8]; 4]) -> Result<Vec<u8>, Fault> {
+fn joined(alloc: Global, pieces: [&[u8]; 4]) -> Result<Option<Vec<u8>>, Fault> {
     let mut bytes = Vec::new(alloc);
     for piece in pieces {
         bytes.extend_from_slice(piece)?;
     }
-    Ok(bytes)
+    Ok(Some(bytes))
 }

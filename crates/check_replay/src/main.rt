@@ -10,9 +10,12 @@ mod polled;
 mod replay;
 mod talk;
 
+use crate::carried::{answer_carried, answer_polled};
+use crate::damaged::answer_damaged;
+use crate::replay::answer_agreed;
 use crate::talk::Talk;
 use std::process::ExitCode;
-use vector_rows::{Answers, Fault, Row, check};
+use vector_rows::{Answers, Fault, Found, Row, check};
 
 /// Answers the rows, over what those before told of a connection.
 #[derive(Drop)]
@@ -23,15 +26,22 @@ struct Connections {
 impl Answers for Connections {
     /// What stands on the wire is learned; what is left over is for the check of packets.
     fn passes_over(&mut self, kind: &str, row: &mut Row<'_>, wanted: &str) -> Result<bool, Fault> {
-        Ok(kind == "left" || self.talk.learn(kind, row, wanted)?)
+        if kind == "left" {
+            return Ok(true);
+        }
+        self.talk.learn(kind, row, wanted)
     }
 
-    fn answer(&mut self, kind: &str, row: &mut Row<'_>, found: &mut String) -> Result<bool, Fault> {
-        Ok(
-            replay::answer(kind, &mut self.talk, row, found)?
-                || carried::answer(kind, &self.talk, row, found)?
-                || damaged::answer(kind, &self.talk, row, found)?,
-        )
+    fn answer(&mut self, kind: &str, row: &mut Row<'_>, found: &mut Found) -> Result<bool, Fault> {
+        let outcome = match kind {
+            "agreed" => answer_agreed(&mut self.talk, row, found),
+            "carried" => answer_carried(&self.talk, row, found),
+            "polled" => answer_polled(&self.talk, row, found),
+            "damaged" => answer_damaged(&self.talk, row, found),
+            _ => return Ok(false),
+        };
+        found.note(outcome);
+        Ok(true)
     }
 }
 

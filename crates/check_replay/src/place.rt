@@ -16,6 +16,13 @@ pub(crate) struct Place {
     pub end: usize,
 }
 
+impl Place {
+    /// How many bytes it has, with its tag.
+    pub(crate) fn size(self) -> usize {
+        self.end.saturating_sub(self.start)
+    }
+}
+
 /// How far the packets reach that were met, and how long the tags are of those that follow: none in clear.
 #[derive(Clone, Copy)]
 pub(crate) struct Places {
@@ -35,15 +42,14 @@ impl Places {
     }
 
     /// Takes the cipher and the MAC of what follows. A tag of a MAC is as long as its key (RFC 4253 section 6.4).
-    pub(crate) fn set_tag(&mut self, row: &mut Row<'_>) -> Result<(), Fault> {
-        let cipher = cipher::Name::from_str(row.word()?);
-        let mac = mac::Name::from_str(row.word()?);
-        self.tag = match (cipher, mac) {
-            (Some(cipher), _) if !cipher.needs_mac() => Some(GCM_TAG),
-            (Some(_), Some(mac)) => Some(mac.key_len()),
-            _ => return Err(Fault::Malformed),
-        };
-        Ok(())
+    pub(crate) fn set_tag(&mut self, row: &mut Row<'_>) {
+        let cipher = cipher::Name::from_str(row.word());
+        let mac = mac::Name::from_str(row.word());
+        match (cipher, mac) {
+            (Some(cipher), _) if !cipher.needs_mac() => self.tag = Some(GCM_TAG),
+            (Some(_), Some(mac)) => self.tag = Some(mac.key_len()),
+            _ => row.reject(),
+        }
     }
 
     /// The place of the next packet on a wire, by the lengths of its payload and of its padding; in clear the wire

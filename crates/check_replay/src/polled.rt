@@ -6,7 +6,7 @@ use rand_core::Rng;
 use ssh_kex::{Agreement, GroupLookup, HostKeys, Parts};
 use ssh_transport::Transport;
 use ssh_wire::Error;
-use vector_rows::{Fault, say_shown};
+use vector_rows::{Fault, Found};
 
 /// What is still to come, and how many bytes come at once.
 #[derive(Clone, Copy)]
@@ -37,18 +37,18 @@ pub(crate) fn polled<A: Agreement, H: HostKeys, G: GroupLookup, R: Rng>(
     wire: &[u8],
     size: usize,
     lent: &mut Vec<Vec<u8>>,
-    found: &mut String,
-) -> Result<(), Fault> {
+    found: &mut Found,
+) {
     let mut pieces = Pieces { wire, size };
     for packet in packets {
         if packet.is_payload() || packet.message_type() == 20 && transport.finished() > 0 {
-            poll_pieces(transport, parts, false, &mut pieces, lent, found)?;
+            poll_pieces(transport, parts, false, &mut pieces, lent, found);
             if let Err(error) = send(transport, parts, packet) {
-                return say_shown(found, &error);
+                return found.say_shown(&error);
             }
         }
     }
-    poll_pieces(transport, parts, true, &mut pieces, lent, found)
+    poll_pieces(transport, parts, true, &mut pieces, lent, found);
 }
 
 /// Submits a packet's payload, or begins the exchange that it begins.
@@ -71,22 +71,26 @@ fn poll_pieces<A: Agreement, H: HostKeys, G: GroupLookup, R: Rng>(
     is_last: bool,
     pieces: &mut Pieces<'_>,
     lent: &mut Vec<Vec<u8>>,
-    found: &mut String,
-) -> Result<(), Fault> {
+    found: &mut Found,
+) {
     for _ in 0..=pieces.wire.len() {
-        poll_kept(transport, parts, is_last, lent, found)?;
+        poll_kept(transport, parts, is_last, lent, found);
         if transport.failed() || !is_last && !transport.inside() {
-            return Ok(());
+            return;
         }
-        let Some(piece) = pieces.next_piece() else {
-            return Ok(());
-        };
-        match take_input(transport, piece) {
-            Ok(count) if count == piece.len() => {}
-            _ => return Err(Fault::Refused),
+        match pieces.next_piece() {
+            Some(piece) => keep_piece(transport, piece, found),
+            None => return,
         }
     }
-    Ok(())
+}
+
+/// Lets a transport keep a whole piece.
+fn keep_piece(transport: &mut Transport<'_>, piece: &[u8], found: &mut Found) {
+    match take_input(transport, piece) {
+        Ok(count) if count == piece.len() => {}
+        _ => found.fail(Fault::Refused),
+    }
 }
 
 /// Polls until nothing is lent, or until the transport is outside an exchange.
@@ -95,16 +99,33 @@ fn poll_kept<A: Agreement, H: HostKeys, G: GroupLookup, R: Rng>(
     parts: &mut Parts<A, H, G, R>,
     is_last: bool,
     lent: &mut Vec<Vec<u8>>,
-    found: &mut String,
-) -> Result<(), Fault> {
+    found: &mut Found,
+) {
     for _ in 0..=transport.unfinished() {
-        if !is_last && !transport.inside() {
-            return Ok(());
-        }
-        match poll_payload(transport, parts, found)? {
-            Some(payload) => lent.push(payload)?,
-            None => return Ok(()),
+        if !is_last && !transport.inside() || !is_lent(transport, parts, lent, found) {
+            return;
         }
     }
-    Ok(())
+}
+
+/// Polls once. False where nothing is lent.
+fn is_lent<A: Agreement, H: HostKeys, G: GroupLookup, R: Rng>(
+    transport: &mut Transport<'_>,
+    parts: &mut Parts<A, H, G, R>,
+    lent: &mut Vec<Vec<u8>>,
+    found: &mut Found,
+) -> bool {
+    match poll_payload(transport, parts, found) {
+        Ok(Some(payload)) => {
+            if lent.push(payload).is_err() {
+                found.fail(Fault::Memory);
+            }
+            true
+        }
+        Ok(None) => false,
+        Err(fault) => {
+            found.fail(fault);
+            false
+        }
+    }
 }

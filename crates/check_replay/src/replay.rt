@@ -3,7 +3,7 @@
 //! Parts, configuration and machine are each made by a function of its own, which lends it on: a check lists all that a
 //! value holds at each place of the function that owns it.
 
-use crate::given::{Given, parts_of};
+use crate::given::{Given, give_all, parts_drawing};
 use crate::talk::{Agreed, Packet, Speaker, Talk, last_of};
 use machine_rows::{Machine, Progress, config_of, side_of};
 use rand_core::Rng;
@@ -14,23 +14,29 @@ use ssh_packet::{Incoming, OpenKey, PacketReader, PacketWriter, clear};
 use ssh_wire::{Algorithm, Blob, NameList, Reader, Side, put_string};
 use std::alloc::Global;
 use vector_rows::preferences::{Named, named_all};
-use vector_rows::{Fault, Row, say, say_bytes, say_shown, words_of};
+use vector_rows::{Fault, Found, Row, words_of};
 
 /// `agreed SIDE SECRET`: the exchange that stands before, by the machine of a side whose KEXINIT was written from its
 /// own preferences: key exchange, cipher, MACs of both directions, exchange hash, session id, and the six keys in the
 /// order of their letters. Before them stands `wrote` where it would have written other messages, and `unjudged` where
 /// a client asked nobody for the signature. A refusal stands in their place.
-pub(crate) fn answer(
-    kind: &str,
+pub(crate) fn answer_agreed(
     talk: &mut Talk,
     row: &mut Row<'_>,
-    found: &mut String,
-) -> Result<bool, Fault> {
-    if kind != "agreed" {
-        return Ok(false);
-    }
-    let side = side_of(row)?;
-    let mut agreed = agreed_by(talk, row.bytes()?)?;
+    found: &mut Found,
+) -> Result<(), Fault> {
+    let side = side_of(row);
+    let agreed = agreed_by(talk, row.bytes())?;
+    learn_agreed(talk, side, agreed, found)
+}
+
+/// Learns of an exchange by what the side's machine makes of it.
+fn learn_agreed(
+    talk: &mut Talk,
+    side: Side,
+    mut agreed: Agreed,
+    found: &mut Found,
+) -> Result<(), Fault> {
     if let Some(made) = replayed(talk, side, &agreed, found)? {
         agreed.hash = made.hash;
         if !talk.cause.is_rekey() {
@@ -41,7 +47,7 @@ pub(crate) fn answer(
         }
     }
     talk.agreed.push(agreed)?;
-    Ok(true)
+    Ok(())
 }
 
 /// What a later exchange needs of one: whether it was strict, and its hash.
@@ -52,19 +58,19 @@ struct Made {
 }
 
 /// Appends what an exchange leaves.
-fn say_keys(found: &mut String, left: &NewKeys) -> Result<(), Fault> {
-    say(found, left.names.kex.as_str())?;
-    say(found, left.names.cipher.as_str())?;
-    say(found, left.names.client_mac.as_str())?;
-    say(found, left.names.server_mac.as_str())?;
-    say_bytes(found, left.hash.as_bytes())?;
-    say_bytes(found, left.session_id.as_bytes())?;
-    say_bytes(found, left.keys.iv_c2s.as_bytes())?;
-    say_bytes(found, left.keys.iv_s2c.as_bytes())?;
-    say_bytes(found, left.keys.key_c2s.as_bytes())?;
-    say_bytes(found, left.keys.key_s2c.as_bytes())?;
-    say_bytes(found, left.keys.mac_c2s.as_bytes())?;
-    say_bytes(found, left.keys.mac_s2c.as_bytes())
+fn say_keys(found: &mut Found, left: &NewKeys) {
+    found.say(left.names.kex.as_str());
+    found.say(left.names.cipher.as_str());
+    found.say(left.names.client_mac.as_str());
+    found.say(left.names.server_mac.as_str());
+    found.say_bytes(left.hash.as_bytes());
+    found.say_bytes(left.session_id.as_bytes());
+    found.say_bytes(left.keys.iv_c2s.as_bytes());
+    found.say_bytes(left.keys.iv_s2c.as_bytes());
+    found.say_bytes(left.keys.key_c2s.as_bytes());
+    found.say_bytes(left.keys.key_s2c.as_bytes());
+    found.say_bytes(left.keys.mac_c2s.as_bytes());
+    found.say_bytes(left.keys.mac_s2c.as_bytes());
 }
 
 /// What a side's machine makes that is given the other side's messages. Appends its keys; where a message is refused
@@ -73,12 +79,28 @@ fn replayed(
     talk: &Talk,
     side: Side,
     agreed: &Agreed,
-    found: &mut String,
+    found: &mut Found,
 ) -> Result<Option<Made>, Fault> {
-    let alloc = *found.allocator();
     let (own, _) = talk.sides(side);
-    let cookie = words_of(alloc, cookie_of(own.last_exchange()?)?)?;
-    let mut parts = parts_of(alloc, side, std::slice::from_ref(agreed), cookie.as_slice())?;
+    let words = cookie_words(found.alloc(), own)?;
+    replayed_drawing(talk, side, agreed, words.as_slice(), found)
+}
+
+/// The words that a side draws for the cookie of its last KEXINIT.
+fn cookie_words(alloc: Global, own: &Speaker) -> Result<Vec<u32>, Fault> {
+    words_of(alloc, cookie_of(own.last_exchange()?)?)
+}
+
+/// What it makes where it draws these words.
+fn replayed_drawing(
+    talk: &Talk,
+    side: Side,
+    agreed: &Agreed,
+    words: &[u32],
+    found: &mut Found,
+) -> Result<Option<Made>, Fault> {
+    let mut parts = parts_drawing(found.alloc(), words);
+    found.note(give_all(&mut parts, side, std::slice::from_ref(agreed)));
     replayed_by(talk, side, agreed.host.as_slice(), &mut parts, found)
 }
 
@@ -88,11 +110,16 @@ fn replayed_by(
     side: Side,
     host: &[u8],
     parts: &mut Given<'_>,
-    found: &mut String,
+    found: &mut Found,
 ) -> Result<Option<Made>, Fault> {
     let (own, _) = talk.sides(side);
-    let config = set_up(*found.allocator(), side, own, own.last_exchange()?, host)?;
+    let config = exchange_set_up(found.alloc(), side, own, host)?;
     replayed_under(talk, side, &config, parts, found)
+}
+
+/// How a side was set up for the last exchange, where the server presents this host.
+fn exchange_set_up(alloc: Global, side: Side, own: &Speaker, host: &[u8]) -> Result<Config, Fault> {
+    set_up(alloc, side, own, own.last_exchange()?, host)
 }
 
 /// What it makes under a configuration.
@@ -101,9 +128,9 @@ fn replayed_under(
     side: Side,
     config: &Config,
     parts: &mut Given<'_>,
-    found: &mut String,
+    found: &mut Found,
 ) -> Result<Option<Made>, Fault> {
-    let mut machine = Machine::new(*found.allocator());
+    let mut machine = Machine::new(found.alloc());
     replayed_through(talk, side, config, &mut machine, parts, found)
 }
 
@@ -114,9 +141,9 @@ fn replayed_through<'c>(
     config: &'c Config,
     machine: &mut Machine<'c>,
     parts: &mut Given<'_>,
-    found: &mut String,
+    found: &mut Found,
 ) -> Result<Option<Made>, Fault> {
-    let alloc = *found.allocator();
+    let alloc = found.alloc();
     let (_, peer) = talk.sides(side);
     let mut output = PacketWriter::clear(alloc);
     machine.begin(
@@ -137,20 +164,20 @@ fn made_by(
     machine: &mut Machine<'_>,
     parts: &mut Given<'_>,
     output: &mut PacketWriter,
-    found: &mut String,
+    found: &mut Found,
 ) -> Result<Option<Made>, Fault> {
     let (own, peer) = talk.sides(side);
-    drive(machine, peer.last_exchange()?, parts, output, found)?;
+    drive(machine, peer.last_exchange()?, parts, output, found);
     let Some(keys) = machine.keys() else {
         return Ok(None);
     };
-    if !is_written(*found.allocator(), output.output(), own.last_exchange()?)? {
-        say(found, "wrote")?;
+    if !is_written(found.alloc(), output.output(), own)? {
+        found.say("wrote");
     }
     if side == Side::Client && parts.hosts.judged() != 1 {
-        say(found, "unjudged")?;
+        found.say("unjudged");
     }
-    say_keys(found, keys)?;
+    say_keys(found, keys);
     Ok(Some(Made {
         strict: keys.names.strict_kex,
         hash: keys.hash,
@@ -164,8 +191,8 @@ fn drive<A: Agreement, H: HostKeys, G: GroupLookup, R: Rng>(
     packets: &[Packet],
     parts: &mut Parts<A, H, G, R>,
     output: &mut PacketWriter,
-    found: &mut String,
-) -> Result<(), Fault> {
+    found: &mut Found,
+) {
     for packet in packets {
         if packet.is_kex() {
             let input = Incoming {
@@ -173,56 +200,71 @@ fn drive<A: Agreement, H: HostKeys, G: GroupLookup, R: Rng>(
                 seqn: packet.seqn,
             };
             match machine.step(parts, Some(input), output) {
-                Ok(Progress::Done) => return Ok(()),
+                Ok(Progress::Done) => return,
                 Ok(_) => {}
-                Err(error) => return say_shown(found, &error),
+                Err(error) => return found.say_shown(&error),
             }
         }
     }
-    say(found, "unfinished")
+    found.say("unfinished");
 }
 
-/// Whether the clear packets are the messages of the exchange among these.
-fn is_written(alloc: Global, output: &[u8], packets: &[Packet]) -> Result<bool, Fault> {
+/// Whether the clear packets are the messages of the last exchange that a side sent.
+fn is_written(alloc: Global, output: &[u8], own: &Speaker) -> Result<bool, Fault> {
     let mut reader = PacketReader::new(alloc);
     reader.push(output)?;
+    Ok(are_next(&mut reader, own.last_exchange()?))
+}
+
+/// Whether what is left of the clear packets are the messages of the exchange among these.
+fn are_next(reader: &mut PacketReader, packets: &[Packet]) -> bool {
     for packet in packets {
         if packet.is_kex() {
             match reader.next(&mut OpenKey::Clear(clear::Key)) {
                 Ok(Some(incoming)) if incoming.payload == packet.payload.as_slice() => {}
-                _ => return Ok(false),
+                _ => return false,
             }
         }
     }
-    Ok(reader.waiting() == 0)
+    reader.waiting() == 0
 }
 
 /// What the last exchange agreed on, by its messages; its hash is still to come.
 fn agreed_by(talk: &Talk, secret: Vec<u8>) -> Result<Agreed, Fault> {
     let alloc = *secret.allocator();
-    let mut value = last_of(talk.client.last_exchange()?, (30, 32))?;
-    let mut reply = last_of(talk.server.last_exchange()?, (31, 33))?;
+    let mut value = talk.client.last_message((30, 32))?;
+    let mut reply = talk.server.last_message((31, 33))?;
     Ok(Agreed {
         group: group_of(alloc, talk)?,
-        client: Vec::from_slice(alloc, value.read_string()?)?,
-        host: Vec::from_slice(alloc, reply.read_string()?)?,
-        server: Vec::from_slice(alloc, reply.read_string()?)?,
-        signature: Vec::from_slice(alloc, reply.read_string()?)?,
+        client: next_string(alloc, &mut value)?,
+        host: next_string(alloc, &mut reply)?,
+        server: next_string(alloc, &mut reply)?,
+        signature: next_string(alloc, &mut reply)?,
         secret,
         hash: HashValue::empty(),
     })
 }
 
+/// A copy of the next string.
+fn next_string(alloc: Global, fields: &mut Reader<'_>) -> Result<Vec<u8>, Fault> {
+    Ok(Vec::from_slice(alloc, fields.read_string()?)?)
+}
+
 /// The group of the last exchange, where its client asked for one (RFC 4419 section 3).
 fn group_of(alloc: Global, talk: &Talk) -> Result<Option<DhGroup>, Fault> {
-    if last_of(talk.client.last_exchange()?, (34, 34)).is_err() {
+    if talk.client.last_message((34, 34)).is_err() {
         return Ok(None);
     }
-    let mut group = last_of(talk.server.last_exchange()?, (31, 31))?;
+    let mut group = talk.server.last_message((31, 31))?;
     Ok(Some(DhGroup {
-        prime: Blob::copy_of(alloc, magnitude(group.read_string()?))?,
-        generator: Blob::copy_of(alloc, magnitude(group.read_string()?))?,
+        prime: next_number(alloc, &mut group)?,
+        generator: next_number(alloc, &mut group)?,
     }))
+}
+
+/// The next string as a positive number.
+fn next_number(alloc: Global, fields: &mut Reader<'_>) -> Result<Blob, Fault> {
+    Ok(Blob::copy_of(alloc, magnitude(fields.read_string()?))?)
 }
 
 /// The bytes of a positive number, less the zero that stands before a high first one (RFC 4251 section 5).
@@ -249,50 +291,85 @@ pub(crate) fn set_up(
     packets: &[Packet],
     host: &[u8],
 ) -> Result<Config, Fault> {
+    let id = text_of(own.id.as_slice())?;
+    let gex = sizes_of(packets)?;
     let preferred = preferences_of(alloc, packets)?;
-    let gex = match last_of(packets, (34, 34)) {
-        Ok(mut request) => GexParams::decode(&mut request)?,
-        Err(_) => GexParams::new(2048, 3072, 8192)?,
-    };
-    let host = match side {
-        Side::Client => no_keys(alloc),
-        Side::Server => keys_of(alloc, &preferred, host)?,
-    };
-    config_of(alloc, text_of(own.id.as_slice())?, preferred, gex, host)
-}
-
-/// No host keys.
-fn no_keys(alloc: Global) -> ServerKeys {
-    ServerKeys {
-        keys: Vec::new(alloc),
-        certificates: Vec::new(alloc),
+    match keys_of(alloc, side, &preferred, host) {
+        Ok(keys) => config_of(alloc, id, preferred, gex, keys),
+        Err(fault) => Err(fault),
     }
 }
 
-/// The keys of a server that presents this host: a key, or a certificate and the key that it contains.
-fn keys_of(alloc: Global, preferred: &Preferred, host: &[u8]) -> Result<ServerKeys, Fault> {
+/// The sizes that a side asks for among these packets, or some.
+fn sizes_of(packets: &[Packet]) -> Result<GexParams, Fault> {
+    let sizes = match last_of(packets, (34, 34)) {
+        Ok(mut request) => GexParams::decode(&mut request),
+        Err(_) => GexParams::new(2048, 3072, 8192),
+    };
+    Ok(sizes?)
+}
+
+/// The keys of a side: none of a client, and of a server those by which it presents this host.
+fn keys_of(
+    alloc: Global,
+    side: Side,
+    preferred: &Preferred,
+    host: &[u8],
+) -> Result<ServerKeys, Fault> {
+    let mut keys = ServerKeys {
+        keys: Vec::new(alloc),
+        certificates: Vec::new(alloc),
+    };
+    if side == Side::Server {
+        add_host(alloc, &mut keys, preferred, host)?;
+    }
+    Ok(keys)
+}
+
+/// Adds what presents a host: a key, or a certificate and the key that it contains.
+fn add_host(
+    alloc: Global,
+    keys: &mut ServerKeys,
+    preferred: &Preferred,
+    host: &[u8],
+) -> Result<(), Fault> {
     let Some(algorithm) = preferred.key.first() else {
         return Err(Fault::Malformed);
     };
-    let mut hosts = no_keys(alloc);
     let mut fields = Reader::new(host);
     let name = text_of(fields.read_string()?)?;
-    let key_blob = if Algorithm::new_certificate_ext(name).is_some() {
-        let key_blob = certified(alloc, &mut fields)?;
-        hosts.certificates.push(HostCertificate {
-            algorithm: *algorithm,
-            blob: Blob::copy_of(alloc, host)?,
-            key_blob: Blob::copy_of(alloc, key_blob.as_slice())?,
-        })?;
-        key_blob
-    } else {
-        Vec::from_slice(alloc, host)?
-    };
-    hosts.keys.push(HostKey {
-        algorithm: *algorithm,
-        blob: Blob::new(key_blob),
+    if Algorithm::new_certificate_ext(name).is_none() {
+        return add_key(keys, *algorithm, host);
+    }
+    let key = certified(alloc, &mut fields)?;
+    add_certificate(keys, *algorithm, host, key.as_slice())?;
+    add_key(keys, *algorithm, key.as_slice())
+}
+
+/// Adds a key of this blob.
+fn add_key(keys: &mut ServerKeys, algorithm: Algorithm, blob: &[u8]) -> Result<(), Fault> {
+    let alloc = *keys.keys.allocator();
+    keys.keys.push(HostKey {
+        algorithm,
+        blob: Blob::copy_of(alloc, blob)?,
     })?;
-    Ok(hosts)
+    Ok(())
+}
+
+/// Adds a certificate of this blob, and of its key's.
+fn add_certificate(
+    keys: &mut ServerKeys,
+    algorithm: Algorithm,
+    blob: &[u8],
+    key_blob: &[u8],
+) -> Result<(), Fault> {
+    let alloc = *keys.certificates.allocator();
+    keys.certificates.push(HostCertificate {
+        algorithm,
+        blob: Blob::copy_of(alloc, blob)?,
+        key_blob: Blob::copy_of(alloc, key_blob)?,
+    })?;
+    Ok(())
 }
 
 /// The key's blob that an Ed25519 certificate contains, of which the name was read: a nonce and the key follow.
@@ -317,42 +394,63 @@ fn text_of(bytes: &[u8]) -> Result<&str, Fault> {
 
 /// What a side prefers, as its KEXINIT has it; both directions have the same.
 fn preferences_of(alloc: Global, packets: &[Packet]) -> Result<Preferred, Fault> {
-    let mut lists = match packets.first() {
-        Some(packet) if packet.payload.len() > 17 => Reader::new(&packet.payload[17..]),
-        _ => return Err(Fault::Malformed),
+    let mut preferred = Preferred {
+        kex: Vec::new(alloc),
+        key: Vec::new(alloc),
+        host_key_certificates: Vec::new(alloc),
+        cipher: Vec::new(alloc),
+        mac: Vec::new(alloc),
+        compression: Vec::new(alloc),
     };
-    let kex = listed(alloc, &mut lists)?;
-    let hosts: Vec<HostName> = listed(alloc, &mut lists)?;
-    let cipher = listed(alloc, &mut lists)?;
-    NameList::decode(alloc, &mut lists)?;
-    let mac = listed(alloc, &mut lists)?;
-    NameList::decode(alloc, &mut lists)?;
-    let compression = listed(alloc, &mut lists)?;
-    let (key, host_key_certificates) = split(alloc, hosts.as_slice())?;
-    Ok(Preferred {
-        kex,
-        key,
-        host_key_certificates,
-        cipher,
-        mac,
-        compression,
-    })
+    match packets.first() {
+        Some(packet) if packet.payload.len() > 17 => {
+            prefer(&mut preferred, &mut Reader::new(&packet.payload[17..]))?;
+        }
+        _ => return Err(Fault::Malformed),
+    }
+    Ok(preferred)
 }
 
-/// The algorithms of keys among these names, and those of certificates.
-fn split(alloc: Global, hosts: &[HostName]) -> Result<(Vec<Algorithm>, Vec<Algorithm>), Fault> {
-    let mut keys = Vec::new(alloc);
-    let mut certificates = Vec::new(alloc);
+/// Sets what is preferred, by the lists of a KEXINIT.
+fn prefer(preferred: &mut Preferred, lists: &mut Reader<'_>) -> Result<(), Fault> {
+    read_list(lists, &mut preferred.kex)?;
+    let mut hosts = Vec::new(*preferred.kex.allocator());
+    read_list(lists, &mut hosts)?;
+    split(
+        hosts.as_slice(),
+        &mut preferred.key,
+        &mut preferred.host_key_certificates,
+    )?;
+    read_both(lists, &mut preferred.cipher)?;
+    read_both(lists, &mut preferred.mac)?;
+    read_list(lists, &mut preferred.compression)
+}
+
+/// Appends the algorithms of keys among these names, and those of certificates.
+fn split(
+    hosts: &[HostName],
+    keys: &mut Vec<Algorithm>,
+    certificates: &mut Vec<Algorithm>,
+) -> Result<(), Fault> {
     for host in hosts {
         match host {
             HostName::Plain(algorithm) => keys.push(*algorithm)?,
             HostName::Certificate(algorithm) => certificates.push(*algorithm)?,
         }
     }
-    Ok((keys, certificates))
+    Ok(())
 }
 
-/// The next list.
-fn listed<N: Named>(alloc: Global, lists: &mut Reader<'_>) -> Result<Vec<N>, Fault> {
-    named_all(alloc, &NameList::decode(alloc, lists)?)
+/// Sets names to those of the next list.
+fn read_list<N: Named>(lists: &mut Reader<'_>, names: &mut Vec<N>) -> Result<(), Fault> {
+    let alloc = *names.allocator();
+    *names = named_all(alloc, &NameList::decode(alloc, lists)?)?;
+    Ok(())
+}
+
+/// Sets names to those of the next list, and passes over that of the other direction.
+fn read_both<N: Named>(lists: &mut Reader<'_>, names: &mut Vec<N>) -> Result<(), Fault> {
+    read_list(lists, names)?;
+    NameList::decode(*names.allocator(), lists)?;
+    Ok(())
 }

@@ -70,6 +70,31 @@ impl Speaker {
         Ok(())
     }
 
+    /// Learns of a row: its bytes, its keys, a packet.
+    fn learn(&mut self, kind: &str, row: &mut Row<'_>, wanted: &str) -> Result<(), Fault> {
+        if kind == "keys" {
+            self.places.set_tag(row);
+            return Ok(());
+        }
+        let bytes = row.bytes();
+        let (number, told) = told_by(row.alloc(), wanted)?;
+        if row.is_malformed() {
+            return Err(Fault::Malformed);
+        }
+        if kind == "wire" {
+            self.begin(number, told, bytes);
+            return Ok(());
+        }
+        self.push(number, told, bytes)
+    }
+
+    /// Learns of all its bytes, and of its version line: how many bytes that has, and its text.
+    fn begin(&mut self, line: u32, id: Vec<u8>, wire: Vec<u8>) {
+        self.id = id;
+        self.wire = wire;
+        self.places.begin(line);
+    }
+
     /// The packets from the last KEXINIT on.
     pub(crate) fn last_exchange(&self) -> Result<&[Packet], Fault> {
         let mut start = None;
@@ -86,6 +111,21 @@ impl Speaker {
             None => Err(Fault::Malformed),
         }
     }
+
+    /// The fields of the last message from the last KEXINIT on that has one of two types.
+    pub(crate) fn last_message(&self, types: (u8, u8)) -> Result<Reader<'_>, Fault> {
+        last_of(self.last_exchange()?, types)
+    }
+}
+
+/// The number and the bytes that a row has as its answer.
+fn told_by(alloc: Global, wanted: &str) -> Result<(u32, Vec<u8>), Fault> {
+    let mut told = Row::of(alloc, wanted)?;
+    let (number, bytes) = (told.number32(), told.bytes());
+    if told.is_malformed() {
+        return Err(Fault::Malformed);
+    }
+    Ok((number, bytes))
 }
 
 /// The fields of the last of the packets whose message has one of two types.
@@ -151,34 +191,28 @@ impl Talk {
         row: &mut Row<'_>,
         wanted: &str,
     ) -> Result<bool, Fault> {
-        let alloc = self.alloc;
-        if kind == "connection" {
-            *self = Talk::new(alloc);
-            return Ok(true);
+        match kind {
+            "connection" => {
+                self.forget();
+                return Ok(true);
+            }
+            "wire" | "keys" | "packet" | "padded" => {}
+            _ => return Ok(false),
         }
-        if kind != "wire" && kind != "keys" && kind != "packet" && kind != "padded" {
-            return Ok(false);
-        }
-        let speaker = if row.word()? == "c2s" {
+        let speaker = if row.word() == "c2s" {
             &mut self.client
         } else {
             &mut self.server
         };
-        if kind == "keys" {
-            speaker.places.set_tag(row)?;
-            return Ok(true);
+        speaker.learn(kind, row, wanted)?;
+        if row.is_malformed() {
+            return Err(Fault::Malformed);
         }
-        let bytes = row.bytes()?;
-        let mut told = Row::of(alloc, wanted)?;
-        let number = told.number32()?;
-        let payload = told.bytes()?;
-        if kind == "wire" {
-            speaker.wire = bytes;
-            speaker.id = payload;
-            speaker.places.begin(number);
-            return Ok(true);
-        }
-        speaker.push(number, payload, bytes)?;
         Ok(true)
+    }
+
+    /// Begins anew.
+    fn forget(&mut self) {
+        *self = Talk::new(self.alloc);
     }
 }

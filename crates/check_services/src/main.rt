@@ -6,7 +6,7 @@ mod messages;
 mod served;
 
 use std::process::ExitCode;
-use vector_rows::{Answers, Fault, Row, check};
+use vector_rows::{Answers, Fault, Found, Row, check};
 
 /// Answers the rows, each by itself.
 #[derive(Drop)]
@@ -23,7 +23,7 @@ impl Answers for ServiceRows {
         Ok(false)
     }
 
-    fn answer(&mut self, kind: &str, row: &mut Row<'_>, found: &mut String) -> Result<bool, Fault> {
+    fn answer(&mut self, kind: &str, row: &mut Row<'_>, found: &mut Found) -> Result<bool, Fault> {
         Ok(messages::answer(kind, row, found)? || served::answer(kind, row, found)?)
     }
 }

@@ -3,148 +3,200 @@
 use ssh_service::{
     ExtInfo, Extension, ServiceAnswer, ServiceMessage, ServiceName, Services, server_sig_algs,
 };
+use ssh_wire::{Error, NameList};
 use std::alloc::Global;
 use std::str;
-use vector_rows::{Fault, Row, say, say_bytes, say_number, say_shown};
+use vector_rows::{Fault, Found, Row};
 
 /// Answers a row of one of these kinds. False where the kind is another.
-pub(crate) fn answer(kind: &str, row: &mut Row<'_>, found: &mut String) -> Result<bool, Fault> {
+pub(crate) fn answer(kind: &str, row: &mut Row<'_>, found: &mut Found) -> Result<bool, Fault> {
     match kind {
-        "name" => name(row, found)?,
-        "message" => message(row, found)?,
-        "info" => info(row, found)?,
-        "algorithms" => algorithms(row, found)?,
-        "answers" => answers(row, found)?,
-        _ => return Ok(false),
+        "name" => name(row, found),
+        "message" => message(row, found),
+        _ => return answer_fallible(kind, row, found),
     }
     Ok(true)
 }
 
-/// `name BYTES`: the name of this text, or what is wrong with it.
-fn name(row: &mut Row<'_>, found: &mut String) -> Result<(), Fault> {
-    let bytes = row.bytes()?;
-    let Ok(text) = str::from_utf8(bytes.as_slice()) else {
-        return Err(Fault::Malformed);
+/// Answers a row of one of the kinds whose words can be such that a call fails that is to succeed. False where the kind
+/// is another.
+fn answer_fallible(kind: &str, row: &mut Row<'_>, found: &mut Found) -> Result<bool, Fault> {
+    let outcome = match kind {
+        "info" => info(row, found),
+        "algorithms" => algorithms(row, found),
+        "answers" => answers(row, found),
+        _ => return Ok(false),
     };
-    match ServiceName::new(row.alloc(), text) {
-        Ok(name) => say(found, name.as_str()),
-        Err(error) => say_shown(found, &error),
+    outcome?;
+    Ok(true)
+}
+
+/// `name BYTES`: the name of this text, or what is wrong with it.
+fn name(row: &mut Row<'_>, found: &mut Found) {
+    let bytes = row.bytes();
+    match str::from_utf8(bytes.as_slice()) {
+        Ok(text) => say_name(text, found),
+        Err(_) => row.reject(),
+    }
+}
+
+fn say_name(text: &str, found: &mut Found) {
+    match ServiceName::new(found.alloc(), text) {
+        Ok(name) => found.say(name.as_str()),
+        Err(error) => found.say_shown(&error),
     }
 }
 
 /// `message PAYLOAD`: the message that is read, and `same` where it is written as the same bytes; or why none is read.
-fn message(row: &mut Row<'_>, found: &mut String) -> Result<(), Fault> {
-    let payload = row.bytes()?;
+fn message(row: &mut Row<'_>, found: &mut Found) {
+    let payload = row.bytes();
     match ServiceMessage::decode(row.alloc(), payload.as_slice()) {
-        Ok(message) => {
-            say_message(&message, found)?;
-            say_written(&message, payload.as_slice(), found)
-        }
-        Err(error) => say_shown(found, &error),
+        Ok(message) => say_message(&message, payload.as_slice(), found),
+        Err(error) => found.say_shown(&error),
     }
 }
 
-fn say_message(message: &ServiceMessage, found: &mut String) -> Result<(), Fault> {
+/// Appends a message, and what it is written as, or `same` where that is this payload.
+fn say_message(message: &ServiceMessage, payload: &[u8], found: &mut Found) {
+    say_fields(message, found);
+    let out = written(message, found);
+    if out.as_slice() == payload {
+        found.say("same");
+    } else {
+        found.say_bytes(out.as_slice());
+    }
+}
+
+fn say_fields(message: &ServiceMessage, found: &mut Found) {
     match message {
         ServiceMessage::Request(name) => {
-            say(found, "request")?;
-            say(found, name.as_str())
+            found.say("request");
+            found.say(name.as_str());
         }
         ServiceMessage::Accept(name) => {
-            say(found, "accept")?;
-            say(found, name.as_str())
+            found.say("accept");
+            found.say(name.as_str());
         }
         ServiceMessage::Info(info) => {
-            say(found, "info")?;
-            say_extensions(info.as_slice(), found)
+            found.say("info");
+            say_extensions(info.as_slice(), found);
         }
     }
 }
 
-fn say_extensions(extensions: &[Extension], found: &mut String) -> Result<(), Fault> {
+fn say_extensions(extensions: &[Extension], found: &mut Found) {
     for extension in extensions {
-        say(found, extension.name.as_str())?;
-        say_bytes(found, extension.value.as_slice())?;
+        found.say(extension.name.as_str());
+        found.say_bytes(extension.value.as_slice());
     }
-    Ok(())
 }
 
-/// Appends what a message is written as, or `same` where that is this payload.
-fn say_written(message: &ServiceMessage, payload: &[u8], found: &mut String) -> Result<(), Fault> {
-    let mut out = Vec::new(*found.allocator());
-    message.encode(&mut out)?;
-    if out.as_slice() == payload {
-        say(found, "same")
-    } else {
-        say_bytes(found, out.as_slice())
+/// What a message is written as.
+fn written(message: &ServiceMessage, found: &mut Found) -> Vec<u8> {
+    let mut out = Vec::new(found.alloc());
+    note(message.encode(&mut out), found);
+    out
+}
+
+/// Keeps why a call failed that was to succeed.
+pub(crate) fn note(outcome: Result<(), Error>, found: &mut Found) {
+    if let Err(error) = outcome {
+        found.fail(Fault::from(error));
     }
 }
 
 /// `info NAME VALUE ..`: the extensions that are added one after the other, a value as bytes or as `zeros:COUNT`: each
 /// refusal, and then the message that is written.
-fn info(row: &mut Row<'_>, found: &mut String) -> Result<(), Fault> {
+fn info(row: &mut Row<'_>, found: &mut Found) -> Result<(), Fault> {
     let mut info = ExtInfo::new(row.alloc());
     for _ in 0..row.left() / 2 {
-        let name = ServiceName::new(row.alloc(), row.word()?)?;
-        let value = value_of(row)?;
-        if let Err(error) = info.push(name, value.as_slice()) {
-            say_shown(found, &error)?;
-        }
+        add_extension(&mut info, row, found)?;
     }
-    let mut out = Vec::new(row.alloc());
-    ServiceMessage::Info(info).encode(&mut out)?;
-    say_bytes(found, out.as_slice())
+    let out = written(&ServiceMessage::Info(info), found);
+    found.say_bytes(out.as_slice());
+    Ok(())
+}
+
+/// Adds the extension of the next two words, or appends the refusal.
+fn add_extension(info: &mut ExtInfo, row: &mut Row<'_>, found: &mut Found) -> Result<(), Fault> {
+    let name = ServiceName::new(row.alloc(), row.word())?;
+    let value = value_of(row)?;
+    if let Err(error) = info.push(name, value.as_slice()) {
+        found.say_shown(&error);
+    }
+    Ok(())
 }
 
 /// The next word as a value.
 fn value_of(row: &mut Row<'_>) -> Result<Vec<u8>, Fault> {
-    let alloc = row.alloc();
-    let word = row.word()?;
-    let Some(count) = word.strip_prefix("zeros:") else {
-        return Row::of(alloc, word)?.bytes();
-    };
-    let Ok(count) = count.parse::<u16>() else {
-        return Err(Fault::Malformed);
-    };
-    let mut value = Vec::new(alloc);
+    let word = row.word();
+    match word.strip_prefix("zeros:") {
+        Some(count) => zeros(row, count),
+        None => Ok(row.bytes_of(word)),
+    }
+}
+
+/// As many zeros as a text tells.
+fn zeros(row: &mut Row<'_>, count: &str) -> Result<Vec<u8>, Fault> {
+    let count = row.expect(count.parse::<u16>().ok(), 0);
+    let mut value = Vec::new(row.alloc());
     value.resize(usize::from(count), 0)?;
     Ok(value)
 }
 
 /// `algorithms PAYLOAD`: the signature algorithms that extension info tells, `none` where it tells none, or why they
 /// can't be read.
-fn algorithms(row: &mut Row<'_>, found: &mut String) -> Result<(), Fault> {
-    let payload = row.bytes()?;
-    let ServiceMessage::Info(info) = ServiceMessage::decode(row.alloc(), payload.as_slice())? else {
-        return Err(Fault::Malformed);
-    };
-    match server_sig_algs(row.alloc(), &info) {
-        Ok(Some(names)) => {
-            say(found, "names")?;
-            for name in names.0.as_slice() {
-                say(found, name.as_str())?;
-            }
-            Ok(())
-        }
-        Ok(None) => say(found, "none"),
-        Err(error) => say_shown(found, &error),
+fn algorithms(row: &mut Row<'_>, found: &mut Found) -> Result<(), Fault> {
+    let payload = row.bytes();
+    match ServiceMessage::decode(row.alloc(), payload.as_slice())? {
+        ServiceMessage::Info(info) => say_algorithms(&info, found),
+        _ => row.reject(),
+    }
+    Ok(())
+}
+
+fn say_algorithms(info: &ExtInfo, found: &mut Found) {
+    match server_sig_algs(found.alloc(), info) {
+        Ok(Some(names)) => say_names(&names, found),
+        Ok(None) => found.say("none"),
+        Err(error) => found.say_shown(&error),
+    }
+}
+
+fn say_names(names: &NameList, found: &mut Found) {
+    found.say("names");
+    for name in names.0.as_slice() {
+        found.say(name.as_str());
     }
 }
 
 /// `answers OFFERED PAYLOAD ..`: what is answered to payloads that come one after the other, where these services are
 /// offered, with commas between them.
-fn answers(row: &mut Row<'_>, found: &mut String) -> Result<(), Fault> {
-    let mut services = Services::new(offered(row.alloc(), row.text()?)?);
+fn answers(row: &mut Row<'_>, found: &mut Found) -> Result<(), Fault> {
+    let mut services = services_in(row)?;
     for _ in 0..row.left() {
-        let payload = row.bytes()?;
-        let answer = services.receive(payload.as_slice())?;
-        say_answer(&answer, found)?;
+        let payload = row.bytes();
+        say_received(&mut services, payload.as_slice(), found);
     }
     Ok(())
 }
 
+/// Appends what is answered to a payload.
+fn say_received(services: &mut Services, payload: &[u8], found: &mut Found) {
+    match services.receive(payload) {
+        Ok(answer) => say_answer(&answer, found),
+        Err(error) => found.fail(Fault::from(error)),
+    }
+}
+
+/// The next word as services that are offered.
+pub(crate) fn services_in(row: &mut Row<'_>) -> Result<Services, Fault> {
+    let names = offered(row.alloc(), row.text())?;
+    Ok(Services::new(names))
+}
+
 /// The names of a text that is cut at its commas; none of the empty text.
-pub(crate) fn offered(alloc: Global, text: &str) -> Result<Vec<ServiceName>, Fault> {
+fn offered(alloc: Global, text: &str) -> Result<Vec<ServiceName>, Fault> {
     let mut names = Vec::new(alloc);
     if text.is_empty() {
         return Ok(names);
@@ -155,21 +207,27 @@ pub(crate) fn offered(alloc: Global, text: &str) -> Result<Vec<ServiceName>, Fau
     Ok(names)
 }
 
-pub(crate) fn say_answer(answer: &ServiceAnswer, found: &mut String) -> Result<(), Fault> {
+pub(crate) fn say_answers(answers: &[ServiceAnswer], found: &mut Found) {
+    for answer in answers {
+        say_answer(answer, found);
+    }
+}
+
+fn say_answer(answer: &ServiceAnswer, found: &mut Found) {
     match answer {
         ServiceAnswer::Accepted(reply) => {
-            say(found, "accepted")?;
-            say_bytes(found, reply.as_slice())
+            found.say("accepted");
+            found.say_bytes(reply.as_slice());
         }
         ServiceAnswer::Refused(reason) => {
-            say(found, "refused")?;
-            say_number(found, u64::from(reason.code()))
+            found.say("refused");
+            found.say_number(u64::from(reason.code()));
         }
-        ServiceAnswer::Extensions => say(found, "extensions"),
-        ServiceAnswer::Other => say(found, "other"),
+        ServiceAnswer::Extensions => found.say("extensions"),
+        ServiceAnswer::Other => found.say("other"),
         ServiceAnswer::Bad(error) => {
-            say(found, "bad")?;
-            say_shown(found, error)
+            found.say("bad");
+            found.say_shown(error);
         }
     }
 }

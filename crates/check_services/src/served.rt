@@ -1,6 +1,6 @@
 //! Rows on a server that grants services over a transport.
 
-use crate::messages::{offered, say_answer};
+use crate::messages::{note, say_answers, services_in};
 use machine_rows::{config_of, feed, key_of, submit, trusted_by};
 use rand_core::Rng;
 use ssh_kex::{Agreement, Config, GexParams, GroupLookup, HostKeys, Parts};
@@ -8,10 +8,10 @@ use ssh_negotiate::ServerKeys;
 use ssh_service::{Services, serve};
 use ssh_transport::Transport;
 use ssh_vectors::{TestAgreement, TestGroups, TestHosts};
-use ssh_wire::{Blob, Error};
+use ssh_wire::Blob;
 use std::alloc::Global;
 use vector_rows::preferences::preferred;
-use vector_rows::{Fault, Row, Words, say, say_bytes, say_shown};
+use vector_rows::{Fault, Found, Row, Words};
 
 /// How many turns a first exchange takes at most.
 const TURNS: u32 = 8;
@@ -19,42 +19,43 @@ const TURNS: u32 = 8;
 /// `served PREFERENCES OFFERED PAYLOAD ..`: both sides come out of their first exchange, and the client submits the
 /// payloads. What a server answers that offers these services, with commas between them; `to` and what is delivered to
 /// the client; and what the server answers once its transport has failed.
-pub(crate) fn answer(kind: &str, row: &mut Row<'_>, found: &mut String) -> Result<bool, Fault> {
+pub(crate) fn answer(kind: &str, row: &mut Row<'_>, found: &mut Found) -> Result<bool, Fault> {
     if kind != "served" {
         return Ok(false);
     }
-    let config = config_by(row)?;
-    let mut services = Services::new(offered(row.alloc(), row.text()?)?);
-    let mut client = Transport::client(row.alloc(), &config)?;
-    let mut server = Transport::server(row.alloc(), &config)?;
-    let mut parts = parts_of(row.alloc(), &config)?;
-    greet(&mut client, &mut server, &mut parts)?;
-    for _ in 0..row.left() {
-        let payload = row.bytes()?;
-        submit(&mut client, &mut parts, payload.as_slice())?;
-    }
-    carry(&mut client, &mut server, &mut parts)?;
-    say_served(&mut server, &mut parts, &mut services, found)?;
-    carry(&mut server, &mut client, &mut parts)?;
-    say_delivered(&mut client, found)?;
-    say_failed(&mut server, &mut parts, &mut services, found)?;
+    let outcome = match &config_by(row) {
+        Ok(config) => served(config, row, found),
+        Err(fault) => Err(*fault),
+    };
+    outcome?;
     Ok(true)
 }
 
 /// Both sides' configuration, by the next word.
 fn config_by(row: &mut Row<'_>) -> Result<Config, Fault> {
-    let alloc = row.alloc();
+    let host = own_keys(row.alloc())?;
     let preferred = preferred(row)?;
     let gex = GexParams {
         min_group_size: 2048,
         preferred_group_size: 3072,
         max_group_size: 8192,
     };
-    let host = ServerKeys {
-        keys: key_of(alloc, Blob::copy_of(alloc, b"sshlink-test-key")?)?,
+    config_of(row.alloc(), "SSH-2.0-own", preferred, gex, host)
+}
+
+fn own_keys(alloc: Global) -> Result<ServerKeys, Fault> {
+    let blob = Blob::copy_of(alloc, b"sshlink-test-key")?;
+    Ok(ServerKeys {
+        keys: key_of(alloc, blob)?,
         certificates: Vec::new(alloc),
-    };
-    config_of(alloc, "SSH-2.0-own", preferred, gex, host)
+    })
+}
+
+/// Answers by the words that are left, where both sides have this configuration.
+fn served(config: &Config, row: &mut Row<'_>, found: &mut Found) -> Result<(), Fault> {
+    let mut services = services_in(row)?;
+    let mut parts = parts_of(row.alloc(), config)?;
+    with_client(config, &mut parts, &mut services, row, found)
 }
 
 /// Parts of which both sides use the same ones.
@@ -70,20 +71,71 @@ fn parts_of(
     })
 }
 
+/// Answers where the client is one of this configuration.
+fn with_client<A: Agreement, H: HostKeys, G: GroupLookup, R: Rng>(
+    config: &Config,
+    parts: &mut Parts<A, H, G, R>,
+    services: &mut Services,
+    row: &mut Row<'_>,
+    found: &mut Found,
+) -> Result<(), Fault> {
+    match Transport::client(row.alloc(), config) {
+        Ok(mut client) => with_server(config, &mut client, parts, services, row, found),
+        Err(error) => Err(Fault::from(error)),
+    }
+}
+
+/// Answers where the server is one of this configuration, too.
+fn with_server<A: Agreement, H: HostKeys, G: GroupLookup, R: Rng>(
+    config: &Config,
+    client: &mut Transport<'_>,
+    parts: &mut Parts<A, H, G, R>,
+    services: &mut Services,
+    row: &mut Row<'_>,
+    found: &mut Found,
+) -> Result<(), Fault> {
+    match Transport::server(row.alloc(), config) {
+        Ok(mut server) => {
+            say_talk(client, &mut server, parts, services, row, found);
+            Ok(())
+        }
+        Err(error) => Err(Fault::from(error)),
+    }
+}
+
+/// Appends what the server answers to the payloads that are left, and what comes of it.
+fn say_talk<A: Agreement, H: HostKeys, G: GroupLookup, R: Rng>(
+    client: &mut Transport<'_>,
+    server: &mut Transport<'_>,
+    parts: &mut Parts<A, H, G, R>,
+    services: &mut Services,
+    row: &mut Row<'_>,
+    found: &mut Found,
+) {
+    greet(client, server, parts, found);
+    submit_all(client, parts, row, found);
+    carry(client, server, parts, found);
+    say_served(server, parts, services, found);
+    carry(server, client, parts, found);
+    say_delivered(client, found);
+    say_failed(server, parts, services, found);
+}
+
 /// Carries what both sides send until neither is inside an exchange.
 fn greet<A: Agreement, H: HostKeys, G: GroupLookup, R: Rng>(
     client: &mut Transport<'_>,
     server: &mut Transport<'_>,
     parts: &mut Parts<A, H, G, R>,
-) -> Result<(), Fault> {
+    found: &mut Found,
+) {
     for _ in 0..TURNS {
-        carry(client, server, parts)?;
-        carry(server, client, parts)?;
+        carry(client, server, parts, found);
+        carry(server, client, parts, found);
         if !client.inside() && !server.inside() {
-            return Ok(());
+            return;
         }
     }
-    Err(Fault::Refused)
+    found.fail(Fault::Refused);
 }
 
 /// Carries all that one side has to send to the other.
@@ -91,11 +143,24 @@ fn carry<A: Agreement, H: HostKeys, G: GroupLookup, R: Rng>(
     from: &mut Transport<'_>,
     to: &mut Transport<'_>,
     parts: &mut Parts<A, H, G, R>,
-) -> Result<(), Fault> {
-    feed(to, parts, from.output())?;
+    found: &mut Found,
+) {
+    note(feed(to, parts, from.output()), found);
     let sent = from.output().len();
     from.consume_output(sent);
-    Ok(())
+}
+
+/// Submits the payloads that are left.
+fn submit_all<A: Agreement, H: HostKeys, G: GroupLookup, R: Rng>(
+    transport: &mut Transport<'_>,
+    parts: &mut Parts<A, H, G, R>,
+    row: &mut Row<'_>,
+    found: &mut Found,
+) {
+    for _ in 0..row.left() {
+        let payload = row.bytes();
+        note(submit(transport, parts, payload.as_slice()), found);
+    }
 }
 
 /// Appends what is answered to the payloads that were delivered.
@@ -103,22 +168,20 @@ fn say_served<A: Agreement, H: HostKeys, G: GroupLookup, R: Rng>(
     transport: &mut Transport<'_>,
     parts: &mut Parts<A, H, G, R>,
     services: &mut Services,
-    found: &mut String,
-) -> Result<(), Fault> {
-    let answers = serve(*found.allocator(), transport, parts, services)?;
-    for answer in answers.as_slice() {
-        say_answer(answer, found)?;
+    found: &mut Found,
+) {
+    match serve(found.alloc(), transport, parts, services) {
+        Ok(answers) => say_answers(answers.as_slice(), found),
+        Err(error) => found.fail(Fault::from(error)),
     }
-    Ok(())
 }
 
 /// Appends what was delivered.
-fn say_delivered(transport: &mut Transport<'_>, found: &mut String) -> Result<(), Fault> {
-    say(found, "to")?;
+fn say_delivered(transport: &mut Transport<'_>, found: &mut Found) {
+    found.say("to");
     for payload in transport.take_delivered().as_slice() {
-        say_bytes(found, payload.as_slice())?;
+        found.say_bytes(payload.as_slice());
     }
-    Ok(())
 }
 
 /// Appends what is answered once a packet that nobody sealed has come.
@@ -126,14 +189,13 @@ fn say_failed<A: Agreement, H: HostKeys, G: GroupLookup, R: Rng>(
     transport: &mut Transport<'_>,
     parts: &mut Parts<A, H, G, R>,
     services: &mut Services,
-    found: &mut String,
-) -> Result<(), Fault> {
-    let refused: Result<(), Error> = feed(transport, parts, &[0; 64]);
-    if refused.is_ok() {
-        return Err(Fault::Refused);
+    found: &mut Found,
+) {
+    if feed(transport, parts, &[0; 64]).is_ok() {
+        found.fail(Fault::Refused);
     }
-    match serve(*found.allocator(), transport, parts, services) {
-        Ok(_) => say(found, "served"),
-        Err(error) => say_shown(found, &error),
+    match serve(found.alloc(), transport, parts, services) {
+        Ok(_) => found.say("served"),
+        Err(error) => found.say_shown(&error),
     }
 }

@@ -1,7 +1,8 @@
 //! Rows of one side's transport: its configuration, and calls one after the other.
 
 use machine_rows::{
-    feed, key_of, keys_of, poll_payload, rekey, side_of, submit, take_input, times, trusted_by,
+    config_of, feed, key_of, keys_of, poll_payload, rekey, side_of, submit, take_input, times,
+    trusted_by,
 };
 use rand_core::Rng;
 use ssh_kex::{Agreement, Config, GexParams, GroupLookup, HostKeys, Parts};
@@ -9,100 +10,128 @@ use ssh_mac::mac;
 use ssh_negotiate::ServerKeys;
 use ssh_transport::Transport;
 use ssh_vectors::{TestAgreement, TestGroups, TestHosts};
-use ssh_wire::{Blob, Error, Limits, Side, SshId, Text};
+use ssh_wire::{Blob, Error, Side, SshId, Text};
 use std::alloc::Global;
 use vector_rows::preferences::{preferred, settings};
-use vector_rows::{Fault, Row, Words, say, say_bytes, say_number, say_shown};
+use vector_rows::{Fault, Found, Row, Words};
 
 /// `calls SIDE PREFERENCES SETTINGS CALL..`: what a transport of the side answers to `feed:BYTES`, `submit:BYTES`,
 /// `rekey`, `take:BYTES`, `poll` and `pieces:SIZE:BYTES`, one after the other; whether it has failed or is inside an
 /// exchange; and how many bytes of input are unfinished, how many exchanges are finished, how many payloads are
 /// delivered, and how many bytes are written. A configuration that is refused stands in their place. A client trusts
 /// the host key of its own configuration.
-pub(crate) fn answer(kind: &str, row: &mut Row<'_>, found: &mut String) -> Result<bool, Fault> {
+pub(crate) fn answer(kind: &str, row: &mut Row<'_>, found: &mut Found) -> Result<bool, Fault> {
     if kind != "calls" {
         return Ok(false);
     }
-    let side = side_of(row)?;
-    let config = config_by(row)?;
-    match side {
-        Side::Client => say_calls(Transport::client(row.alloc(), &config), &config, row, found)?,
-        Side::Server => say_calls(Transport::server(row.alloc(), &config), &config, row, found)?,
-    }
+    let side = side_of(row);
+    let outcome = match &mut config_by(row) {
+        Ok(config) => answer_set(side, config, row, found),
+        Err(fault) => Err(*fault),
+    };
+    outcome?;
     Ok(true)
 }
 
-/// Appends what a transport under a configuration answers, or why there is none.
-fn say_calls(
-    transport: Result<Transport<'_>, Error>,
-    config: &Config,
-    row: &mut Row<'_>,
-    found: &mut String,
-) -> Result<(), Fault> {
-    match transport {
-        Ok(mut transport) => called(&mut transport, config, row, found),
-        Err(error) => say_shown(found, &error),
-    }
-}
-
-/// The next words as PREFERENCES SETTINGS: `default`, or in its place the version line as `id` or as `rawid`, the
-/// limits `write` and `read`, the sizes `least`, `wanted` and `most`, `macs` as so many MACs `none`, and `blob` as one
-/// host key whose blob has so many bytes.
+/// The next word as PREFERENCES of a side's configuration.
 fn config_by(row: &mut Row<'_>) -> Result<Config, Fault> {
-    let alloc = row.alloc();
-    let mut config = Config {
-        id: SshId::Standard(Text::new(String::from_str(alloc, "SSH-2.0-own")?)),
-        preferred: preferred(row)?,
-        limits: Limits::new(1 << 30, 1 << 30, 3600),
-        gex: GexParams {
-            min_group_size: 2048,
-            preferred_group_size: 3072,
-            max_group_size: 8192,
-        },
-        host: ServerKeys {
-            keys: key_of(alloc, Blob::copy_of(alloc, b"sshlink-test-key")?)?,
-            certificates: Vec::new(alloc),
-        },
+    let host = own_keys(row.alloc())?;
+    let preferred = preferred(row)?;
+    let gex = GexParams {
+        min_group_size: 2048,
+        preferred_group_size: 3072,
+        max_group_size: 8192,
     };
-    for (name, value) in settings(row)? {
-        set(alloc, &mut config, name, value)?;
-    }
-    Ok(config)
+    config_of(row.alloc(), "SSH-2.0-own", preferred, gex, host)
 }
 
-fn set(alloc: Global, config: &mut Config, name: &str, value: &str) -> Result<(), Fault> {
-    match name {
-        "id" => config.id = SshId::Standard(Text::new(String::from_str(alloc, value)?)),
-        "rawid" => config.id = SshId::Raw(text_of(alloc, value)?),
-        _ => return set_number(alloc, config, name, value),
+fn own_keys(alloc: Global) -> Result<ServerKeys, Fault> {
+    let blob = Blob::copy_of(alloc, b"sshlink-test-key")?;
+    Ok(ServerKeys {
+        keys: key_of(alloc, blob)?,
+        certificates: Vec::new(alloc),
+    })
+}
+
+/// Answers by the words that are left, of which the first are SETTINGS of this configuration.
+fn answer_set(
+    side: Side,
+    config: &mut Config,
+    row: &mut Row<'_>,
+    found: &mut Found,
+) -> Result<(), Fault> {
+    set_all(config, row)?;
+    say_calls(side, config, row, found)
+}
+
+/// Sets what the next word gives as SETTINGS: `default`, or the version line as `id` or as `rawid`, the limits `write`
+/// and `read`, the sizes `least`, `wanted` and `most`, `macs` as so many MACs `none`, and `blob` as one host key whose
+/// blob has so many bytes.
+fn set_all(config: &mut Config, row: &mut Row<'_>) -> Result<(), Fault> {
+    for (name, value) in settings(row)? {
+        match name {
+            "id" => config.id = id_of(row.alloc(), value)?,
+            "rawid" => config.id = raw_id_of(row.alloc(), value)?,
+            _ => set_number(config, row, name, value)?,
+        }
     }
     Ok(())
 }
 
-/// The text of these bytes.
-fn text_of(alloc: Global, digits: &str) -> Result<Text, Fault> {
-    let bytes = Row::of(alloc, digits)?.bytes()?;
-    match String::from_utf8(bytes) {
-        Ok(text) => Ok(Text::new(text)),
-        Err(_) => Err(Fault::Malformed),
+fn id_of(alloc: Global, text: &str) -> Result<SshId, Fault> {
+    Ok(SshId::Standard(Text::new(String::from_str(alloc, text)?)))
+}
+
+/// The version line of these bytes.
+fn raw_id_of(alloc: Global, digits: &str) -> Result<SshId, Fault> {
+    let mut words = Row::of(alloc, digits)?;
+    match String::from_utf8(words.bytes()) {
+        Ok(text) if !words.is_malformed() => Ok(SshId::Raw(Text::new(text))),
+        _ => Err(Fault::Malformed),
     }
 }
 
-fn set_number(alloc: Global, config: &mut Config, name: &str, value: &str) -> Result<(), Fault> {
-    let Ok(number) = value.parse::<u32>() else {
-        return Err(Fault::Malformed);
-    };
+fn set_number(
+    config: &mut Config,
+    row: &mut Row<'_>,
+    name: &str,
+    value: &str,
+) -> Result<(), Fault> {
+    let number = row.expect(value.parse::<u32>().ok(), 0);
     match name {
         "write" => config.limits.rekey_write_limit = number as usize,
         "read" => config.limits.rekey_read_limit = number as usize,
         "least" => config.gex.min_group_size = number,
         "wanted" => config.gex.preferred_group_size = number,
         "most" => config.gex.max_group_size = number,
-        "macs" => config.preferred.mac = times(alloc, mac::NONE, number)?,
-        "blob" => config.host.keys = keys_of(alloc, number)?,
-        _ => return Err(Fault::Malformed),
+        "macs" => config.preferred.mac = times(row.alloc(), mac::NONE, number)?,
+        "blob" => config.host.keys = keys_of(row.alloc(), number)?,
+        _ => row.reject(),
     }
     Ok(())
+}
+
+/// Appends what a transport of a side under a configuration answers, or why there is none.
+fn say_calls(
+    side: Side,
+    config: &Config,
+    row: &mut Row<'_>,
+    found: &mut Found,
+) -> Result<(), Fault> {
+    match &mut transport_of(row.alloc(), side, config) {
+        Ok(transport) => called(transport, config, row, found),
+        Err(error) => {
+            found.say_shown(error);
+            Ok(())
+        }
+    }
+}
+
+fn transport_of(alloc: Global, side: Side, config: &Config) -> Result<Transport<'_>, Error> {
+    match side {
+        Side::Client => Transport::client(alloc, config),
+        Side::Server => Transport::server(alloc, config),
+    }
 }
 
 /// Calls a transport by the words that are left.
@@ -110,7 +139,7 @@ fn called(
     transport: &mut Transport<'_>,
     config: &Config,
     row: &mut Row<'_>,
-    found: &mut String,
+    found: &mut Found,
 ) -> Result<(), Fault> {
     let mut parts = Parts {
         agreement: TestAgreement::new(),
@@ -118,75 +147,83 @@ fn called(
         groups: TestGroups { bits: 0 },
         rng: Words::of(&[]),
     };
-    say_answers(transport, &mut parts, row, found)?;
-    say_state(transport, found)
+    say_answers(transport, &mut parts, row, found);
+    Ok(())
 }
 
-/// Appends what the calls answer, whatever the parts are.
+/// Appends what the calls answer, whatever the parts are, and how the transport stands then.
 fn say_answers<A: Agreement, H: HostKeys, G: GroupLookup, R: Rng>(
     transport: &mut Transport<'_>,
     parts: &mut Parts<A, H, G, R>,
     row: &mut Row<'_>,
-    found: &mut String,
-) -> Result<(), Fault> {
+    found: &mut Found,
+) {
     for _ in 0..row.left() {
-        match row.word()? {
-            "rekey" => say_done(rekey(transport, parts), found)?,
-            "poll" => say_poll(transport, parts, found)?,
-            call => match call.split_once(':') {
-                Some((name, given)) => say_given(transport, parts, name, given, found)?,
-                None => return Err(Fault::Malformed),
-            },
-        }
+        say_answer(transport, parts, row, found);
     }
-    Ok(())
+    say_state(transport, found);
 }
 
-fn say_done(answer: Result<(), Error>, found: &mut String) -> Result<(), Fault> {
+/// Appends what the call of the next word answers.
+fn say_answer<A: Agreement, H: HostKeys, G: GroupLookup, R: Rng>(
+    transport: &mut Transport<'_>,
+    parts: &mut Parts<A, H, G, R>,
+    row: &mut Row<'_>,
+    found: &mut Found,
+) {
+    let call = row.word();
+    match call {
+        "rekey" => say_done(rekey(transport, parts), found),
+        "poll" => say_poll(transport, parts, found),
+        _ => say_given(transport, parts, call, row, found),
+    }
+}
+
+fn say_done(answer: Result<(), Error>, found: &mut Found) {
     match answer {
-        Ok(()) => say(found, "ok"),
-        Err(error) => say_shown(found, &error),
+        Ok(()) => found.say("ok"),
+        Err(error) => found.say_shown(&error),
     }
 }
 
 /// Appends how a transport stands.
-fn say_state(transport: &mut Transport<'_>, found: &mut String) -> Result<(), Fault> {
+fn say_state(transport: &mut Transport<'_>, found: &mut Found) {
     if transport.failed() {
-        say(found, "failed")?;
+        found.say("failed");
     } else if transport.inside() {
-        say(found, "inside")?;
+        found.say("inside");
     }
-    say_number(found, transport.unfinished() as u64)?;
-    say_number(found, transport.finished() as u64)?;
-    say_number(found, transport.take_delivered().as_slice().len() as u64)?;
-    say_number(found, transport.output().len() as u64)
+    found.say_number(transport.unfinished() as u64);
+    found.say_number(transport.finished() as u64);
+    found.say_number(transport.take_delivered().as_slice().len() as u64);
+    found.say_number(transport.output().len() as u64);
 }
 
-/// Appends what a call answers that is given bytes.
+/// Appends what a call answers that is given bytes, and maybe a size.
 fn say_given<A: Agreement, H: HostKeys, G: GroupLookup, R: Rng>(
     transport: &mut Transport<'_>,
     parts: &mut Parts<A, H, G, R>,
     call: &str,
-    given: &str,
-    found: &mut String,
-) -> Result<(), Fault> {
-    let alloc = *found.allocator();
+    row: &mut Row<'_>,
+    found: &mut Found,
+) {
+    let (name, given) = call.split_once(':').unwrap_or((call, ""));
     let (size, digits) = given.split_once(':').unwrap_or(("0", given));
-    let size = Row::of(alloc, size)?.count()?;
-    let bytes = Row::of(alloc, digits)?.bytes()?;
-    match call {
+    let size = row.count_of(size);
+    let bytes = row.bytes_of(digits);
+    match name {
         "feed" => say_done(feed(transport, parts, bytes.as_slice()), found),
         "submit" => say_done(submit(transport, parts, bytes.as_slice()), found),
         "take" => say_taken(take_input(transport, bytes.as_slice()), found),
         "pieces" => say_pieces(transport, parts, size, bytes.as_slice(), found),
-        _ => Err(Fault::Malformed),
+        _ => row.reject(),
     }
 }
 
-fn say_taken(answer: Result<usize, Error>, found: &mut String) -> Result<(), Fault> {
+fn say_taken(answer: Result<usize, Error>, found: &mut Found) {
     match answer {
-        Ok(count) => say_number(found, count as u64),
-        Err(error) => say_shown(found, &error),
+        Ok(count) => found.say_number(count as u64),
+        Err(error) => found.say_shown(&error),
     }
 }
 
@@ -194,26 +231,29 @@ fn say_taken(answer: Result<usize, Error>, found: &mut String) -> Result<(), Fau
 fn say_poll<A: Agreement, H: HostKeys, G: GroupLookup, R: Rng>(
     transport: &mut Transport<'_>,
     parts: &mut Parts<A, H, G, R>,
-    found: &mut String,
-) -> Result<(), Fault> {
-    if !say_lent(transport, parts, found)? && !transport.failed() {
-        say(found, "none")?;
+    found: &mut Found,
+) {
+    if !say_lent(transport, parts, found) && !transport.failed() {
+        found.say("none");
     }
-    Ok(())
 }
 
 /// Appends the payload that is lent next, or the refusal. Whether one is lent.
 fn say_lent<A: Agreement, H: HostKeys, G: GroupLookup, R: Rng>(
     transport: &mut Transport<'_>,
     parts: &mut Parts<A, H, G, R>,
-    found: &mut String,
-) -> Result<bool, Fault> {
-    match poll_payload(transport, parts, found)? {
-        Some(payload) => {
-            say_bytes(found, payload.as_slice())?;
-            Ok(true)
+    found: &mut Found,
+) -> bool {
+    match poll_payload(transport, parts, found) {
+        Ok(Some(payload)) => {
+            found.say_bytes(payload.as_slice());
+            true
         }
-        None => Ok(false),
+        Ok(None) => false,
+        Err(fault) => {
+            found.fail(fault);
+            false
+        }
     }
 }
 
@@ -224,31 +264,30 @@ fn say_pieces<A: Agreement, H: HostKeys, G: GroupLookup, R: Rng>(
     parts: &mut Parts<A, H, G, R>,
     size: usize,
     bytes: &[u8],
-    found: &mut String,
-) -> Result<(), Fault> {
+    found: &mut Found,
+) {
     for piece in bytes.chunks(size.max(1)) {
         match take_input(transport, piece) {
             Ok(count) if count == piece.len() => {}
             taken => return say_taken(taken, found),
         }
-        say_all_lent(transport, parts, found)?;
+        say_all_lent(transport, parts, found);
         if transport.failed() {
-            return Ok(());
+            return;
         }
     }
-    say(found, "none")
+    found.say("none");
 }
 
 /// Appends the payloads that are lent until none is, or until the refusal.
 fn say_all_lent<A: Agreement, H: HostKeys, G: GroupLookup, R: Rng>(
     transport: &mut Transport<'_>,
     parts: &mut Parts<A, H, G, R>,
-    found: &mut String,
-) -> Result<(), Fault> {
+    found: &mut Found,
+) {
     for _ in 0..=transport.unfinished() {
-        if !say_lent(transport, parts, found)? {
-            return Ok(());
+        if !say_lent(transport, parts, found) {
+            return;
         }
     }
-    Ok(())
 }

@@ -5,7 +5,7 @@
 mod calls;
 
 use std::process::ExitCode;
-use vector_rows::{Answers, Fault, Row, check};
+use vector_rows::{Answers, Fault, Found, Row, check};
 
 /// Answers the rows, each by itself.
 #[derive(Drop)]
@@ -22,7 +22,7 @@ impl Answers for CallRows {
         Ok(false)
     }
 
-    fn answer(&mut self, kind: &str, row: &mut Row<'_>, found: &mut String) -> Result<bool, Fault> {
+    fn answer(&mut self, kind: &str, row: &mut Row<'_>, found: &mut Found) -> Result<bool, Fault> {
         calls::answer(kind, row, found)
     }
 }

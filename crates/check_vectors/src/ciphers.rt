@@ -4,26 +4,36 @@
 ghost use Rattle.std.specs.Prelude.{◌≡◌, ◌⊎◌, IsTrue, length};
 ghost use Rattle.ssh_aes.specs.Keys.{IsKeyLength};
 
+use crate::shared::say_other;
 use ssh_aes::{Aes, CbcWrapper, CtrWrapper, Gcm, PacketLengthProbe};
-use ssh_mac::mac::{self, Mac};
+use ssh_mac::mac::{self, Mac, MacKey};
 use ssh_mac::{DigestKind, HashValue, Hasher, hmac_of};
-use vector_rows::{Fault, Row, say, say_bytes, say_number, say_shown};
+use vector_rows::{Fault, Found, Row};
 
 /// Answers a row of one of these kinds. False where the kind is another.
-pub(crate) fn answer(kind: &str, row: &mut Row<'_>, found: &mut String) -> Result<bool, Fault> {
+pub(crate) fn answer(kind: &str, row: &mut Row<'_>, found: &mut Found) -> bool {
     match kind {
-        "aes" => aes(row, found)?,
-        "ctr" => counter_mode(row, found)?,
-        "cbc" => chaining_mode(row, found)?,
-        "gcm" => galois_counter_mode(row, found)?,
-        "digest" => digest(row, found)?,
-        "digest_of_many" => digest_of_many(row, found)?,
-        "hmac" => hmac(row, found)?,
-        "tag" => tag(row, found)?,
-        "hash_values" => hash_values(row, found)?,
-        _ => return Ok(false),
+        "aes" => aes(row, found),
+        "digest" => digest(row, found),
+        "digest_of_many" => digest_of_many(row, found),
+        "hmac" => hmac(row, found),
+        "tag" => tag(row, found),
+        "hash_values" => hash_values(row, found),
+        _ => return answer_in_modes(kind, row, found),
     }
-    Ok(true)
+    true
+}
+
+/// The same of the kinds that are of a mode.
+fn answer_in_modes(kind: &str, row: &mut Row<'_>, found: &mut Found) -> bool {
+    let outcome = match kind {
+        "ctr" => counter_mode(row, found),
+        "cbc" => chaining_mode(row, found),
+        "gcm" => galois_counter_mode(row, found),
+        _ => return false,
+    };
+    found.note(outcome);
+    true
 }
 
 fn is_key(key: &[u8]) -> bool
@@ -39,38 +49,24 @@ fn is_gcm_key(key: &[u8]) -> bool
 }
 
 /// `aes KEY BLOCK`: the encrypted block, and `back` with what it decrypts to where that is another.
-fn aes(row: &mut Row<'_>, found: &mut String) -> Result<(), Fault> {
-    let key = row.bytes()?;
-    let plain = row.array::<16>()?;
+fn aes(row: &mut Row<'_>, found: &mut Found) {
+    let key = row.bytes();
+    let plain = row.array::<16>();
     if !is_key(key.as_slice()) {
-        return Err(Fault::Malformed);
+        return row.reject();
     }
     let aes = Aes::new(key.as_slice());
     let mut block = plain;
     aes.encrypt_block(&mut block);
-    say_bytes(found, &block)?;
+    found.say_bytes(&block);
     aes.decrypt_block(&mut block);
-    say_other(found, "back", &block, &plain)
-}
-
-/// Appends a word and bytes where they aren't the wanted ones.
-pub(crate) fn say_other(
-    found: &mut String,
-    word: &str,
-    bytes: &[u8],
-    wanted: &[u8],
-) -> Result<(), Fault> {
-    if bytes == wanted {
-        return Ok(());
-    }
-    say(found, word)?;
-    say_bytes(found, bytes)
+    say_other(found, "back", &block, &plain);
 }
 
 /// `ctr KEY COUNTER CUT TEXT`: see `run`.
-fn counter_mode(row: &mut Row<'_>, found: &mut String) -> Result<(), Fault> {
-    let key = row.bytes()?;
-    let first = row.array::<16>()?;
+fn counter_mode(row: &mut Row<'_>, found: &mut Found) -> Result<(), Fault> {
+    let key = row.bytes();
+    let first = row.array::<16>();
     if !is_key(key.as_slice()) {
         return Err(Fault::Malformed);
     }
@@ -80,9 +76,9 @@ fn counter_mode(row: &mut Row<'_>, found: &mut String) -> Result<(), Fault> {
 }
 
 /// `cbc KEY BLOCK CUT TEXT`: see `run`.
-fn chaining_mode(row: &mut Row<'_>, found: &mut String) -> Result<(), Fault> {
-    let key = row.bytes()?;
-    let first = row.array::<16>()?;
+fn chaining_mode(row: &mut Row<'_>, found: &mut Found) -> Result<(), Fault> {
+    let key = row.bytes();
+    let first = row.array::<16>();
     if !is_key(key.as_slice()) {
         return Err(Fault::Malformed);
     }
@@ -97,76 +93,97 @@ fn run<C: PacketLengthProbe>(
     sealing: &mut C,
     opening: &mut C,
     row: &mut Row<'_>,
-    found: &mut String,
+    found: &mut Found,
 ) -> Result<(), Fault> {
-    let cut = row.count()?;
-    let text = row.bytes()?;
+    let cut = row.count();
+    let text = row.bytes();
     let mut bytes = Vec::from_slice(row.alloc(), text.as_slice())?;
     let cut = cut.min(bytes.len());
     let (front, rest) = bytes.as_mut_slice().split_at_mut(cut);
     sealing.encrypt_data(front);
     sealing.encrypt_data(rest);
-    say_bytes(found, bytes.as_slice())?;
+    found.say_bytes(bytes.as_slice());
     if let (Some(sealed), Some(plain)) = (bytes.get(..16), text.get(..16)) {
         let mut block = [0; 16];
         block.copy_from_slice(sealed);
         opening.decrypt_packet_length_block(&mut block);
-        say_other(found, "probe", &block, plain)?;
+        say_other(found, "probe", &block, plain);
     }
     opening.decrypt_data(bytes.as_mut_slice());
-    say_other(found, "back", bytes.as_slice(), text.as_slice())
+    say_other(found, "back", bytes.as_slice(), text.as_slice());
+    Ok(())
 }
 
-/// `gcm KEY NONCE AAD TEXT`: the encrypted text and the tag. `taken` where a changed tag is accepted, `changed`
-/// where the text isn't then as it came, `refused` where the tag isn't accepted, and `back` with what the text
-/// decrypts to where that is another.
-fn galois_counter_mode(row: &mut Row<'_>, found: &mut String) -> Result<(), Fault> {
-    let key = row.bytes()?;
-    let nonce = row.array::<12>()?;
-    let aad = row.bytes()?;
-    let text = row.bytes()?;
-    if !is_gcm_key(key.as_slice()) || aad.len() >= 1 << 24 || text.len() >= 1 << 24 {
+/// `gcm KEY NONCE AAD TEXT`: see `run_gcm`.
+fn galois_counter_mode(row: &mut Row<'_>, found: &mut Found) -> Result<(), Fault> {
+    let key = row.bytes();
+    let nonce = row.array::<12>();
+    let aad = row.bytes();
+    let text = row.bytes();
+    if !is_gcm_key(key.as_slice()) {
         return Err(Fault::Malformed);
     }
-    let gcm = Gcm::new(key.as_slice());
-    let mut bytes = Vec::from_slice(row.alloc(), text.as_slice())?;
-    let mut tag = [0; 16];
-    gcm.seal(&nonce, aad.as_slice(), bytes.as_mut_slice(), &mut tag);
-    let sealed = Vec::from_slice(row.alloc(), bytes.as_slice())?;
-    say_bytes(found, sealed.as_slice())?;
-    say_bytes(found, &tag)?;
-    tag[15] ^= 1;
-    if gcm.open(&nonce, aad.as_slice(), bytes.as_mut_slice(), &tag) {
-        say(found, "taken")?;
-    }
-    say_other(found, "changed", bytes.as_slice(), sealed.as_slice())?;
-    tag[15] ^= 1;
-    if !gcm.open(&nonce, aad.as_slice(), bytes.as_mut_slice(), &tag) {
-        say(found, "refused")?;
-    }
-    say_other(found, "back", bytes.as_slice(), text.as_slice())
+    run_gcm(
+        &Gcm::new(key.as_slice()),
+        &nonce,
+        aad.as_slice(),
+        text.as_slice(),
+        found,
+    )
 }
 
-fn digest_kind(row: &mut Row<'_>) -> Result<DigestKind, Fault> {
-    match row.word()? {
-        "sha1" => Ok(DigestKind::Sha1),
-        "sha256" => Ok(DigestKind::Sha256),
-        "sha384" => Ok(DigestKind::Sha384),
-        "sha512" => Ok(DigestKind::Sha512),
-        _ => Err(Fault::Malformed),
+/// The encrypted text and the tag. `taken` where a changed tag is accepted, `changed` where the text isn't then as it
+/// came, `refused` where the tag isn't accepted, and `back` with what the text decrypts to where that is another.
+fn run_gcm(
+    gcm: &Gcm,
+    nonce: &[u8; 12],
+    aad: &[u8],
+    text: &[u8],
+    found: &mut Found,
+) -> Result<(), Fault> {
+    if aad.len() >= 1 << 24 || text.len() >= 1 << 24 {
+        return Err(Fault::Malformed);
     }
+    let mut bytes = Vec::from_slice(found.alloc(), text)?;
+    let mut tag = [0; 16];
+    gcm.seal(nonce, aad, bytes.as_mut_slice(), &mut tag);
+    let sealed = Vec::from_slice(found.alloc(), bytes.as_slice())?;
+    found.say_bytes(sealed.as_slice());
+    found.say_bytes(&tag);
+    tag[15] ^= 1;
+    if gcm.open(nonce, aad, bytes.as_mut_slice(), &tag) {
+        found.say("taken");
+    }
+    say_other(found, "changed", bytes.as_slice(), sealed.as_slice());
+    tag[15] ^= 1;
+    if !gcm.open(nonce, aad, bytes.as_mut_slice(), &tag) {
+        found.say("refused");
+    }
+    say_other(found, "back", bytes.as_slice(), text);
+    Ok(())
+}
+
+fn digest_kind(row: &mut Row<'_>) -> DigestKind {
+    let kind = match row.word() {
+        "sha1" => Some(DigestKind::Sha1),
+        "sha256" => Some(DigestKind::Sha256),
+        "sha384" => Some(DigestKind::Sha384),
+        "sha512" => Some(DigestKind::Sha512),
+        _ => None,
+    };
+    row.expect(kind, DigestKind::Sha1)
 }
 
 /// `digest KIND TEXT`: the digest and its length, and `halves` with that of two pieces where it is another.
-fn digest(row: &mut Row<'_>, found: &mut String) -> Result<(), Fault> {
-    let kind = digest_kind(row)?;
-    let text = row.bytes()?;
+fn digest(row: &mut Row<'_>, found: &mut Found) {
+    let kind = digest_kind(row);
+    let text = row.bytes();
     let whole = digest_of_two(kind, text.as_slice(), &[]);
     let (front, rest) = text.as_slice().split_at(text.len() / 2);
     let halves = digest_of_two(kind, front, rest);
-    say_bytes(found, whole.as_bytes())?;
-    say_number(found, kind.digest_len() as u64)?;
-    say_other(found, "halves", halves.as_bytes(), whole.as_bytes())
+    found.say_bytes(whole.as_bytes());
+    found.say_number(kind.digest_len() as u64);
+    say_other(found, "halves", halves.as_bytes(), whole.as_bytes());
 }
 
 fn digest_of_two(kind: DigestKind, front: &[u8], rest: &[u8]) -> HashValue {
@@ -177,68 +194,76 @@ fn digest_of_two(kind: DigestKind, front: &[u8], rest: &[u8]) -> HashValue {
 }
 
 /// `digest_of_many KIND TEXT COUNT`: the digest of a text that stands there so many times.
-fn digest_of_many(row: &mut Row<'_>, found: &mut String) -> Result<(), Fault> {
-    let kind = digest_kind(row)?;
-    let text = row.bytes()?;
-    let count = row.count()?;
+fn digest_of_many(row: &mut Row<'_>, found: &mut Found) {
+    let kind = digest_kind(row);
+    let text = row.bytes();
+    let count = row.count();
     let mut hasher = Hasher::new(kind);
     for _ in 0..count {
         hasher.update(text.as_slice());
     }
-    say_bytes(found, hasher.finalize().as_bytes())
+    found.say_bytes(hasher.finalize().as_bytes());
 }
 
 /// `hmac KIND KEY TEXT`: the HMAC, and `halves` with that of two pieces where it is another.
-fn hmac(row: &mut Row<'_>, found: &mut String) -> Result<(), Fault> {
-    let kind = digest_kind(row)?;
-    let key = row.bytes()?;
-    let text = row.bytes()?;
+fn hmac(row: &mut Row<'_>, found: &mut Found) {
+    let kind = digest_kind(row);
+    let key = row.bytes();
+    let text = row.bytes();
     let (front, rest) = text.as_slice().split_at(text.len() / 2);
     let whole = hmac_of(kind, key.as_slice(), text.as_slice(), &[]);
     let halves = hmac_of(kind, key.as_slice(), front, rest);
-    say_bytes(found, whole.as_bytes())?;
-    say_other(found, "halves", halves.as_bytes(), whole.as_bytes())
+    found.say_bytes(whole.as_bytes());
+    say_other(found, "halves", halves.as_bytes(), whole.as_bytes());
 }
 
-/// `tag NAME KEY NUMBER TEXT`: whether a MAC is over the encrypted packet, its tag, and whether it accepts that,
-/// that for another number, that for another text, half of it, and none.
-fn tag(row: &mut Row<'_>, found: &mut String) -> Result<(), Fault> {
-    let Some(name) = mac::Name::from_str(row.word()?) else {
-        return Err(Fault::Malformed);
-    };
-    let key = row.bytes()?;
-    let number = row.number32()?;
-    let text = row.bytes()?;
+/// `tag NAME KEY NUMBER TEXT`: see `say_tag`.
+fn tag(row: &mut Row<'_>, found: &mut Found) {
+    let name = row.word();
+    let name = row.expect(mac::Name::from_str(name), mac::NONE);
+    let key = row.bytes();
+    let number = row.number32();
+    let text = row.bytes();
     if key.len() != name.key_len() {
-        return Err(Fault::Malformed);
+        return row.reject();
     }
-    let mac = name.make_mac(key.as_slice());
+    say_tag(
+        &name.make_mac(key.as_slice()),
+        number,
+        text.as_slice(),
+        found,
+    );
+}
+
+/// Whether a MAC is over the encrypted packet, its tag, and whether it accepts that, that for another number, that for
+/// another text, half of it, and none.
+fn say_tag(mac: &MacKey, number: u32, text: &[u8], found: &mut Found) {
     let mut room = [0; 64];
     let tag = &mut room[..mac.mac_len()];
-    mac.compute(number, text.as_slice(), tag);
+    mac.compute(number, text, tag);
     let (half, _) = tag.split_at(tag.len() / 2);
-    say_shown(found, &mac.is_etm())?;
-    say_bytes(found, tag)?;
+    found.say_shown(&mac.is_etm());
+    found.say_bytes(tag);
     let taken = [
-        mac.verify(number, text.as_slice(), tag),
-        mac.verify(number ^ 1, text.as_slice(), tag),
+        mac.verify(number, text, tag),
+        mac.verify(number ^ 1, text, tag),
         mac.verify(number, text.get(1..).unwrap_or(b"x"), tag),
-        mac.verify(number, text.as_slice(), half),
-        mac.verify(number, text.as_slice(), b""),
+        mac.verify(number, text, half),
+        mac.verify(number, text, b""),
     ];
-    say_shown(found, &taken)
+    found.say_shown(&taken);
 }
 
 /// `hash_values BYTES BYTES`: the bytes of both as hash values, and whether these are equal.
-fn hash_values(row: &mut Row<'_>, found: &mut String) -> Result<(), Fault> {
-    let (first, second) = (row.bytes()?, row.bytes()?);
+fn hash_values(row: &mut Row<'_>, found: &mut Found) {
+    let (first, second) = (row.bytes(), row.bytes());
     if first.len() > 64 || second.len() > 64 {
-        return Err(Fault::Malformed);
+        return row.reject();
     }
     let first = HashValue::of(first.as_slice());
     let second = HashValue::of(second.as_slice());
-    say_bytes(found, first.as_bytes())?;
-    say_bytes(found, second.as_bytes())?;
-    say_shown(found, &(first == second))?;
-    say_shown(found, &(first == HashValue::empty()))
+    found.say_bytes(first.as_bytes());
+    found.say_bytes(second.as_bytes());
+    found.say_shown(&(first == second));
+    found.say_shown(&(first == HashValue::empty()));
 }

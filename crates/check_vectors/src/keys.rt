@@ -5,8 +5,8 @@ ghost use Rattle.ssh_mac.specs.Names.{mac_key_length};
 ghost use Rattle.ssh_packet.specs.Names.{cipher_key_length, nonce_length};
 
 use ssh_mac::mac;
-use ssh_packet::{CipherPair, OpenKey, SealKey, cipher};
-use vector_rows::{Fault, Row};
+use ssh_packet::{CipherPair, OpenKey, SealKey, cipher, clear};
+use vector_rows::Row;
 
 /// Two names, and a key for each.
 #[derive(Drop)]
@@ -20,57 +20,56 @@ pub(crate) struct Material {
 
 impl Material {
     /// The next words as CIPHER MAC KEY NONCE MACKEY.
-    pub(crate) fn of(row: &mut Row<'_>) -> Result<Material, Fault> {
-        let cipher = cipher::Name::from_str(row.word()?);
-        let mac = mac::Name::from_str(row.word()?);
-        let (Some(cipher), Some(mac)) = (cipher, mac) else {
-            return Err(Fault::Malformed);
+    pub(crate) fn of(row: &mut Row<'_>) -> Material {
+        let (cipher, mac) = (row.word(), row.word());
+        let material = Material {
+            cipher: row.expect(cipher::Name::from_str(cipher), cipher::NONE),
+            mac: row.expect(mac::Name::from_str(mac), mac::NONE),
+            key: row.bytes(),
+            nonce: row.bytes(),
+            mac_key: row.bytes(),
         };
-        Ok(Material {
-            cipher,
-            mac,
-            key: row.bytes()?,
-            nonce: row.bytes()?,
-            mac_key: row.bytes()?,
-        })
-    }
-
-    /// Keys to seal and to open with. Malformed where a key hasn't the length of its name.
-    pub(crate) fn pair(&self) -> Result<CipherPair, Fault> {
-        Ok(CipherPair {
-            local_to_remote: self.sealing()?,
-            remote_to_local: self.opening()?,
-        })
-    }
-
-    /// A key to seal with, as `pair`.
-    pub(crate) fn sealing(&self) -> Result<SealKey, Fault> {
-        if !self.has_lengths() {
-            return Err(Fault::Malformed);
+        if !material.has_lengths() {
+            row.reject();
         }
-        Ok(
+        material
+    }
+
+    /// Keys to seal and to open with.
+    pub(crate) fn pair(&self) -> CipherPair {
+        CipherPair {
+            local_to_remote: self.sealing(),
+            remote_to_local: self.opening(),
+        }
+    }
+
+    /// A key to seal with. Where a key hasn't the length of its name, and the row is malformed, one that leaves all in
+    /// clear.
+    pub(crate) fn sealing(&self) -> SealKey {
+        if self.has_lengths() {
             self.cipher.make_sealing_key(
                 self.key.as_slice(),
                 self.nonce.as_slice(),
                 self.mac_key.as_slice(),
                 self.mac,
-            ),
-        )
+            )
+        } else {
+            SealKey::Clear(clear::Key)
+        }
     }
 
-    /// A key to open with, as `pair`.
-    pub(crate) fn opening(&self) -> Result<OpenKey, Fault> {
-        if !self.has_lengths() {
-            return Err(Fault::Malformed);
-        }
-        Ok(
+    /// A key to open with, as `sealing`.
+    pub(crate) fn opening(&self) -> OpenKey {
+        if self.has_lengths() {
             self.cipher.make_opening_key(
                 self.key.as_slice(),
                 self.nonce.as_slice(),
                 self.mac_key.as_slice(),
                 self.mac,
-            ),
-        )
+            )
+        } else {
+            OpenKey::Clear(clear::Key)
+        }
     }
 
     /// Whether each key has the length of its name.

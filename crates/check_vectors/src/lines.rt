@@ -2,8 +2,9 @@
 
 ghost use Rattle.std.specs.Prelude.{List, ℕ, Option, Some};
 
+use crate::shared::{is_first_of, say_otherwise};
 use ssh_wire::{Failed, IdProgress, ReadSshIdBuffer, Source, SshRead};
-use vector_rows::{Fault, Row, say, say_bytes, say_number, say_shown};
+use vector_rows::{Found, Row};
 
 /// Bytes that are handed out a few at a time. The first call fails where it is to.
 #[derive(Debug, Drop)]
@@ -34,139 +35,122 @@ impl Source for Bytes<'_> {
 }
 
 /// Answers a row of one of these kinds. False where the kind is another.
-pub(crate) fn answer(kind: &str, row: &mut Row<'_>, found: &mut String) -> Result<bool, Fault> {
+pub(crate) fn answer(kind: &str, row: &mut Row<'_>, found: &mut Found) -> bool {
     match kind {
-        "line" => line(row, found)?,
-        "pieces" => pieces(row, found)?,
-        "source" => source(row, found)?,
-        "broken" => broken(row, found)?,
-        _ => return Ok(false),
+        "line" => line(row, found),
+        "pieces" => pieces(row, found),
+        "source" => source(row, found),
+        "broken" => broken(row, found),
+        _ => return false,
     }
-    Ok(true)
+    true
 }
 
 /// Whether other lines may come before an id line, by a word: `others` or `alone`.
-fn allows_others(row: &mut Row<'_>) -> Result<bool, Fault> {
-    match row.word()? {
-        "others" => Ok(true),
-        "alone" => Ok(false),
-        _ => Err(Fault::Malformed),
-    }
+fn allows_others(row: &mut Row<'_>) -> bool {
+    is_first_of(row, "others", "alone")
 }
 
-/// `line WHETHER BYTES`: what becomes of the bytes, and the id. Whole and byte by byte, and `cut` with the
-/// second answer where it is another.
-fn line(row: &mut Row<'_>, found: &mut String) -> Result<(), Fault> {
-    let allows = allows_others(row)?;
-    let bytes = row.bytes()?;
-    let mut cut = String::new(row.alloc());
-    hear(bytes.as_slice(), bytes.len(), allows, found)?;
-    hear(bytes.as_slice(), 1, allows, &mut cut)?;
-    if cut.as_str() != found.as_str() {
-        say(found, "cut")?;
-        say(found, cut.as_str())?;
-    }
-    Ok(())
+/// `line WHETHER BYTES`: what becomes of the bytes, and the id, as `hear`.
+fn line(row: &mut Row<'_>, found: &mut Found) {
+    let allows = allows_others(row);
+    let bytes = row.bytes();
+    hear(bytes.as_slice(), allows, found);
+}
+
+/// What becomes of bytes whole and byte by byte, as `hear_cut`: `cut` with the second answer where it is another.
+pub(crate) fn hear(bytes: &[u8], allows: bool, found: &mut Found) {
+    let mut cut = Found::new(found.alloc());
+    hear_cut(bytes, bytes.len(), allows, found);
+    hear_cut(bytes, 1, allows, &mut cut);
+    say_otherwise(found, "cut", &cut);
 }
 
 /// What becomes of bytes in pieces of a size: how many bytes an id line takes and its text, `more`, or the
 /// refusal.
-pub(crate) fn hear(
-    bytes: &[u8],
-    size: usize,
-    allows: bool,
-    found: &mut String,
-) -> Result<(), Fault> {
+fn hear_cut(bytes: &[u8], size: usize, allows: bool, found: &mut Found) {
     let mut reader = ReadSshIdBuffer::new();
     let mut fed = 0usize;
     for piece in bytes.chunks(size.max(1)) {
         match reader.feed(piece, allows) {
             Ok(IdProgress::NotYet) => fed = fed.saturating_add(piece.len()),
             Ok(IdProgress::Id { used }) => {
-                say_number(found, fed.saturating_add(used) as u64)?;
-                return say_bytes(found, reader.id());
+                found.say_number(fed.saturating_add(used) as u64);
+                return found.say_bytes(reader.id());
             }
-            Err(error) => return say_shown(found, &error),
+            Err(error) => return found.say_shown(&error),
         }
     }
-    say(found, "more")
+    found.say("more");
 }
 
 /// `pieces WHETHER BYTES ..`: what becomes of each piece, then the answer at the end, how many bytes wait, and
 /// the id.
-fn pieces(row: &mut Row<'_>, found: &mut String) -> Result<(), Fault> {
+fn pieces(row: &mut Row<'_>, found: &mut Found) {
     let mut reader = ReadSshIdBuffer::new();
     for _ in 0..row.left() / 2 {
-        let allows = allows_others(row)?;
-        let bytes = row.bytes()?;
-        match reader.feed(bytes.as_slice(), allows) {
-            Ok(IdProgress::NotYet) => say(found, "more")?,
-            Ok(IdProgress::Id { used }) => say_number(found, used as u64)?,
-            Err(error) => say_shown(found, &error)?,
-        }
+        piece(&mut reader, row, found);
     }
     match reader.finish() {
-        Ok(()) => say(found, "finished")?,
-        Err(error) => say_shown(found, &error)?,
+        Ok(()) => found.say("finished"),
+        Err(error) => found.say_shown(&error),
     }
-    say_number(found, reader.waiting() as u64)?;
-    say_bytes(found, reader.id())
+    found.say_number(reader.waiting() as u64);
+    found.say_bytes(reader.id());
+}
+
+fn piece(reader: &mut ReadSshIdBuffer, row: &mut Row<'_>, found: &mut Found) {
+    let allows = allows_others(row);
+    let bytes = row.bytes();
+    match reader.feed(bytes.as_slice(), allows) {
+        Ok(IdProgress::NotYet) => found.say("more"),
+        Ok(IdProgress::Id { used }) => found.say_number(used as u64),
+        Err(error) => found.say_shown(&error),
+    }
 }
 
 /// `source PEER STEP BYTES`: the id of a `server` or a `client` from a source that hands out so many bytes a
 /// call, asked for twice, and what was read behind its line.
-fn source(row: &mut Row<'_>, found: &mut String) -> Result<(), Fault> {
-    let is_server = match row.word()? {
-        "server" => true,
-        "client" => false,
-        _ => return Err(Fault::Malformed),
-    };
-    let step = row.count()?;
-    let bytes = row.bytes()?;
+fn source(row: &mut Row<'_>, found: &mut Found) {
+    let is_server = is_first_of(row, "server", "client");
+    let step = row.count();
+    let bytes = row.bytes();
     let mut reader = SshRead::new(Bytes {
         bytes: bytes.as_slice(),
         step,
         is_broken: false,
         faults: 0,
     });
-    let mut again = String::new(row.alloc());
-    read_id(&mut reader, is_server, found)?;
-    read_id(&mut reader, is_server, &mut again)?;
-    if again.as_str() != found.as_str() {
-        say(found, "again")?;
-        say(found, again.as_str())?;
-    }
-    Ok(())
+    let mut again = Found::new(row.alloc());
+    read_id(&mut reader, is_server, found);
+    read_id(&mut reader, is_server, &mut again);
+    say_otherwise(found, "again", &again);
 }
 
-fn read_id(
-    reader: &mut SshRead<Bytes<'_>>,
-    is_server: bool,
-    found: &mut String,
-) -> Result<(), Fault> {
+fn read_id(reader: &mut SshRead<Bytes<'_>>, is_server: bool, found: &mut Found) {
     let answer = if is_server {
         reader.read_ssh_id()
     } else {
         reader.read_client_ssh_id()
     };
     match answer {
-        Ok(id) => say_bytes(found, id),
-        Err(error) => say_shown(found, &error),
+        Ok(id) => found.say_bytes(id),
+        Err(error) => found.say_shown(&error),
     }
 }
 
 /// `broken BYTES`: what a source answers whose first call fails, how many faults it counted, the id that comes
 /// after, and what was read behind its line.
-fn broken(row: &mut Row<'_>, found: &mut String) -> Result<(), Fault> {
-    let bytes = row.bytes()?;
+fn broken(row: &mut Row<'_>, found: &mut Found) {
+    let bytes = row.bytes();
     let mut reader = SshRead::new(Bytes {
         bytes: bytes.as_slice(),
         step: 4096,
         is_broken: true,
         faults: 0,
     });
-    read_id(&mut reader, true, found)?;
-    say_number(found, reader.r.faults)?;
-    read_id(&mut reader, true, found)?;
-    say_bytes(found, reader.rest())
+    read_id(&mut reader, true, found);
+    found.say_number(reader.r.faults);
+    read_id(&mut reader, true, found);
+    found.say_bytes(reader.rest());
 }

@@ -9,12 +9,13 @@ mod lines;
 mod negotiation;
 mod packets;
 mod recorded;
+mod shared;
 mod tables;
 mod windows;
 
 use crate::recorded::Connection;
 use std::process::ExitCode;
-use vector_rows::{Answers, Fault, Row, check};
+use vector_rows::{Answers, Fault, Found, Row, check};
 
 /// Answers the rows of all kinds.
 #[derive(Drop)]
@@ -33,16 +34,16 @@ impl Answers for Below {
         Ok(matches!(kind, "agreed" | "carried" | "polled" | "damaged"))
     }
 
-    fn answer(&mut self, kind: &str, row: &mut Row<'_>, found: &mut String) -> Result<bool, Fault> {
+    fn answer(&mut self, kind: &str, row: &mut Row<'_>, found: &mut Found) -> Result<bool, Fault> {
         Ok(
-            forms::answer(kind, row, found)?
-                || lines::answer(kind, row, found)?
-                || tables::answer(kind, row, found)?
-                || ciphers::answer(kind, row, found)?
-                || packets::answer(kind, row, found)?
-                || windows::answer(kind, row, found)?
-                || negotiation::answer(kind, row, found)?
-                || recorded::answer(kind, &mut self.connection, row, found)?,
+            forms::answer(kind, row, found)
+                || lines::answer(kind, row, found)
+                || tables::answer(kind, row, found)
+                || ciphers::answer(kind, row, found)
+                || packets::answer(kind, row, found)
+                || windows::answer(kind, row, found)
+                || negotiation::answer(kind, row, found)
+                || recorded::answer(kind, &mut self.connection, row, found),
         )
     }
 }

@@ -1,12 +1,12 @@
 //! Rows of recorded connections. Each direction is opened whole and byte by byte, and sealed again.
 
-use crate::ciphers::say_other;
 use crate::keys::Material;
 use crate::lines::hear;
+use crate::shared::{is_first_of, say_other};
 use ssh_packet::{OpenKey, PacketReader, PacketWriter, clear};
-use ssh_wire::{IdProgress, ReadSshIdBuffer};
-use std::alloc::Global;
-use vector_rows::{Fault, Row, Words, say, say_bytes, say_number, say_shown, words_of};
+use ssh_wire::{Error, IdProgress, ReadSshIdBuffer};
+use std::alloc::{AllocError, Global};
+use vector_rows::{Fault, Found, Row, Words, words_of};
 
 /// A direction of a connection.
 #[derive(Drop)]
@@ -59,53 +59,53 @@ pub(crate) fn answer(
     kind: &str,
     connection: &mut Connection,
     row: &mut Row<'_>,
-    found: &mut String,
-) -> Result<bool, Fault> {
-    if kind == "connection" {
-        begin(connection, row, found)?;
-        return Ok(true);
-    }
-    if kind != "wire" && kind != "keys" && kind != "packet" && kind != "padded" && kind != "left" {
-        return Ok(false);
-    }
-    let is_strict = connection.is_strict;
-    let direction = match row.word()? {
-        "c2s" => &mut connection.client_to_server,
-        "s2c" => &mut connection.server_to_client,
-        _ => return Err(Fault::Malformed),
-    };
+    found: &mut Found,
+) -> bool {
     match kind {
-        "wire" => wire(direction, row, found)?,
-        "keys" => keys(direction, is_strict, row, found)?,
-        "packet" => packet(direction, true, row, found)?,
-        "padded" => packet(direction, false, row, found)?,
-        _ => left(direction, found)?,
+        "connection" => begin(connection, row, found),
+        "wire" | "keys" | "packet" | "padded" | "left" => {
+            answer_of_direction(kind, connection, row, found);
+        }
+        _ => return false,
     }
-    Ok(true)
+    true
+}
+
+/// The same of the kinds that are of a direction: its name is the first word, `c2s` or `s2c`.
+fn answer_of_direction(
+    kind: &str,
+    connection: &mut Connection,
+    row: &mut Row<'_>,
+    found: &mut Found,
+) {
+    let is_strict = connection.is_strict;
+    let direction = if is_first_of(row, "c2s", "s2c") {
+        &mut connection.client_to_server
+    } else {
+        &mut connection.server_to_client
+    };
+    let outcome = match kind {
+        "wire" => wire(direction, row, found),
+        "packet" => packet(direction, true, row, found),
+        "padded" => packet(direction, false, row, found),
+        "keys" => return keys(direction, is_strict, row, found),
+        _ => return left(direction, found),
+    };
+    found.note(outcome);
 }
 
 /// `connection ORDER`: what follows is of another connection, with `strict` key exchange or a `plain` one.
-fn begin(connection: &mut Connection, row: &mut Row<'_>, found: &mut String) -> Result<(), Fault> {
+fn begin(connection: &mut Connection, row: &mut Row<'_>, found: &mut Found) {
     *connection = Connection::new(row.alloc());
-    connection.is_strict = match row.word()? {
-        "strict" => true,
-        "plain" => false,
-        _ => return Err(Fault::Malformed),
-    };
-    say(found, "begun")
+    connection.is_strict = is_first_of(row, "strict", "plain");
+    found.say("begun");
 }
 
 /// `wire DIRECTION BYTES`: all bytes of a direction. How many the version line has, and its text; `cut` with the same
 /// byte by byte where that is another.
-fn wire(direction: &mut Direction, row: &mut Row<'_>, found: &mut String) -> Result<(), Fault> {
-    let bytes = row.bytes()?;
-    let mut cut = String::new(row.alloc());
-    hear(bytes.as_slice(), bytes.len(), true, found)?;
-    hear(bytes.as_slice(), 1, true, &mut cut)?;
-    if cut.as_str() != found.as_str() {
-        say(found, "cut")?;
-        say(found, cut.as_str())?;
-    }
+fn wire(direction: &mut Direction, row: &mut Row<'_>, found: &mut Found) -> Result<(), Fault> {
+    let bytes = row.bytes();
+    hear(bytes.as_slice(), true, found);
     if let Ok(IdProgress::Id { used }) = ReadSshIdBuffer::new().feed(bytes.as_slice(), true) {
         direction.whole.push(bytes.get(used..).unwrap_or(b""))?;
         direction.place = used;
@@ -115,16 +115,11 @@ fn wire(direction: &mut Direction, row: &mut Row<'_>, found: &mut String) -> Res
 }
 
 /// `keys DIRECTION CIPHER MAC KEY NONCE MACKEY`: the keys of what follows.
-fn keys(
-    direction: &mut Direction,
-    is_strict: bool,
-    row: &mut Row<'_>,
-    found: &mut String,
-) -> Result<(), Fault> {
-    let material = Material::of(row)?;
-    direction.whole_key = material.opening()?;
-    direction.cut_key = material.opening()?;
-    direction.writer.set_cipher(material.sealing()?);
+fn keys(direction: &mut Direction, is_strict: bool, row: &mut Row<'_>, found: &mut Found) {
+    let material = Material::of(row);
+    direction.whole_key = material.opening();
+    direction.cut_key = material.opening();
+    direction.writer.set_cipher(material.sealing());
     direction.whole.reset_bytes();
     direction.cut.reset_bytes();
     if is_strict {
@@ -132,7 +127,7 @@ fn keys(
         direction.cut.reset_seqn();
         direction.writer.reset_seqn();
     }
-    say(found, "set")
+    found.say("set");
 }
 
 /// `packet DIRECTION PADDING`: the next packet's number plus one and its payload, or why there is none. `cut` where
@@ -143,31 +138,17 @@ fn packet(
     direction: &mut Direction,
     is_sealed_again: bool,
     row: &mut Row<'_>,
-    found: &mut String,
+    found: &mut Found,
 ) -> Result<(), Fault> {
-    let padding = row.bytes()?;
-    let words = words_of(row.alloc(), padding.as_slice())?;
+    let words = words_of(row.alloc(), row.bytes().as_slice())?;
     let waiting = direction.whole.waiting();
-    let mut payload = Vec::new(row.alloc());
-    match direction.whole.next(&mut direction.whole_key) {
-        Ok(Some(incoming)) => {
-            say_number(found, u64::from(incoming.seqn))?;
-            say_bytes(found, incoming.payload)?;
-            payload.extend_from_slice(incoming.payload)?;
-        }
-        Ok(None) => return say(found, "more"),
-        Err(error) => return say_shown(found, &error),
-    }
-    let end = direction
-        .place
-        .saturating_add(waiting.saturating_sub(direction.whole.waiting()));
-    let sealed = Vec::from_slice(
-        row.alloc(),
-        direction.wire.get(direction.place..end).unwrap_or(b""),
-    )?;
-    direction.place = end;
+    let Some(payload) = next_payload(direction, found)? else {
+        return Ok(());
+    };
+    let opened = waiting.saturating_sub(direction.whole.waiting());
+    let sealed = next_on_wire(direction, opened, row.alloc())?;
     if !is_found_cut(direction, sealed.as_slice(), payload.as_slice())? {
-        say(found, "cut")?;
+        found.say("cut");
     }
     seal_again(direction, words.as_slice(), payload.as_slice())?;
     if is_sealed_again {
@@ -176,9 +157,36 @@ fn packet(
             "sealed",
             direction.writer.output(),
             sealed.as_slice(),
-        )?;
+        );
     }
-    say_counts(direction, found)
+    say_counts(direction, found);
+    Ok(())
+}
+
+/// The next packet's payload. Appends its number plus one and its payload, or why there is none.
+fn next_payload(direction: &mut Direction, found: &mut Found) -> Result<Option<Vec<u8>>, Fault> {
+    match direction.whole.next(&mut direction.whole_key) {
+        Ok(Some(incoming)) => {
+            found.say_number(u64::from(incoming.seqn));
+            found.say_bytes(incoming.payload);
+            return Ok(Some(Vec::from_slice(found.alloc(), incoming.payload)?));
+        }
+        Ok(None) => found.say("more"),
+        Err(error) => found.say_shown(&error),
+    }
+    Ok(None)
+}
+
+/// The next so many bytes of the wire, which are opened.
+fn next_on_wire(
+    direction: &mut Direction,
+    opened: usize,
+    alloc: Global,
+) -> Result<Vec<u8>, AllocError> {
+    let place = direction.place;
+    direction.place = place.saturating_add(opened);
+    let bytes = direction.wire.get(place..direction.place).unwrap_or(b"");
+    Vec::from_slice(alloc, bytes)
 }
 
 /// Whether the payload comes behind the last byte of its packet, and none before.
@@ -197,23 +205,20 @@ fn is_found_cut(direction: &mut Direction, sealed: &[u8], payload: &[u8]) -> Res
 }
 
 /// Seals a payload in place of what was sealed before.
-fn seal_again(direction: &mut Direction, words: &[u32], payload: &[u8]) -> Result<(), Fault> {
+fn seal_again(direction: &mut Direction, words: &[u32], payload: &[u8]) -> Result<(), Error> {
     let sent = direction.writer.output().len();
     direction.writer.consume_output(sent);
-    direction.writer.packet_raw(&mut Words::of(words), payload)?;
-    Ok(())
+    direction.writer.packet_raw(&mut Words::of(words), payload)
 }
 
-fn say_counts(direction: &Direction, found: &mut String) -> Result<(), Fault> {
+fn say_counts(direction: &Direction, found: &mut Found) {
     let sent = direction.writer.bytes_written();
-    if direction.whole.bytes() == sent && direction.cut.bytes() == sent {
-        Ok(())
-    } else {
-        say(found, "counts")
+    if direction.whole.bytes() != sent || direction.cut.bytes() != sent {
+        found.say("counts");
     }
 }
 
 /// `left DIRECTION`: how many bytes wait behind the last packet.
-fn left(direction: &Direction, found: &mut String) -> Result<(), Fault> {
-    say_number(found, direction.whole.waiting() as u64)
+fn left(direction: &Direction, found: &mut Found) {
+    found.say_number(direction.whole.waiting() as u64);
 }

@@ -1,7 +1,6 @@
 //! Rows of small tables: message orders, reasons, signals, failures, algorithms, limits and texts of errors.
 
-use crate::ciphers::say_other;
-use crate::forms::byte;
+use crate::shared::{byte, is_first_of, say_other, say_text};
 use ssh_packet::OpenError;
 use ssh_wire::{
     Algorithm, AlgorithmKind, Blob, ChannelOpenFailure, ChannelOpenHandleInner, ConfigFault,
@@ -9,172 +8,195 @@ use ssh_wire::{
     SendError, Sig, is_kex_msg, validate_client_msg_strict_kex, validate_server_msg_strict_kex,
 };
 use std::alloc::Global;
-use vector_rows::{Fault, Row, say, say_bytes, say_number, say_shown};
+use std::fmt;
+use vector_rows::{Fault, Found, Row};
 
 /// Answers a row of one of these kinds. False where the kind is another.
-pub(crate) fn answer(kind: &str, row: &mut Row<'_>, found: &mut String) -> Result<bool, Fault> {
+pub(crate) fn answer(kind: &str, row: &mut Row<'_>, found: &mut Found) -> bool {
     match kind {
-        "kex_message" => say_shown(found, &is_kex_msg(byte(row)?))?,
-        "strict" => strict(row, found)?,
-        "limits" => limits(row, found)?,
-        "reason" => reason(row, found)?,
-        "signal" => signal(row, found)?,
-        "failure" => failure(row, found)?,
-        "handle" => handle(row, found)?,
-        "algorithm" => algorithm(row, found)?,
-        "certificate" => {
-            say_algorithm(found, Algorithm::new_certificate_ext(row.text()?))?;
-        }
-        "hashed_by" => hashed_by(row, found)?,
-        "blob" => blob(row, found)?,
-        "error" => error(row, found)?,
-        "open_error" => open_error(row, found)?,
-        "id_error" => id_error(row, found)?,
-        _ => return Ok(false),
+        "kex_message" => found.say_shown(&is_kex_msg(byte(row))),
+        "strict" => strict(row, found),
+        "limits" => limits(row, found),
+        "reason" => reason(row, found),
+        "handle" => handle(row, found),
+        "algorithm" => say_algorithm(found, Algorithm::from_str(row.text())),
+        "certificate" => say_algorithm(found, Algorithm::new_certificate_ext(row.text())),
+        "hashed_by" => hashed_by(row, found),
+        "error" => error(row, found),
+        _ => return answer_copied(kind, row, found),
     }
-    Ok(true)
+    true
+}
+
+/// The same of the kinds whose values are copied or joined.
+fn answer_copied(kind: &str, row: &mut Row<'_>, found: &mut Found) -> bool {
+    let outcome = match kind {
+        "signal" => signal(row, found),
+        "failure" => failure(row, found),
+        "blob" => blob(row, found),
+        "open_error" => open_error(row, found),
+        "id_error" => id_error(row, found),
+        _ => return false,
+    };
+    found.note(outcome);
+    true
 }
 
 /// `strict SENDER MESSAGE PLACE`: whether a message may stand at a place of the strict key exchange.
-fn strict(row: &mut Row<'_>, found: &mut String) -> Result<(), Fault> {
-    let sender = row.word()?;
-    let message = byte(row)?;
-    let place = row.count()?;
-    let answer = match sender {
-        "client" => validate_client_msg_strict_kex(message, place),
-        "server" => validate_server_msg_strict_kex(message, place),
-        _ => return Err(Fault::Malformed),
+fn strict(row: &mut Row<'_>, found: &mut Found) {
+    let is_client = is_first_of(row, "client", "server");
+    let message = byte(row);
+    let place = row.count();
+    let answer = if is_client {
+        validate_client_msg_strict_kex(message, place)
+    } else {
+        validate_server_msg_strict_kex(message, place)
     };
     match answer {
-        Ok(()) => say(found, "ok"),
-        Err(error) => say_shown(found, &error),
+        Ok(()) => found.say("ok"),
+        Err(error) => found.say_shown(&error),
     }
 }
 
 /// `limits` and `limits WRITE READ TIME`: limits that hold without a configuration, or these.
-fn limits(row: &mut Row<'_>, found: &mut String) -> Result<(), Fault> {
-    let limits = if row.left() == 0 {
-        Limits::default()
-    } else {
-        let (write, read, time) = (row.count()?, row.count()?, row.number()?);
-        if write == 0 || read == 0 || write > 1 << 30 || read > 1 << 30 {
-            return Err(Fault::Malformed);
-        }
-        Limits::new(write, read, time)
-    };
-    say_number(found, limits.rekey_write_limit as u64)?;
-    say_number(found, limits.rekey_read_limit as u64)?;
-    say_number(found, limits.rekey_time_limit)
+fn limits(row: &mut Row<'_>, found: &mut Found) {
+    if row.left() == 0 {
+        return say_limits(found, &Limits::default());
+    }
+    let (write, read, time) = (row.count(), row.count(), row.number());
+    if write == 0 || read == 0 || write > 1 << 30 || read > 1 << 30 {
+        return row.reject();
+    }
+    say_limits(found, &Limits::new(write, read, time));
+}
+
+fn say_limits(found: &mut Found, limits: &Limits) {
+    found.say_number(limits.rekey_write_limit as u64);
+    found.say_number(limits.rekey_read_limit as u64);
+    found.say_number(limits.rekey_time_limit);
 }
 
 /// `reason CODE`: the reason of a disconnection, and its code.
-fn reason(row: &mut Row<'_>, found: &mut String) -> Result<(), Fault> {
-    match Disconnect::try_from(row.number32()?) {
+fn reason(row: &mut Row<'_>, found: &mut Found) {
+    match Disconnect::try_from(row.number32()) {
         Ok(reason) => {
-            say_shown(found, &reason)?;
-            say_number(found, u64::from(reason.code()))
+            found.say_shown(&reason);
+            found.say_number(u64::from(reason.code()));
         }
-        Err(error) => say_shown(found, &error),
+        Err(error) => found.say_shown(&error),
     }
 }
 
 /// `signal NAME`: a signal as `Debug` shows it, its name, and that of its copy.
-fn signal(row: &mut Row<'_>, found: &mut String) -> Result<(), Fault> {
-    let signal = Sig::from_name(row.alloc(), row.text()?)?;
-    say_shown(found, &signal)?;
-    say(found, signal.name())?;
-    say(found, signal.try_clone(row.alloc())?.name())
+fn signal(row: &mut Row<'_>, found: &mut Found) -> Result<(), Fault> {
+    let signal = Sig::from_name(row.alloc(), row.text())?;
+    found.say_shown(&signal);
+    found.say(signal.name());
+    found.say(signal.try_clone(row.alloc())?.name());
+    Ok(())
 }
 
 /// `failure CODE`: the code again, whether a copy is equal, and the text.
-fn failure(row: &mut Row<'_>, found: &mut String) -> Result<(), Fault> {
-    let failure = ChannelOpenFailure::from_u32(row.alloc(), row.number32()?)?;
-    say_number(found, u64::from(failure.code()))?;
+fn failure(row: &mut Row<'_>, found: &mut Found) -> Result<(), Fault> {
+    let failure = ChannelOpenFailure::from_u32(row.alloc(), row.number32())?;
+    found.say_number(u64::from(failure.code()));
     let copy = failure.try_clone(row.alloc())?;
-    say_shown(found, &(copy == failure))?;
-    say(found, failure.description())
+    found.say_shown(&(copy == failure));
+    found.say(failure.description());
+    Ok(())
 }
 
 /// `handle NUMBER HOW`: what a channel that is opened or refused keeps, and the answer.
-fn handle(row: &mut Row<'_>, found: &mut String) -> Result<(), Fault> {
-    let number = row.number()?;
-    let is_accepted = match row.word()? {
-        "accept" => true,
-        "reject" => false,
-        _ => return Err(Fault::Malformed),
-    };
+fn handle(row: &mut Row<'_>, found: &mut Found) {
+    let number = row.number();
+    let is_accepted = is_first_of(row, "accept", "reject");
     let handle = ChannelOpenHandleInner::new(number);
     let (kept, answer) = if is_accepted {
         handle.accept()
     } else {
         handle.reject(ChannelOpenFailure::ConnectFailed)
     };
-    say_number(found, kept)?;
-    say_shown(found, &answer)
+    found.say_number(kept);
+    found.say_shown(&answer);
 }
 
-/// `algorithm NAME`: the algorithm of a name.
-fn algorithm(row: &mut Row<'_>, found: &mut String) -> Result<(), Fault> {
-    say_algorithm(found, Algorithm::from_str(row.text()?))
-}
-
-/// Its name, the name of its certificates and its hash, or `none`.
-fn say_algorithm(found: &mut String, algorithm: Option<Algorithm>) -> Result<(), Fault> {
-    let Some(algorithm) = algorithm else {
-        return say(found, "none");
-    };
-    say(found, algorithm.as_str())?;
-    say(found, algorithm.to_certificate_type())?;
-    say_shown(found, &algorithm.hash_alg())
+/// Of `algorithm NAME` and `certificate NAME`, the algorithm of a name or of a certificate's: its name, the name of its
+/// certificates and its hash, or `none`.
+fn say_algorithm(found: &mut Found, algorithm: Option<Algorithm>) {
+    match algorithm {
+        Some(algorithm) => {
+            found.say(algorithm.as_str());
+            found.say(algorithm.to_certificate_type());
+            found.say_shown(&algorithm.hash_alg());
+        }
+        None => found.say("none"),
+    }
 }
 
 /// `hashed_by NAME HASH`: the algorithm of a name with another hash.
-fn hashed_by(row: &mut Row<'_>, found: &mut String) -> Result<(), Fault> {
-    let algorithm = Algorithm::from_str(row.text()?);
-    let hash = match row.word()? {
+fn hashed_by(row: &mut Row<'_>, found: &mut Found) {
+    let algorithm = Algorithm::from_str(row.text());
+    let hash = match row.word() {
         "none" => None,
         "sha256" => Some(HashAlg::Sha256),
         "sha512" => Some(HashAlg::Sha512),
-        _ => return Err(Fault::Malformed),
+        _ => return row.reject(),
     };
     match algorithm {
         Some(algorithm) => say_algorithm(found, Some(algorithm.with_hash_alg(hash))),
-        None => Err(Fault::Malformed),
+        None => row.reject(),
     }
 }
 
 /// `blob BYTES`: the bytes of a blob, of a payload, and of a list of that payload.
-fn blob(row: &mut Row<'_>, found: &mut String) -> Result<(), Fault> {
-    let bytes = row.bytes()?;
-    let blob = Blob::new(bytes);
-    say_bytes(found, blob.as_slice())?;
+fn blob(row: &mut Row<'_>, found: &mut Found) -> Result<(), Fault> {
+    let blob = Blob::new(row.bytes());
+    found.say_bytes(blob.as_slice());
     let payload = Payload::new(blob.into_vec());
-    say_bytes(found, payload.as_slice())?;
+    found.say_bytes(payload.as_slice());
     let mut payloads = Vec::new(row.alloc());
     payloads.push(payload)?;
-    let list = PayloadList::new(payloads);
+    say_payloads(found, PayloadList::new(payloads));
+    Ok(())
+}
+
+fn say_payloads(found: &mut Found, list: PayloadList) {
     for payload in list.as_slice() {
-        say_bytes(found, payload.as_slice())?;
+        found.say_bytes(payload.as_slice());
     }
-    say_number(found, list.into_vec().len() as u64)
+    found.say_number(list.into_vec().len() as u64);
 }
 
 /// `error NAME`: the text of an error.
-fn error(row: &mut Row<'_>, found: &mut String) -> Result<(), Fault> {
-    let name = row.word()?;
+fn error(row: &mut Row<'_>, found: &mut Found) {
+    let name = row.word();
     if name == "SendError" {
-        let text = format!(in row.alloc(); "{}", SendError)?;
-        return say(found, text.as_str());
+        return say_text(found, &SendError);
     }
-    let Some(error) = refusal(name).or_else(|| fault(row.alloc(), name)) else {
-        return Err(Fault::Malformed);
-    };
-    say_text(found, row.alloc(), &error)
+    match &error_named(row.alloc(), name) {
+        Some(error) => say_text(found, error),
+        None => row.reject(),
+    }
 }
 
-fn say_text(found: &mut String, alloc: Global, error: &Error) -> Result<(), Fault> {
-    let text = format!(in alloc; "{error}")?;
-    say(found, text.as_str())
+/// The error of a name, as `Debug` shows it, or the beginning of that.
+fn error_named(alloc: Global, name: &str) -> Option<Error> {
+    let error = match name {
+        "NoCommonAlgo" => Error::NoCommonAlgo {
+            kind: AlgorithmKind::Cipher,
+            ours: NameList(Vec::new(alloc)),
+            theirs: NameList(Vec::new(alloc)),
+        },
+        "PacketSize(7)" => Error::PacketSize(7),
+        "StrictKeyExchangeViolation(30,2)" => Error::StrictKeyExchangeViolation {
+            message_type: 30,
+            sequence_number: 2,
+        },
+        "SshEncoding(TrailingData)" => Error::SshEncoding(EncodingFault::TrailingData),
+        "InvalidConfig(Id)" => Error::InvalidConfig(ConfigFault::Id),
+        _ => return refusal(name),
+    };
+    Some(error)
 }
 
 fn refusal(name: &str) -> Option<Error> {
@@ -198,29 +220,10 @@ fn refusal(name: &str) -> Option<Error> {
     Some(error)
 }
 
-fn fault(alloc: Global, name: &str) -> Option<Error> {
-    let error = match name {
-        "NoCommonAlgo" => Error::NoCommonAlgo {
-            kind: AlgorithmKind::Cipher,
-            ours: NameList(Vec::new(alloc)),
-            theirs: NameList(Vec::new(alloc)),
-        },
-        "PacketSize(7)" => Error::PacketSize(7),
-        "StrictKeyExchangeViolation(30,2)" => Error::StrictKeyExchangeViolation {
-            message_type: 30,
-            sequence_number: 2,
-        },
-        "SshEncoding(TrailingData)" => Error::SshEncoding(EncodingFault::TrailingData),
-        "InvalidConfig(Id)" => Error::InvalidConfig(ConfigFault::Id),
-        _ => return None,
-    };
-    Some(error)
-}
-
 /// `open_error NAME`: the error that a reader's refusal is, its text, and `itself` with the refusal's own text where
 /// that is another.
-fn open_error(row: &mut Row<'_>, found: &mut String) -> Result<(), Fault> {
-    let error = match row.word()? {
+fn open_error(row: &mut Row<'_>, found: &mut Found) -> Result<(), Fault> {
+    let refusal = match row.word() {
         "PacketSize(7)" => OpenError::PacketSize(7),
         "IndexOutOfBounds" => OpenError::IndexOutOfBounds,
         "PacketAuth" => OpenError::PacketAuth,
@@ -228,25 +231,30 @@ fn open_error(row: &mut Row<'_>, found: &mut String) -> Result<(), Fault> {
         "Disconnect" => OpenError::Disconnect,
         _ => return Err(Fault::Malformed),
     };
-    let own = format!(in row.alloc(); "{error}")?;
-    say_error(found, row.alloc(), Error::from(error), own.as_str())
+    say_error(found, &Error::from(refusal), &refusal)
 }
 
 /// `id_error NAME`: the same of the refusal of a version line.
-fn id_error(row: &mut Row<'_>, found: &mut String) -> Result<(), Fault> {
-    let error = match row.word()? {
+fn id_error(row: &mut Row<'_>, found: &mut Found) -> Result<(), Fault> {
+    let refusal = match row.word() {
         "Version" => IdError::Version,
         "Disconnect" => IdError::Disconnect,
         "IO" => IdError::IO,
         _ => return Err(Fault::Malformed),
     };
-    let own = format!(in row.alloc(); "{error}")?;
-    say_error(found, row.alloc(), Error::from(error), own.as_str())
+    say_error(found, &Error::from(refusal), &refusal)
 }
 
-fn say_error(found: &mut String, alloc: Global, error: Error, own: &str) -> Result<(), Fault> {
-    let text = format!(in alloc; "{error}")?;
-    say_shown(found, &error)?;
-    say(found, text.as_str())?;
-    say_other(found, "itself", own.as_bytes(), text.as_str().as_bytes())
+fn say_error<E: fmt::Display>(found: &mut Found, error: &Error, refusal: &E) -> Result<(), Fault> {
+    let own = format!(in found.alloc(); "{refusal}")?;
+    let text = format!(in found.alloc(); "{error}")?;
+    found.say_shown(error);
+    found.say(text.as_str());
+    say_other(
+        found,
+        "itself",
+        own.as_str().as_bytes(),
+        text.as_str().as_bytes(),
+    );
+    Ok(())
 }

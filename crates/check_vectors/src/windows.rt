@@ -1,96 +1,126 @@
 //! Rows of a reader's window: what it takes, and what is left, lent and dropped between its packets.
 
 use crate::packets::{ReadStep, read_one};
+use crate::shared::{is_first_of, letters};
 use ssh_packet::{OpenKey, PacketReader, clear};
-use std::alloc::Global;
-use vector_rows::{Fault, Row, say, say_bytes, say_number};
+use ssh_wire::Error;
+use vector_rows::{Fault, Found, Row};
 
 /// Answers a row of one of these kinds. False where the kind is another.
-pub(crate) fn answer(kind: &str, row: &mut Row<'_>, found: &mut String) -> Result<bool, Fault> {
-    match kind {
-        "window" => window(row, found)?,
-        "reads" => reads(row, found)?,
-        _ => return Ok(false),
-    }
-    Ok(true)
+pub(crate) fn answer(kind: &str, row: &mut Row<'_>, found: &mut Found) -> bool {
+    let outcome = match kind {
+        "window" => window(row, found),
+        "reads" => reads(row, found),
+        _ => return false,
+    };
+    found.note(outcome);
+    true
 }
 
 /// The next word as an empty reader: `with` a window, or `without`.
-fn reader_by(row: &mut Row<'_>) -> Result<PacketReader, Fault> {
-    match row.word()? {
-        "with" => Ok(PacketReader::with_window(row.alloc())?),
-        "without" => Ok(PacketReader::new(row.alloc())),
-        _ => Err(Fault::Malformed),
+fn reader_by(row: &mut Row<'_>) -> Result<PacketReader, Error> {
+    if is_first_of(row, "with", "without") {
+        PacketReader::with_window(row.alloc())
+    } else {
+        Ok(PacketReader::new(row.alloc()))
     }
 }
 
 /// `window HOW LENGTH..`: of a reader with a window or without, how long that is; how many bytes it takes of pieces of
 /// these lengths, one after the other; and how many wait then.
-fn window(row: &mut Row<'_>, found: &mut String) -> Result<(), Fault> {
-    let mut reader = reader_by(row)?;
-    say_number(found, reader.window() as u64)?;
+fn window(row: &mut Row<'_>, found: &mut Found) -> Result<(), Fault> {
+    take_each(&mut reader_by(row)?, row, found)
+}
+
+fn take_each(reader: &mut PacketReader, row: &mut Row<'_>, found: &mut Found) -> Result<(), Fault> {
+    found.say_number(reader.window() as u64);
     for _ in 0..row.left() {
-        let mut piece = Vec::new(row.alloc());
-        piece.resize(row.count()?, 97)?;
-        say_number(found, reader.take(piece.as_slice()) as u64)?;
+        let piece = letters(row.alloc(), row.count())?;
+        found.say_number(reader.take(piece.as_slice()) as u64);
     }
-    say_number(found, reader.waiting() as u64)
+    found.say_number(reader.waiting() as u64);
+    Ok(())
 }
 
 /// `reads HOW CALL..`: what a reader of clear packets, with a window or without, answers to `push:BYTES`, `take:BYTES`,
 /// `skip:NUMBER`, `next`, `handed`, `unread`, `reset_seqn` and `reset_bytes`, one after the other.
-fn reads(row: &mut Row<'_>, found: &mut String) -> Result<(), Fault> {
-    let alloc = row.alloc();
-    let mut reader = reader_by(row)?;
-    for _ in 0..row.left() {
-        let call = row.word()?;
-        match call.split_once(':') {
-            Some((name, given)) => say_given(alloc, &mut reader, name, given, found)?,
-            None => say_call(&mut reader, call, found)?,
-        }
-    }
+fn reads(row: &mut Row<'_>, found: &mut Found) -> Result<(), Fault> {
+    call_each(&mut reader_by(row)?, row, found);
     Ok(())
 }
 
+fn call_each(reader: &mut PacketReader, row: &mut Row<'_>, found: &mut Found) {
+    for _ in 0..row.left() {
+        let call = row.word();
+        match call.split_once(':') {
+            Some((name, given)) => say_given(reader, name, given, row, found),
+            None => say_call(reader, call, row, found),
+        }
+    }
+}
+
 /// Appends what a call answers that is given nothing.
-fn say_call(reader: &mut PacketReader, call: &str, found: &mut String) -> Result<(), Fault> {
+fn say_call(reader: &mut PacketReader, call: &str, row: &mut Row<'_>, found: &mut Found) {
     match call {
-        "next" => match read_one(reader, &mut OpenKey::Clear(clear::Key), found)? {
-            ReadStep::Waits => return say(found, "none"),
-            _ => return Ok(()),
-        },
-        "handed" => return say_bytes(found, reader.handed()),
-        "unread" => return say_bytes(found, reader.unread()),
+        "next" => return say_next(reader, found),
+        "handed" => return found.say_bytes(reader.handed()),
+        "unread" => return found.say_bytes(reader.unread()),
         "reset_seqn" => reader.reset_seqn(),
         "reset_bytes" => reader.reset_bytes(),
-        _ => return Err(Fault::Malformed),
+        _ => row.reject(),
     }
-    say(found, "ok")
+    found.say("ok");
+}
+
+fn say_next(reader: &mut PacketReader, found: &mut Found) {
+    if read_one(reader, &mut OpenKey::Clear(clear::Key), found) == ReadStep::Waits {
+        found.say("none");
+    }
 }
 
 /// Appends what a call answers that is given bytes or a number.
 fn say_given(
-    alloc: Global,
     reader: &mut PacketReader,
     call: &str,
     given: &str,
-    found: &mut String,
-) -> Result<(), Fault> {
-    let mut row = Row::of(alloc, given)?;
-    match call {
-        "take" => return say_number(found, reader.take(row.bytes()?.as_slice()) as u64),
-        "push" => reader.push(row.bytes()?.as_slice())?,
-        "skip" => skip(reader, row.count()?)?,
-        _ => return Err(Fault::Malformed),
-    }
-    say(found, "ok")
+    row: &mut Row<'_>,
+    found: &mut Found,
+) {
+    let outcome = match Row::of(row.alloc(), given) {
+        Ok(mut word) => say_word(reader, call, &mut word, found),
+        Err(fault) => Err(fault),
+    };
+    found.note(outcome);
 }
 
-/// Drops so many of the bytes that wait.
-fn skip(reader: &mut PacketReader, count: usize) -> Result<(), Fault> {
-    if count > reader.waiting() {
+/// The same, where bytes or number are the only word of a row of their own.
+fn say_word(
+    reader: &mut PacketReader,
+    call: &str,
+    given: &mut Row<'_>,
+    found: &mut Found,
+) -> Result<(), Fault> {
+    match call {
+        "take" => found.say_number(reader.take(given.bytes().as_slice()) as u64),
+        "push" => {
+            reader.push(given.bytes().as_slice())?;
+            found.say("ok");
+        }
+        "skip" => skip(reader, given, found),
+        _ => given.reject(),
+    }
+    if given.is_malformed() {
         return Err(Fault::Malformed);
     }
-    reader.skip(count);
     Ok(())
+}
+
+/// Drops as many of the bytes that wait as the next word says.
+fn skip(reader: &mut PacketReader, given: &mut Row<'_>, found: &mut Found) {
+    let count = given.count();
+    if count > reader.waiting() {
+        return given.reject();
+    }
+    reader.skip(count);
+    found.say("ok");
 }

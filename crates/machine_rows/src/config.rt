@@ -8,12 +8,13 @@ use std::alloc::Global;
 use vector_rows::{Fault, Row};
 
 /// The next word as a side.
-pub fn side_of(row: &mut Row<'_>) -> Result<Side, Fault> {
-    match row.word()? {
-        "client" => Ok(Side::Client),
-        "server" => Ok(Side::Server),
-        _ => Err(Fault::Malformed),
-    }
+pub fn side_of(row: &mut Row<'_>) -> Side {
+    let side = match row.word() {
+        "client" => Some(Side::Client),
+        "server" => Some(Side::Server),
+        _ => None,
+    };
+    row.expect(side, Side::Client)
 }
 
 /// How a side is set up.

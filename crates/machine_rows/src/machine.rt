@@ -70,17 +70,28 @@ impl<'c> Machine<'c> {
     ) -> Result<(), Fault> {
         match side {
             Side::Client => {
-                let mut kex = client_of(self.alloc, config, peer_id, cause)?;
-                kex.kexinit(rng, output)?;
-                self.client = Some(kex);
+                begin_client(
+                    self.alloc,
+                    config,
+                    peer_id,
+                    cause,
+                    rng,
+                    output,
+                    &mut self.client,
+                )
             }
             Side::Server => {
-                let mut kex = server_of(self.alloc, config, peer_id, cause)?;
-                kex.kexinit(rng, output)?;
-                self.server = Some(kex);
+                begin_server(
+                    self.alloc,
+                    config,
+                    peer_id,
+                    cause,
+                    rng,
+                    output,
+                    &mut self.server,
+                )
             }
         }
-        Ok(())
     }
 
     /// Whether it awaits a message.
@@ -122,14 +133,22 @@ impl<'c> Machine<'c> {
         let Some(kex) = self.client.take() else {
             return Err(Error::Inconsistent);
         };
-        match kex.step(parts, input, output)? {
+        match kex.step(parts, input, output) {
+            Ok(progress) => Ok(self.keep_client(progress)),
+            Err(error) => Err(error),
+        }
+    }
+
+    /// Keeps what a step of a client leads to.
+    fn keep_client(&mut self, progress: KexProgress<ClientKex<'c>>) -> Progress {
+        match progress {
             KexProgress::NeedsReply { kex, reset_seqn } => {
                 self.client = Some(kex);
-                Ok(Progress::waits(reset_seqn))
+                Progress::waits(reset_seqn)
             }
             KexProgress::Done { newkeys, .. } => {
                 self.keys = Some(newkeys);
-                Ok(Progress::Done)
+                Progress::Done
             }
         }
     }
@@ -145,17 +164,57 @@ impl<'c> Machine<'c> {
         let Some(kex) = self.server.take() else {
             return Err(Error::Inconsistent);
         };
-        match kex.step(parts, input, output)? {
+        match kex.step(parts, input, output) {
+            Ok(progress) => Ok(self.keep_server(progress)),
+            Err(error) => Err(error),
+        }
+    }
+
+    /// Keeps what a step of a server leads to.
+    fn keep_server(&mut self, progress: KexProgress<ServerKex<'c>>) -> Progress {
+        match progress {
             KexProgress::NeedsReply { kex, reset_seqn } => {
                 self.server = Some(kex);
-                Ok(Progress::waits(reset_seqn))
+                Progress::waits(reset_seqn)
             }
             KexProgress::Done { newkeys, .. } => {
                 self.keys = Some(newkeys);
-                Ok(Progress::Done)
+                Progress::Done
             }
         }
     }
+}
+
+/// Makes a client that sends its KEXINIT, and puts it in its place.
+fn begin_client<'c, R: Rng>(
+    alloc: Global,
+    config: &'c Config,
+    peer_id: &[u8],
+    cause: KexCause,
+    rng: &mut R,
+    output: &mut PacketWriter,
+    place: &mut Option<ClientKex<'c>>,
+) -> Result<(), Fault> {
+    let mut kex = client_of(alloc, config, peer_id, cause)?;
+    let sent = kex.kexinit(rng, output);
+    *place = Some(kex);
+    Ok(sent?)
+}
+
+/// The same of a server.
+fn begin_server<'c, R: Rng>(
+    alloc: Global,
+    config: &'c Config,
+    peer_id: &[u8],
+    cause: KexCause,
+    rng: &mut R,
+    output: &mut PacketWriter,
+    place: &mut Option<ServerKex<'c>>,
+) -> Result<(), Fault> {
+    let mut kex = server_of(alloc, config, peer_id, cause)?;
+    let sent = kex.kexinit(rng, output);
+    *place = Some(kex);
+    Ok(sent?)
 }
 
 /// A client before its KEXINIT. Malformed where what it would hash or offer is too long.

@@ -6,7 +6,7 @@ use rand_core::Rng;
 use ssh_kex::{Agreement, GroupLookup, HostKeys, Parts};
 use ssh_transport::Transport;
 use ssh_wire::Error;
-use vector_rows::{Fault, say_shown};
+use vector_rows::{Fault, Found};
 
 /// Feeds it a piece of the peer's bytes.
 pub fn feed<A: Agreement, H: HostKeys, G: GroupLookup, R: Rng>(
@@ -43,14 +43,14 @@ pub fn take_input(transport: &mut Transport<'_>, piece: &[u8]) -> Result<usize, 
 pub fn poll_payload<A: Agreement, H: HostKeys, G: GroupLookup, R: Rng>(
     transport: &mut Transport<'_>,
     parts: &mut Parts<A, H, G, R>,
-    found: &mut String,
+    found: &mut Found,
 ) -> Result<Option<Vec<u8>>, Fault> {
-    let alloc = *found.allocator();
+    let alloc = found.alloc();
     match transport.poll_payload(parts) {
         Ok(Some(payload)) => Ok(Some(Vec::from_slice(alloc, payload)?)),
         Ok(None) => Ok(None),
         Err(refusal) => {
-            say_shown(found, refusal)?;
+            found.say_shown(refusal);
             Ok(None)
         }
     }

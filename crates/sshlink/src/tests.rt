@@ -2,14 +2,16 @@
 
 use ssh_link::{StdSink, StdSource, Word, link_main};
 use ssh_vectors::{MemorySink, MemorySource};
-use ssh_wire::{Failed, Sink, Source};
+use ssh_wire::{Error, Failed, Sink, Source};
 use std::alloc::{AllocError, Global};
 use std::io;
 use std::io::{Cursor, Write};
 use std::test::Fail;
 
 /// The words, the calls at which source and sink fail, the sink's room, the status, and what is written.
-const FAULTS: [(&str, &[u64], &[u64], usize, u8, &str); 15] = [
+type Fault<'a> = (&'a str, &'a [u64], &'a [u64], usize, u8, &'a str);
+
+const FAULTS: &[Fault<'static>] = &[
     ("attacks", &[1], &[], 64, 2, "usage\n"),
     ("hop", &[], &[1], 64, 5, ""),
     ("hop", &[], &[], 4, 5, "usag"),
@@ -59,17 +61,21 @@ fn words_in(alloc: Global, text: &str) -> Result<Vec<Word>, AllocError> {
 
 #[test]
 fn faults_answered(rt: HostRuntime) -> Result<(), Fail> {
-    let alloc = rt.alloc();
-    for (call, source_fails, sink_fails, room, status, text) in FAULTS {
-        let words = words_in(alloc, call)?;
-        let script = Vec::from_slice(alloc, b"deliver client 1\n")?;
-        let mut source = MemorySource::new(script, Vec::from_slice(alloc, source_fails)?);
-        let mut sink = MemorySink::new(alloc, Vec::from_slice(alloc, sink_fails)?, room)?;
-        let end = link_main(alloc, words.as_slice(), &mut source, &mut sink);
-        assert_eq!(rt; end.status, status, "{call}, {status}");
-        assert_eq!(rt; sink.held(), text.as_bytes(), "{call}, {status}");
+    for fault in FAULTS {
+        assert!(rt; ends_so(rt.alloc(), fault)?, "{}, {}", fault.0, fault.4);
     }
     Ok(())
+}
+
+/// Whether a call of the program, with a script of one line, ends as a row tells.
+fn ends_so(alloc: Global, fault: &Fault<'_>) -> Result<bool, Error> {
+    let (call, source_fails, sink_fails, room, status, text) = *fault;
+    let words = words_in(alloc, call)?;
+    let script = Vec::from_slice(alloc, b"deliver client 1\n")?;
+    let mut source = MemorySource::new(script, Vec::from_slice(alloc, source_fails)?);
+    let mut sink = MemorySink::new(alloc, Vec::from_slice(alloc, sink_fails)?, room)?;
+    let end = link_main(alloc, words.as_slice(), &mut source, &mut sink);
+    Ok(end.status == status && sink.held() == text.as_bytes())
 }
 
 /// A writer that takes two bytes at a time and counts its calls. The write and the flush with these numbers fail.
@@ -102,15 +108,20 @@ impl Write for Flushing {
     }
 }
 
-/// Each write is flushed, and asked for once; a fault of either is a fault.
+/// Pieces are read as they come, up to the end.
 #[test]
-fn standard_streams(rt: HostRuntime) {
+fn standard_input(rt: HostRuntime) {
     let mut source = StdSource::new(Cursor::new(b"abc".as_slice()));
     let mut piece = [0; 2];
     assert_eq!(rt; source.read(&mut piece), Ok(2));
     assert_eq!(rt; &piece, b"ab");
     assert_eq!(rt; source.read(&mut piece), Ok(1));
     assert_eq!(rt; source.read(&mut piece), Ok(0));
+}
+
+/// Each write is flushed, and asked for once; a fault of either is a fault.
+#[test]
+fn standard_output(rt: HostRuntime) {
     let mut writer = Flushing {
         held: 0,
         writes: 0,
@@ -124,7 +135,5 @@ fn standard_streams(rt: HostRuntime) {
     assert_eq!(rt; sink.write(b"z"), Err(Failed::Failed));
     assert_eq!(rt; sink.write(b"z"), Ok(1));
     drop(sink);
-    assert_eq!(rt; writer.writes, 4);
-    assert_eq!(rt; writer.flushes, 3);
-    assert_eq!(rt; writer.held, 4);
+    assert!(rt; (writer.writes, writer.flushes, writer.held) == (4, 3, 4));
 }

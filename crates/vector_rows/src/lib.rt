@@ -8,6 +8,6 @@ mod row;
 mod suite;
 mod words;
 
-pub use crate::row::{Fault, Row, say, say_bytes, say_number, say_shown};
+pub use crate::row::{Fault, Found, Row};
 pub use crate::suite::{Answers, check};
 pub use crate::words::{Words, words_of};

@@ -105,7 +105,7 @@ pub fn named_all<N: Named>(alloc: Global, texts: &NameList) -> Result<Vec<N>, Fa
 /// The next word as settings: `default` for none, or `NAME=VALUE` with `;` between them.
 pub fn settings<'a>(row: &mut Row<'a>) -> Result<Vec<(&'a str, &'a str)>, Fault> {
     let mut settings = Vec::new(row.alloc());
-    let word = row.word()?;
+    let word = row.word();
     if word == "default" {
         return Ok(settings);
     }
@@ -162,38 +162,50 @@ fn marked(entry: &str) -> Result<(Algorithm, &str), Fault> {
 /// The next word as host keys `ALGORITHM:BLOB` with commas between them, `-` for an empty list, or `none` where no list
 /// is given.
 pub fn keys(row: &mut Row<'_>) -> Result<Option<Vec<HostKey>>, Fault> {
-    let word = row.word()?;
+    let word = row.word();
     if word == "none" {
         return Ok(None);
     }
     let mut keys = Vec::new(row.alloc());
     for entry in texts(row.alloc(), word)?.0.as_slice() {
-        let (algorithm, digits) = marked(entry.as_str())?;
-        let blob = blob(row.alloc(), digits)?;
-        keys.push(HostKey { algorithm, blob })?;
+        keys.push(key_of(row.alloc(), entry.as_str())?)?;
     }
     Ok(Some(keys))
 }
 
+/// `ALGORITHM:BLOB`.
+fn key_of(alloc: Global, entry: &str) -> Result<HostKey, Fault> {
+    let (algorithm, digits) = marked(entry)?;
+    let blob = blob(alloc, digits)?;
+    Ok(HostKey { algorithm, blob })
+}
+
 /// The next word as host certificates `ALGORITHM:BLOB:BLOB_OF_THE_KEY`, as `keys`.
 pub fn certificates(row: &mut Row<'_>) -> Result<Option<Vec<HostCertificate>>, Fault> {
-    let word = row.word()?;
+    let word = row.word();
     if word == "none" {
         return Ok(None);
     }
     let mut certificates = Vec::new(row.alloc());
     for entry in texts(row.alloc(), word)?.0.as_slice() {
-        let (algorithm, rest) = marked(entry.as_str())?;
-        let Some((own, key)) = rest.split_once(':') else {
-            return Err(Fault::Malformed);
-        };
-        certificates.push(HostCertificate {
-            algorithm,
-            blob: blob(row.alloc(), own)?,
-            key_blob: blob(row.alloc(), key)?,
-        })?;
+        certificates.push(certificate_of(row.alloc(), entry.as_str())?)?;
     }
     Ok(Some(certificates))
+}
+
+/// `ALGORITHM:BLOB:BLOB_OF_THE_KEY`.
+fn certificate_of(alloc: Global, entry: &str) -> Result<HostCertificate, Fault> {
+    let (algorithm, rest) = marked(entry)?;
+    let Some((own, key)) = rest.split_once(':') else {
+        return Err(Fault::Malformed);
+    };
+    let blob_of_it = blob(alloc, own)?;
+    let key_blob = blob(alloc, key)?;
+    Ok(HostCertificate {
+        algorithm,
+        blob: blob_of_it,
+        key_blob,
+    })
 }
 
 /// Appends a list of names as a `string`.
