@@ -1,6 +1,9 @@
 pub mod Commands
 pub mod Ends
 pub mod Desks
+pub mod KeyFiles
 pub mod Keys
 pub mod Known
+pub mod Runs
+pub mod Setup
 pub mod Talks

@@ -1,8 +1,8 @@
 //! The words that the program is called with.
 
-ghost use Rattle.std.specs.Prelude.{◌≡◌, ◌≤◌, ◌^◌, IfSome, Some};
-ghost use Rattle.std.specs.List.{slice_get};
-ghost use Rattle.ssh_pipe.specs.Commands.{side_word};
+ghost use Rattle.std.specs.Prelude.{◌≡◌, ◌≤◌, ◌^◌, IfSome, None};
+ghost use Rattle.ssh_wire.specs.declared.side.Side.{Side};
+ghost use Rattle.ssh_pipe.specs.Commands.{IsLimit, IsPipeCommand, NamesNoCommand, side_word};
 
 use ssh_lines::number;
 use ssh_program::Word;
@@ -26,8 +26,8 @@ pub struct PipeCommand<'w> {
 pub fn command_of<'w>(words: &'w [Word]) -> Option<PipeCommand<'w>>
     ensures some { IfSome result (λ c. 1 ≤ c.limit) }
     ensures most { IfSome result (λ c. c.limit ≤ 2 ^ 30) }
-    ensures side { IfSome result (λ c. slice_get words.now 0 ≡ Some (side_word c.side)) }
-    ensures file { IfSome result (λ c. slice_get words.now 1 ≡ Some c.file.now) }
+    ensures named { IfSome result (λ c. IsPipeCommand words.now c.side c.file.now c.limit) }
+    ensures nothing { result ≡ None → NamesNoCommand words.now }
 {
     match words {
         [side, file] => command_with(side, file, MOST_BYTES),
@@ -37,10 +37,10 @@ pub fn command_of<'w>(words: &'w [Word]) -> Option<PipeCommand<'w>>
 }
 
 fn command_with<'w>(side: &'w Word, file: &'w Word, limit: u64) -> Option<PipeCommand<'w>>
-    ensures some { IfSome result (λ c. 1 ≤ c.limit) }
-    ensures most { IfSome result (λ c. c.limit ≤ 2 ^ 30) }
+    ensures limit { IfSome result (λ c. (c.limit ≡ limit) × IsLimit limit) }
     ensures side { IfSome result (λ c. side.now ≡ side_word c.side) }
-    ensures file { IfSome result (λ c. file.now ≡ c.file.now) }
+    ensures file { IfSome result (λ c. c.file.now ≡ file.now) }
+    ensures nothing { result ≡ None → IsLimit limit → (s : Side) → side.now ≡ side_word s → ⊥ }
 {
     if limit == 0 || limit > MOST_BYTES {
         return None;
@@ -53,7 +53,8 @@ fn command_with<'w>(side: &'w Word, file: &'w Word, limit: u64) -> Option<PipeCo
 }
 
 fn side_of(word: &str) -> Option<Side>
-    ensures { IfSome result (λ s. word.now ≡ side_word s) }
+    ensures named { IfSome result (λ s. word.now ≡ side_word s) }
+    ensures nothing { result ≡ None → (s : Side) → word.now ≡ side_word s → ⊥ }
 {
     match word {
         "server" => Some(Side::Server),

@@ -1,9 +1,9 @@
 //! The files of keys.
 
-ghost use Rattle.std.specs.Prelude.{◌≡◌, Ok, IfOk};
-ghost use Rattle.base64.specs.Engines.{standard};
-ghost use Rattle.base64.specs.GeneralPurpose.{decode_of};
-ghost use Rattle.ssh_pipe.specs.Keys.{NamesHost};
+ghost use Rattle.std.specs.Prelude.{◌≡◌, ◌⊎◌, IfErr, IfOk, MatchOption, None, Some};
+ghost use Rattle.ssh_wire.specs.declared.error.Error.TheVariants.{Memory};
+ghost use Rattle.ssh_pipe.specs.KeyFiles.{armoured, base64_bytes, exponent_of, key_in, key_of_bytes, one_in_clear, outer_at, private_at};
+ghost use Rattle.ssh_pipe.specs.Keys.{NamesHost, NamesNone};
 
 use base64::DecodeAllocError;
 use base64::engine::general_purpose::STANDARD;
@@ -23,7 +23,8 @@ const NO_KEY: Error = Error::SshEncoding(EncodingFault::CharacterEncoding);
 
 /// The bytes that a text in base64 stands for. SshEncoding(CharacterEncoding) where it isn't base64; Memory.
 fn decoded(alloc: Global, text: &[u8]) -> Result<Vec<u8>, Error>
-    ensures { IfOk result (λ v. decode_of standard text.now ≡ Ok v.items) }
+    ensures decoded { IfOk result (λ v. base64_bytes text.now ≡ Some v.items) }
+    ensures faulty { IfErr result (λ e. (e ≡ Memory) ⊎ (base64_bytes text.now ≡ None)) }
 {
     match STANDARD.decode(alloc, text) {
         Ok(bytes) => Ok(bytes),
@@ -33,7 +34,9 @@ fn decoded(alloc: Global, text: &[u8]) -> Result<Vec<u8>, Error>
 }
 
 /// The text of a file without the lines that begin with a dash, and without line ends.
-fn armoured(alloc: Global, text: &[u8]) -> Result<Vec<u8>, AllocError> {
+fn armoured(alloc: Global, text: &[u8]) -> Result<Vec<u8>, AllocError>
+    ensures { IfOk result (λ v. v.items ≡ armoured text.now) }
+{
     let mut body = Vec::new(alloc);
     let mut begins = true;
     let mut skips = false;
@@ -42,7 +45,7 @@ fn armoured(alloc: Global, text: &[u8]) -> Result<Vec<u8>, AllocError> {
             skips = *byte == b'-';
         }
         begins = *byte == b'\n';
-        if !skips && !begins && *byte != b'\r' {
+        if !begins && !skips && *byte != b'\r' {
             body.push(*byte)?;
         }
     }
@@ -52,52 +55,74 @@ fn armoured(alloc: Global, text: &[u8]) -> Result<Vec<u8>, AllocError> {
 /// The RSA key of a private key's file in OpenSSH's own form, without a passphrase. SshEncoding where the file isn't
 /// one; Memory. Whether the private exponent belongs to the public key isn't tested here: a key signs nothing that
 /// its public key doesn't accept.
-pub fn private_key(alloc: Global, text: &[u8]) -> Result<RsaKey, Error> {
+pub fn private_key(alloc: Global, text: &[u8]) -> Result<RsaKey, Error>
+    ensures key { IfOk result (λ k. key_in text.now ≡ Some k) }
+    ensures faulty { IfErr result (λ e. (e ≡ Memory) ⊎ (key_in text.now ≡ None)) }
+{
     let body = armoured(alloc, text)?;
     let bytes = decoded(alloc, body.as_slice())?;
-    let Some(fields) = bytes.as_slice().strip_prefix(MAGIC) else {
+    let Some((blob, exponent)) = key_fields(bytes.as_slice()) else {
         return Err(NO_KEY);
     };
-    let (blob, private) = outer_fields(fields)?;
-    let exponent = inner_exponent(private)?;
     Ok(RsaKey {
         blob: Blob::copy_of(alloc, blob)?,
         private: Blob::copy_of(alloc, exponent)?,
     })
 }
 
-/// The public key and the private part of a file of one key that isn't encrypted.
-fn outer_fields<'a>(fields: &'a [u8]) -> Result<(&'a [u8], &'a [u8]), Error> {
-    let mut r = Reader::new(fields);
-    let cipher = r.read_string()?;
-    if cipher != b"none".as_slice() {
-        return Err(NO_KEY);
-    }
-    let _kdf = r.read_string()?;
-    let _options = r.read_string()?;
-    let _count = r.read_u32()?;
-    let blob = r.read_string()?;
-    let private = r.read_string()?;
-    Ok((blob, private))
+/// The public key's blob and the private exponent of a file's bytes.
+fn key_fields<'a>(bytes: &'a [u8]) -> Option<(&'a [u8], &'a [u8])>
+    ensures { MatchOption result (key_of_bytes bytes.now ≡ None)
+        (λ k. key_of_bytes bytes.now ≡ Some (record { blob = k.0.now; private = k.1.now })) }
+{
+    let fields = bytes.strip_prefix(MAGIC)?;
+    let (blob, private) = outer_fields(fields).ok()?;
+    let exponent = private_exponent(private).ok()?;
+    Some((blob, exponent))
 }
 
-/// The private exponent of the private part, whose first key is of RSA.
-fn inner_exponent<'a>(private: &'a [u8]) -> Result<&'a [u8], Error> {
-    let mut r = Reader::new(private);
-    let _check = r.read_u32()?;
-    let _again = r.read_u32()?;
-    let kind = r.read_string()?;
-    if kind != RSA {
-        return Err(NO_KEY);
+/// The public key's blob and the private part of a file of one key that isn't encrypted.
+fn outer_fields<'a>(fields: &'a [u8]) -> Result<(&'a [u8], &'a [u8]), Error>
+    ensures ok { IfOk result (λ v. one_in_clear (outer_at fields.now) ≡ Some (v.0.now, v.1.now)) }
+    ensures err { IfErr result (λ _. one_in_clear (outer_at fields.now) ≡ None) }
+{
+    let mut r = Reader::new(fields);
+    let cipher = r.read_string()?;
+    let _derivation = r.read_string()?;
+    let _options = r.read_string()?;
+    let count = r.read_u32()?;
+    let blob = r.read_string()?;
+    let private = r.read_string()?;
+    if cipher == b"none".as_slice() && count == 1 {
+        Ok((blob, private))
+    } else {
+        Err(NO_KEY)
     }
+}
+
+/// The private exponent of an RSA key's private part.
+fn private_exponent<'a>(private: &'a [u8]) -> Result<&'a [u8], Error>
+    ensures ok { IfOk result (λ exponent. exponent_of (private_at private.now) ≡ Some exponent.now) }
+    ensures err { IfErr result (λ _. exponent_of (private_at private.now) ≡ None) }
+{
+    let mut r = Reader::new(private);
+    let check = r.read_u32()?;
+    let again = r.read_u32()?;
+    let kind = r.read_string()?;
     let _modulus = r.read_mpint()?;
     let _public = r.read_mpint()?;
-    r.read_mpint()
+    let exponent = r.read_mpint()?;
+    if check == again && kind == RSA {
+        Ok(exponent)
+    } else {
+        Err(NO_KEY)
+    }
 }
 
 /// The blob of an RSA key from the line of its public key's file. SshEncoding where the file isn't one; Memory.
 pub fn known_blob(alloc: Global, text: &[u8]) -> Result<Blob, Error>
-    ensures { IfOk result (NamesHost text.now) }
+    ensures named { IfOk result (NamesHost text.now) }
+    ensures faulty { IfErr result (λ e. (e ≡ Memory) ⊎ NamesNone text.now) }
 {
     let (line, _behind) = cut(text, b'\n');
     let mut words = Words::of(line);

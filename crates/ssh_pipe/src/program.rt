@@ -1,26 +1,22 @@
 //! The top call of the program.
 
-ghost use Rattle.std.specs.Prelude.{◌≡◌, ◌⊎◌, ◌≤◌, ◌^◌, List, [], ℕ, Some, IfErr, IfOk};
+ghost use Rattle.std.specs.Prelude.{◌≡◌, ◌⊎◌, ◌≤◌, ◌+◌, ◌^◌, List, [], ℕ, Some, IfErr, IfOk, IfSome, length};
 ghost use Rattle.std.specs.Process.{exit_status};
 ghost use Rattle.ssh_wire.specs.Outside.{ReachesEnd, TakesFront};
+ghost use Rattle.ssh_program.specs.Programs.{AreWords};
 ghost use Rattle.ssh_program.specs.Statuses.{want_of_memory};
-ghost use Rattle.rand_chacha.specs.ChaCha.{ChaCha, of_seed};
-ghost use Rattle.ssh_kex.specs.declared.config.Config.{Config};
-ghost use Rattle.ssh_kex.specs.declared.parts.Parts.{Parts};
-ghost use Rattle.ssh_modp.specs.Counts.{Counts};
-ghost use Rattle.ssh_modp.specs.declared.groups.ModpGroups.{ModpGroups};
-ghost use Rattle.ssh_modp.specs.Hosts.{RsaAsked, is_known};
+ghost use Rattle.rand_chacha.specs.ChaCha.{of_seed};
+ghost use Rattle.ssh_modp.specs.Hosts.{is_known};
 ghost use Rattle.ssh_modp.specs.Rsa.{rsa_accepts};
 ghost use Rattle.ssh_rules.specs.Standing.{IsNew};
 ghost use Rattle.ssh_rules.specs.Valid.{config_fault};
 ghost use Rattle.ssh_wire.specs.declared.error.ConfigFault.{ConfigFault};
 ghost use Rattle.ssh_wire.specs.declared.error.Error.TheVariants.{InvalidConfig, Memory};
 ghost use Rattle.ssh_pipe.specs.Desks.{HasAnswered};
-ghost use Rattle.ssh_pipe.specs.Ends.{IsUnbegun, end_status};
-ghost use Rattle.ssh_pipe.specs.Keys.{IsSetUp};
+ghost use Rattle.ssh_pipe.specs.Keys.{IsFaultyFile, IsSetUp};
+ghost use Rattle.ssh_pipe.specs.Runs.{IsRun, IsRunWithKey};
 ghost use Rattle.ssh_pipe.specs.Talks.{Talked, TellsFault};
-ghost use Rattle.ssh_pipe.specs.declared.end.TalkEnd.{TalkEnd};
-ghost use Rattle.ssh_pipe.specs.declared.end.TalkEnd.TheVariants.{InputEnded, SinkFailed, SourceFailed};
+ghost use Rattle.ssh_pipe.specs.declared.end.TalkEnd.TheVariants.{Exhausted, InputEnded, SinkFailed, SourceFailed};
 
 use crate::command::{PipeCommand, command_of};
 use crate::desk::Desk;
@@ -36,7 +32,7 @@ use ssh_program::{NO_COMMAND, SCRIPT_FAULTY, StdSource, WANT_OF_MEMORY, Word, wo
 use ssh_rules::Asked;
 use ssh_transport::Transport;
 use ssh_wire::{Blob, Error, Side, Sink, Source};
-use std::alloc::Global;
+use std::alloc::{AllocError, Global};
 use std::env::Args;
 use std::fs::File;
 use std::io;
@@ -61,7 +57,26 @@ pub fn exit_code<R: Files + RandomSource, S: Source, K: Sink, N: Sink>(
     sink: &mut K,
     notes: &mut N,
 ) -> ExitCode
-    ensures { exit_status result ≤ want_of_memory }
+    ensures status { exit_status result ≤ want_of_memory }
+    ensures ran { ((exit_status result ≡ want_of_memory)
+        × (S.left source.new ≡ S.left source.old) × (K.held sink.new ≡ K.held sink.old))
+        ⊎ ((words : List (List ℕ)) × AreWords arguments words × IsRun
+        (λ config parts. ⟦<Parts<FieldAgreement, RsaHosts, ModpGroups, ChaCha20Rng> as Handed>⟧.says config parts)
+        (λ parts left. ⟦<Parts<FieldAgreement, RsaHosts, ModpGroups, ChaCha20Rng> as Handed>⟧.denies parts left)
+        (λ parts left. ⟦<Parts<FieldAgreement, RsaHosts, ModpGroups, ChaCha20Rng> as Asked>⟧.distrusts parts left)
+        words
+        (record {
+          left = S.left source.old;
+          held = K.held sink.old;
+          source_faults = S.faults source.old;
+          sink_faults = K.faults sink.old;
+        })
+        (record {
+          left = S.left source.new;
+          held = K.held sink.new;
+          source_faults = S.faults source.new;
+          sink_faults = K.faults sink.new;
+        }) (exit_status result)) }
 {
     match words_of(alloc, arguments) {
         Ok(words) => ExitCode::from(run(rt, alloc, words.as_slice(), source, sink, notes)),
@@ -78,15 +93,36 @@ fn run<R: Files + RandomSource, S: Source, K: Sink, N: Sink>(
     sink: &mut K,
     notes: &mut N,
 ) -> u8
-    ensures { result ≤ want_of_memory }
+    ensures status { result ≤ want_of_memory }
+    ensures ran { IsRun
+        (λ config parts. ⟦<Parts<FieldAgreement, RsaHosts, ModpGroups, ChaCha20Rng> as Handed>⟧.says config parts)
+        (λ parts left. ⟦<Parts<FieldAgreement, RsaHosts, ModpGroups, ChaCha20Rng> as Handed>⟧.denies parts left)
+        (λ parts left. ⟦<Parts<FieldAgreement, RsaHosts, ModpGroups, ChaCha20Rng> as Asked>⟧.distrusts parts left)
+        words.now
+        (record {
+          left = S.left source.old;
+          held = K.held sink.old;
+          source_faults = S.faults source.old;
+          sink_faults = K.faults sink.old;
+        })
+        (record {
+          left = S.left source.new;
+          held = K.held sink.new;
+          source_faults = S.faults source.new;
+          sink_faults = K.faults sink.new;
+        }) result }
 {
     let Some(command) = command_of(words) else {
         tell(USAGE, notes);
         return NO_COMMAND;
     };
-    let Some(text) = key_file(rt, alloc, command.file) else {
-        tell(b"sshpipe: the key's file can't be read\n", notes);
-        return SCRIPT_FAULTY;
+    let text = match key_file(rt, alloc, command.file) {
+        Ok(Some(text)) => text,
+        Ok(None) => {
+            tell(b"sshpipe: the key's file can't be read\n", notes);
+            return SCRIPT_FAULTY;
+        }
+        Err(_) => return WANT_OF_MEMORY,
     };
     let mut seed = [0; 32];
     if rt.fill_bytes(&mut seed).is_err() {
@@ -110,16 +146,23 @@ pub fn run_with_key<S: Source, K: Sink, N: Sink>(
     requires some { 1 ≤ command.now.limit }
     requires most { command.now.limit ≤ 2 ^ 30 }
     ensures status { result ≤ want_of_memory }
-    ensures ran { (IsUnbegun result × (S.left source.new ≡ S.left source.old) × (K.held sink.new ≡ K.held sink.old))
-        ⊎ ((config : Config) × (parts : Parts Counts RsaAsked ModpGroups ChaCha)
-        × (left : Parts Counts RsaAsked ModpGroups ChaCha) × (end : TalkEnd) × (bytes : List ℕ)
-        × IsSetUp command.now.side text.now command.now.limit config parts.hosts × (parts.rng ≡ of_seed seed)
-        × (result ≡ end_status end) × TakesFront bytes (S.left source.old) (S.left source.new)
-        × Talked command.now.side config
-        (⟦<Parts<FieldAgreement, RsaHosts, ModpGroups, ChaCha20Rng> as Handed>⟧.says config parts)
-        (⟦<Parts<FieldAgreement, RsaHosts, ModpGroups, ChaCha20Rng> as Handed>⟧.denies parts left)
-        (⟦<Parts<FieldAgreement, RsaHosts, ModpGroups, ChaCha20Rng> as Asked>⟧.distrusts parts left)
-        rsa_accepts (is_known parts.hosts.known) (K.held sink.old) bytes (K.held sink.new) end) }
+    ensures ran { IsRunWithKey
+        (λ config parts. ⟦<Parts<FieldAgreement, RsaHosts, ModpGroups, ChaCha20Rng> as Handed>⟧.says config parts)
+        (λ parts left. ⟦<Parts<FieldAgreement, RsaHosts, ModpGroups, ChaCha20Rng> as Handed>⟧.denies parts left)
+        (λ parts left. ⟦<Parts<FieldAgreement, RsaHosts, ModpGroups, ChaCha20Rng> as Asked>⟧.distrusts parts left)
+        command.now.side command.now.limit text.now seed
+        (record {
+          left = S.left source.old;
+          held = K.held sink.old;
+          source_faults = S.faults source.old;
+          sink_faults = K.faults sink.old;
+        })
+        (record {
+          left = S.left source.new;
+          held = K.held sink.new;
+          source_faults = S.faults source.new;
+          sink_faults = K.faults sink.new;
+        }) result }
 {
     match set_up(alloc, command, text, seed) {
         Ok((config, mut parts)) => {
@@ -146,23 +189,25 @@ pub fn run_with_key<S: Source, K: Sink, N: Sink>(
     }
 }
 
-/// The bytes of a file; none where it can't be read, or has over 65536 bytes.
-fn key_file<R: Files>(rt: &R, alloc: Global, name: &str) -> Option<Vec<u8>> {
-    let file = File::open(rt, name).ok()?;
-    let mut source = StdSource::new(file);
+/// The bytes of a file; none where it can't be read, or has over 65536 bytes. AllocError.
+fn key_file<R: Files>(rt: &R, alloc: Global, name: &str) -> Result<Option<Vec<u8>>, AllocError> {
     let mut text = Vec::new(alloc);
+    let Ok(file) = File::open(rt, name) else {
+        return Ok(None);
+    };
+    let mut source = StdSource::new(file);
     let mut buffer = [0; 4096];
     for _ in 0..LONGEST_FILE {
-        let n = source.read(&mut buffer).ok()?;
-        if n == 0 {
-            return Some(text);
+        match source.read(&mut buffer) {
+            Ok(0) => return Ok(Some(text)),
+            Ok(n) => text.extend_from_slice(&buffer[..n])?,
+            Err(_) => return Ok(None),
         }
-        text.extend_from_slice(&buffer[..n]).ok()?;
         if text.len() > LONGEST_FILE {
-            return None;
+            return Ok(None);
         }
     }
-    None
+    Ok(None)
 }
 
 /// The configuration and the parts of a side, by the text of its key's file. SshEncoding where the file isn't a key of
@@ -177,6 +222,7 @@ pub fn set_up(
     requires most { command.now.limit ≤ 2 ^ 30 }
     ensures hosts { IfOk result (λ v. IsSetUp command.now.side text.now command.now.limit v.0 v.1.hosts) }
     ensures rng { IfOk result (λ v. v.1.rng ≡ of_seed seed) }
+    ensures faulty { IfErr result (λ e. (e ≡ Memory) ⊎ IsFaultyFile command.now.side text.now) }
 {
     match command.side {
         Side::Server => {
@@ -214,6 +260,7 @@ pub fn talk_as<S: Source, K: Sink, N: Sink>(
         (⟦<Parts<FieldAgreement, RsaHosts, ModpGroups, ChaCha20Rng> as Asked>⟧.distrusts parts.old parts.new)
         rsa_accepts (is_known parts.old.hosts.known) (K.held sink.old) bytes (K.held sink.new) result }
     ensures whole { result ≡ InputEnded → ReachesEnd (S.left source.old) (S.left source.new) }
+    ensures long { result ≡ Exhausted → IfSome (S.left source.old) (λ left. 2 ^ 64 ≤ length left + 1) }
     ensures source { TellsFault SourceFailed (S.faults source.old) (S.faults source.new) result }
     ensures sink { TellsFault SinkFailed (K.faults sink.old) (K.faults sink.new) result }
 {

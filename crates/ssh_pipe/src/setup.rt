@@ -1,8 +1,8 @@
 //! How a side is set up.
 
-ghost use Rattle.std.specs.Prelude.{◌≡◌, ◌∷◌, ◌≤◌, ◌^◌, [], List, ℕ, IfOk, MatchOption, map};
-ghost use Rattle.ssh_negotiate.specs.declared.preferred.HostKey.{HostKey};
-ghost use Rattle.ssh_pipe.specs.Keys.{IsConfigOf};
+ghost use Rattle.std.specs.Prelude.{◌≡◌, ◌∷◌, ◌≤◌, ◌^◌, [], IfErr, IfOk, MatchOption};
+ghost use Rattle.ssh_wire.specs.declared.error.Error.TheVariants.{Memory};
+ghost use Rattle.ssh_pipe.specs.Setup.{pipe_config, pipe_preferences, rsa_host};
 ghost use Rattle.rand_chacha.specs.ChaCha.{of_seed};
 
 use rand_chacha::ChaCha20Rng;
@@ -28,8 +28,9 @@ pub type PipeParts = Parts<FieldAgreement, RsaHosts, ModpGroups, ChaCha20Rng>;
 pub fn config_of(alloc: Global, key: Option<&[u8]>, limit: usize) -> Result<Config, Error>
     requires some { 1 ≤ limit }
     requires most { limit ≤ 2 ^ 30 }
-    ensures { IfOk result (λ config. MatchOption key.entry (IsConfigOf [] limit config)
-        (λ blob. IsConfigOf (blob.now ∷ []) limit config)) }
+    ensures made { IfOk result (λ config. MatchOption key.entry (config ≡ pipe_config [] limit)
+        (λ blob. config ≡ pipe_config (blob.now ∷ []) limit)) }
+    ensures memory { IfErr result (λ e. e ≡ Memory) }
 {
     let keys = host_keys(alloc, key)?;
     let preferred = preferred_of(alloc)?;
@@ -49,7 +50,7 @@ pub fn config_of(alloc: Global, key: Option<&[u8]>, limit: usize) -> Result<Conf
 
 fn host_keys(alloc: Global, key: Option<&[u8]>) -> Result<Vec<HostKey>, AllocError>
     ensures { IfOk result (λ keys. MatchOption key.entry (keys.items ≡ [])
-        (λ blob. map (λ (k : HostKey). k.blob) keys.items ≡ blob.now ∷ [])) }
+        (λ blob. keys.items ≡ rsa_host blob.now ∷ [])) }
 {
     let mut keys = Vec::new(alloc);
     if let Some(blob) = key {
@@ -63,7 +64,10 @@ fn host_keys(alloc: Global, key: Option<&[u8]>) -> Result<Vec<HostKey>, AllocErr
 }
 
 /// What is offered: what the parts can do, and each cipher and MAC that isn't broken, the strongest first.
-fn preferred_of(alloc: Global) -> Result<Preferred, AllocError> {
+#[tactic(auto, unfolding(crate::specs::Setup::pipe_preferences))]
+fn preferred_of(alloc: Global) -> Result<Preferred, AllocError>
+    ensures { IfOk result (λ p. p ≡ pipe_preferences) }
+{
     let key = vec![in alloc;
         Algorithm::Rsa(Some(HashAlg::Sha512)),
         Algorithm::Rsa(Some(HashAlg::Sha256)),
@@ -80,7 +84,10 @@ fn preferred_of(alloc: Global) -> Result<Preferred, AllocError> {
 }
 
 /// The key exchanges of `FieldAgreement`, and the names of extension info and strict key exchange.
-fn exchanges(alloc: Global) -> Result<Vec<kex::Name>, AllocError> {
+#[tactic(auto, unfolding(crate::specs::Setup::pipe_preferences))]
+fn exchanges(alloc: Global) -> Result<Vec<kex::Name>, AllocError>
+    ensures { IfOk result (λ v. v.items ≡ pipe_preferences.kex) }
+{
     Ok(Vec::from_array(
         alloc,
         [
@@ -96,7 +103,10 @@ fn exchanges(alloc: Global) -> Result<Vec<kex::Name>, AllocError> {
     )?)
 }
 
-fn ciphers(alloc: Global) -> Result<Vec<cipher::Name>, AllocError> {
+#[tactic(auto, unfolding(crate::specs::Setup::pipe_preferences))]
+fn ciphers(alloc: Global) -> Result<Vec<cipher::Name>, AllocError>
+    ensures { IfOk result (λ v. v.items ≡ pipe_preferences.cipher) }
+{
     Ok(Vec::from_array(
         alloc,
         [
@@ -112,7 +122,10 @@ fn ciphers(alloc: Global) -> Result<Vec<cipher::Name>, AllocError> {
     )?)
 }
 
-fn macs(alloc: Global) -> Result<Vec<mac::Name>, AllocError> {
+#[tactic(auto, unfolding(crate::specs::Setup::pipe_preferences))]
+fn macs(alloc: Global) -> Result<Vec<mac::Name>, AllocError>
+    ensures { IfOk result (λ v. v.items ≡ pipe_preferences.mac) }
+{
     Ok(Vec::from_array(
         alloc,
         [

@@ -1,12 +1,12 @@
 //! The talk with the other side: pieces are read as they come, fed, and answered at once.
 
-ghost use Rattle.std.specs.Prelude.{◌≡◌, List, ℕ, [], ◌∷◌, None, true, false, IfErr, IfSome, OnOk};
+ghost use Rattle.std.specs.Prelude.{◌≡◌, ◌+◌, ◌^◌, ◌<◌, ◌≤◌, List, ℕ, [], ◌∷◌, None, true, false, IfErr, IfSome, OnOk, length};
 ghost use Rattle.ssh_rules.specs.Standing.{Submitted};
 ghost use Rattle.ssh_rules.specs.Valid.{is_good_payload};
 ghost use Rattle.ssh_wire.specs.Outside.{Appends, AppendsFront, ReachesEnd, Rose, TakesFront};
 ghost use Rattle.ssh_wire.specs.declared.error.Error.TheVariants.{Memory};
 ghost use Rattle.ssh_pipe.specs.Talks.{AnswersMore, Ends, IsCutAt, IsEndFor, Sends, TalksOn, TellsFault};
-ghost use Rattle.ssh_pipe.specs.declared.end.TalkEnd.TheVariants.{InputEnded, Refused, SinkFailed, SourceFailed};
+ghost use Rattle.ssh_pipe.specs.declared.end.TalkEnd.TheVariants.{Exhausted, InputEnded, Refused, SinkFailed, SourceFailed};
 
 use crate::desk::{Desk, Reply};
 use crate::end::TalkEnd;
@@ -40,6 +40,7 @@ pub fn talk<A: Agreement, H: HostKeys, G: GroupLookup, R: Rng, S: Source, K: Sin
         (⟦<Parts<A, H, G, R> as Asked>⟧.distrusts parts.old parts.new) desk.old transport.old
         (K.held sink.old) bytes (K.held sink.new) result }
     ensures whole { result ≡ InputEnded → ReachesEnd (S.left source.old) (S.left source.new) }
+    ensures long { result ≡ Exhausted → IfSome (S.left source.old) (λ left. 2 ^ 64 ≤ length left + 1) }
     ensures source { TellsFault SourceFailed (S.faults source.old) (S.faults source.new) result }
     ensures sink { TellsFault SinkFailed (K.faults sink.old) (K.faults sink.new) result }
 {
@@ -66,11 +67,12 @@ fn take_turns<A: Agreement, H: HostKeys, G: GroupLookup, R: Rng, S: Source, K: S
         (⟦<Parts<A, H, G, R> as Asked>⟧.distrusts parts.old parts.new) desk.old transport.old
         (K.held sink.old) bytes (K.held sink.new) result }
     ensures whole { result ≡ InputEnded → ReachesEnd (S.left source.old) (S.left source.new) }
+    ensures long { result ≡ Exhausted → IfSome (S.left source.old) (λ left. 2 ^ 64 ≤ length left + 1) }
     ensures source { TellsFault SourceFailed (S.faults source.old) (S.faults source.new) result }
     ensures sink { TellsFault SinkFailed (K.faults sink.old) (K.faults sink.new) result }
 {
     let mut told = 0;
-    'turns: for _ in 0..u64::MAX {
+    'turns: for _turn in 0..u64::MAX {
         let end = turn(alloc, transport, parts, desk, source, sink);
         told = tell_exchanges(alloc, transport, told, notes);
         match end {
@@ -116,13 +118,14 @@ fn turn<A: Agreement, H: HostKeys, G: GroupLookup, R: Rng, S: Source, K: Sink>(
     requires live { transport.old.failed ≡ false }
     ensures more { result ≡ None → (piece : List ℕ) × TakesFront piece (S.left source.old) (S.left source.new)
         × TalksOn (⟦<Parts<A, H, G, R> as Handed>⟧.says transport.old.config parts.old) desk.old transport.old
-        (K.held sink.old) piece desk.new transport.new (K.held sink.new) }
+        (K.held sink.old) piece desk.new transport.new (K.held sink.new) × (0 < length piece) }
     ensures ends { IfSome result (λ end. (piece : List ℕ) × TakesFront piece (S.left source.old) (S.left source.new)
         × Ends (⟦<Parts<A, H, G, R> as Handed>⟧.says transport.old.config parts.old)
         (⟦<Parts<A, H, G, R> as Handed>⟧.denies parts.old parts.new)
         (⟦<Parts<A, H, G, R> as Asked>⟧.distrusts parts.old parts.new) desk.old transport.old
         (K.held sink.old) piece (K.held sink.new) end) }
     ensures live { result ≡ None → transport.new.failed ≡ false }
+    ensures unspent { IfSome result (λ end. end ≡ Exhausted → ⊥) }
     ensures whole { IfSome result (λ end. end ≡ InputEnded → ReachesEnd (S.left source.old) (S.left source.new)) }
     ensures source { IfSome result (TellsFault SourceFailed (S.faults source.old) (S.faults source.new)) }
     ensures sink { IfSome result (TellsFault SinkFailed (K.faults sink.old) (K.faults sink.new)) }
@@ -151,13 +154,14 @@ fn read_on<A: Agreement, H: HostKeys, G: GroupLookup, R: Rng, S: Source, K: Sink
     requires sent { transport.old.output ≡ [] }
     ensures more { result ≡ None → (piece : List ℕ) × TakesFront piece (S.left source.old) (S.left source.new)
         × TalksOn (⟦<Parts<A, H, G, R> as Handed>⟧.says transport.old.config parts.old) desk.old transport.old
-        (K.held sink.old) piece desk.new transport.new (K.held sink.new) }
+        (K.held sink.old) piece desk.new transport.new (K.held sink.new) × (0 < length piece) }
     ensures ends { IfSome result (λ end. (piece : List ℕ) × TakesFront piece (S.left source.old) (S.left source.new)
         × Ends (⟦<Parts<A, H, G, R> as Handed>⟧.says transport.old.config parts.old)
         (⟦<Parts<A, H, G, R> as Handed>⟧.denies parts.old parts.new)
         (⟦<Parts<A, H, G, R> as Asked>⟧.distrusts parts.old parts.new) desk.old transport.old
         (K.held sink.old) piece (K.held sink.new) end) }
     ensures live { result ≡ None → transport.new.failed ≡ false }
+    ensures unspent { IfSome result (λ end. end ≡ Exhausted → ⊥) }
     ensures whole { IfSome result (λ end. end ≡ InputEnded → ReachesEnd (S.left source.old) (S.left source.new)) }
     ensures source { IfSome result (TellsFault SourceFailed (S.faults source.old) (S.faults source.new)) }
     ensures sink { IfSome result (TellsFault SinkFailed (K.faults sink.old) (K.faults sink.new)) }
@@ -215,6 +219,7 @@ fn take_piece<A: Agreement, H: HostKeys, G: GroupLookup, R: Rng, K: Sink>(
         (⟦<Parts<A, H, G, R> as Asked>⟧.distrusts parts.old parts.new) desk.old transport.old
         (K.held sink.old) piece.now (K.held sink.new) end) }
     ensures other { IfSome result (λ end. end ≡ InputEnded → ⊥) }
+    ensures unspent { IfSome result (λ end. end ≡ Exhausted → ⊥) }
     ensures unread { IfSome result (λ end. end ≡ SourceFailed → ⊥) }
     ensures sink { IfSome result (TellsFault SinkFailed (K.faults sink.old) (K.faults sink.new)) }
     ensures unfailed { result ≡ None → K.faults sink.new ≡ K.faults sink.old }

@@ -9,7 +9,7 @@ pub returns-in-Ok-eq0-clause-ends : goal.returns-in-Ok-eq0-clause-ends
 returns-in-Ok-eq0-clause-ends g c = ([], takes_nothing _ _ _ _ (search rules) c.in-Ok-eq0.ensures.next, ends_nowhere _ _ _ c.args.desk.now c.args.transport.now _ _ (c.requires.sent, c.requires.live))
 
 pub returns-in-Ok-clause-more : goal.returns-in-Ok-clause-more
-returns-in-Ok-clause-more g c = λ none. (_, takes_next _ _ _ _ c.in-Ok.ensures.next, c.take_piece.ensures.more none)
+returns-in-Ok-clause-more g c = λ none. (_, takes_next _ _ _ _ c.in-Ok.ensures.next, c.take_piece.ensures.more none, search rules)
 
 pub returns-in-Ok-clause-ends : goal.returns-in-Ok-clause-ends
 returns-in-Ok-clause-ends g c = some_weaker c.take_piece.result _ _ (λ end e. (_, takes_next _ _ _ _ c.in-Ok.ensures.next, e)) c.take_piece.ensures.ends

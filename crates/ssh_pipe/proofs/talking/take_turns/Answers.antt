@@ -1,4 +1,4 @@
-use Rattle.std.proofs.Common.{[], ◌++◌, ◌∙◌, refl, subst}
+use Rattle.std.proofs.Common.{[], ◌++◌, ◌∙◌, arith, length-append, refl, subst}
 use Rattle.ssh_kex.specs.Stepping.{denies_of, says_of}
 use Rattle.ssh_kex.specs.declared.config.Config.{Config}
 use Rattle.ssh_kex.specs.declared.exchange.ServerHost.{ServerHost}
@@ -11,7 +11,7 @@ use Rattle.ssh_pipe.proofs.talking.take_turns.Goals as goal
 
 pub turns-init : goal.turns-init
 turns-init g c = record {
-  gone = ([], takes_none _, talks_nowhere _ c.args.desk.now c.args.transport.now _);
+  gone = ([], takes_none _, talks_nowhere _ c.args.desk.now c.args.transport.now _, omega arith);
   live = c.requires.live;
   config = refl;
   source = refl;
@@ -26,7 +26,7 @@ turns-preserved g c =
     let inv = c.turns.invariant in
     let p = c.turn-end.ensures.more c.in-None.is in
     record {
-      gone = (inv.gone.0 ++ p.0, takes_join inv.gone.0 p.0 _ _ _ inv.gone.1 p.1, talks_behind (λ (k : Config). says_of g.A.Agreement.lawful g.A.Agreement.offered g.A.Agreement.client_makes g.A.Agreement.server_makes g.A.Agreement.agrees g.H.HostKeys.lawful g.H.HostKeys.signs g.H.HostKeys.judges g.H.HostKeys.accepts g.H.HostKeys.trusts g.H.HostKeys.makes g.G.GroupLookup.lawful g.G.GroupLookup.group k c.args.parts.now.agreement c.args.parts.now.hosts c.args.parts.now.groups) (λ (k : Config). says_of g.A.Agreement.lawful g.A.Agreement.offered g.A.Agreement.client_makes g.A.Agreement.server_makes g.A.Agreement.agrees g.H.HostKeys.lawful g.H.HostKeys.signs g.H.HostKeys.judges g.H.HostKeys.accepts g.H.HostKeys.trusts g.H.HostKeys.makes g.G.GroupLookup.lawful g.G.GroupLookup.group k c.turns.parts.agreement c.turns.parts.hosts c.turns.parts.groups) (λ (k : Config). kept_weaker _ _ _ _ _ _ _ _ _ _ g.H.HostKeys.makes _ _ _ _ _ _ _ _ _ _ _ _ _ _ _ _ _ _ _ inv.agreement inv.hosts inv.groups) c.args.desk.now c.turns.desk c.turn-end.new.desk c.args.transport.now _ inv.gone.0 c.turns.transport _ p.0 c.turn-end.new.transport _ inv.config inv.gone.2 p.2);
+      gone = (inv.gone.0 ++ p.0, takes_join inv.gone.0 p.0 _ _ _ inv.gone.1 p.1, talks_behind (λ (k : Config). says_of g.A.Agreement.lawful g.A.Agreement.offered g.A.Agreement.client_makes g.A.Agreement.server_makes g.A.Agreement.agrees g.H.HostKeys.lawful g.H.HostKeys.signs g.H.HostKeys.judges g.H.HostKeys.accepts g.H.HostKeys.trusts g.H.HostKeys.makes g.G.GroupLookup.lawful g.G.GroupLookup.group k c.args.parts.now.agreement c.args.parts.now.hosts c.args.parts.now.groups) (λ (k : Config). says_of g.A.Agreement.lawful g.A.Agreement.offered g.A.Agreement.client_makes g.A.Agreement.server_makes g.A.Agreement.agrees g.H.HostKeys.lawful g.H.HostKeys.signs g.H.HostKeys.judges g.H.HostKeys.accepts g.H.HostKeys.trusts g.H.HostKeys.makes g.G.GroupLookup.lawful g.G.GroupLookup.group k c.turns.parts.agreement c.turns.parts.hosts c.turns.parts.groups) (λ (k : Config). kept_weaker _ _ _ _ _ _ _ _ _ _ g.H.HostKeys.makes _ _ _ _ _ _ _ _ _ _ _ _ _ _ _ _ _ _ _ inv.agreement inv.hosts inv.groups) c.args.desk.now c.turns.desk c.turn-end.new.desk c.args.transport.now _ inv.gone.0 c.turns.transport _ p.0 c.turn-end.new.transport _ inv.config inv.gone.2 p.2, let e = length-append inv.gone.0 p.0 in let a = inv.gone.3 in let b = p.3 in omega (arith, e, a, b));
       live = c.turn-end.ensures.live c.in-None.is;
       config = c.turn-end.ensures.config c.in-None.is ∙ inv.config;
       source = (c.turn-end.ensures.unfailed c.in-None.is).0 ∙ inv.source;

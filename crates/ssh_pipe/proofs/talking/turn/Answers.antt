@@ -7,7 +7,7 @@ use Rattle.ssh_pipe.proofs.talking.turn.Goals as goal
 pub returns-then-send-clause-more : goal.returns-then-send-clause-more
 returns-then-send-clause-more g c = λ none.
     let p = c.read_on.ensures.more none in
-    (p.0, p.1, talks_sent_before (λ (k : Config). says_of g.A.Agreement.lawful g.A.Agreement.offered g.A.Agreement.client_makes g.A.Agreement.server_makes g.A.Agreement.agrees g.H.HostKeys.lawful g.H.HostKeys.signs g.H.HostKeys.judges g.H.HostKeys.accepts g.H.HostKeys.trusts g.H.HostKeys.makes g.G.GroupLookup.lawful g.G.GroupLookup.group k c.args.parts.now.agreement c.args.parts.now.hosts c.args.parts.now.groups) c.args.desk.now c.read_on.new.desk c.args.transport.now c.send.new.transport _ _ _ p.0 _ (c.send.ensures.sent c.if-send.true) p.2)
+    (p.0, p.1, talks_sent_before (λ (k : Config). says_of g.A.Agreement.lawful g.A.Agreement.offered g.A.Agreement.client_makes g.A.Agreement.server_makes g.A.Agreement.agrees g.H.HostKeys.lawful g.H.HostKeys.signs g.H.HostKeys.judges g.H.HostKeys.accepts g.H.HostKeys.trusts g.H.HostKeys.makes g.G.GroupLookup.lawful g.G.GroupLookup.group k c.args.parts.now.agreement c.args.parts.now.hosts c.args.parts.now.groups) c.args.desk.now c.read_on.new.desk c.args.transport.now c.send.new.transport _ _ _ p.0 _ (c.send.ensures.sent c.if-send.true) p.2, p.3)
 
 pub returns-then-send-clause-ends : goal.returns-then-send-clause-ends
 returns-then-send-clause-ends g c = some_weaker c.read_on.result _ _ (λ end p. (p.0, p.1, ends_sent_before (λ (k : Config). says_of g.A.Agreement.lawful g.A.Agreement.offered g.A.Agreement.client_makes g.A.Agreement.server_makes g.A.Agreement.agrees g.H.HostKeys.lawful g.H.HostKeys.signs g.H.HostKeys.judges g.H.HostKeys.accepts g.H.HostKeys.trusts g.H.HostKeys.makes g.G.GroupLookup.lawful g.G.GroupLookup.group k c.args.parts.now.agreement c.args.parts.now.hosts c.args.parts.now.groups) _ _ c.args.desk.now c.args.transport.now c.send.new.transport _ _ _ p.0 end (c.send.ensures.sent c.if-send.true) p.2)) c.read_on.ensures.ends
