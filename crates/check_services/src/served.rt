@@ -1,7 +1,7 @@
 //! Rows on a server that grants services over a transport.
 
 use crate::messages::{note, say_answers, services_in};
-use machine_rows::{config_of, feed, key_of, submit, trusted_by};
+use machine_rows::{config_of, feed, key_of, lent, submit, trusted_by};
 use rand_core::Rng;
 use ssh_kex::{Agreement, Config, GexParams, GroupLookup, HostKeys, Parts};
 use ssh_negotiate::ServerKeys;
@@ -80,7 +80,12 @@ fn with_client<A: Agreement, H: HostKeys, G: GroupLookup, R: Rng>(
     found: &mut Found,
 ) -> Result<(), Fault> {
     match Transport::client(row.alloc(), config) {
-        Ok(mut client) => with_server(config, &mut client, parts, services, row, found),
+        Ok(client) => {
+            lent(
+                client,
+                |client| with_server(config, client, parts, services, row, found),
+            )
+        }
         Err(error) => Err(Fault::from(error)),
     }
 }
@@ -95,8 +100,11 @@ fn with_server<A: Agreement, H: HostKeys, G: GroupLookup, R: Rng>(
     found: &mut Found,
 ) -> Result<(), Fault> {
     match Transport::server(row.alloc(), config) {
-        Ok(mut server) => {
-            say_talk(client, &mut server, parts, services, row, found);
+        Ok(server) => {
+            lent(
+                server,
+                |server| say_talk(client, server, parts, services, row, found),
+            );
             Ok(())
         }
         Err(error) => Err(Fault::from(error)),

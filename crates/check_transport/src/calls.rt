@@ -1,8 +1,8 @@
 //! Rows of one side's transport: its configuration, and calls one after the other.
 
 use machine_rows::{
-    config_of, feed, key_of, keys_of, poll_payload, rekey, side_of, submit, take_input, times,
-    trusted_by,
+    config_of, feed, key_of, keys_of, lent, poll_payload, rekey, side_of, submit, take_input,
+    times, trusted_by,
 };
 use rand_core::Rng;
 use ssh_kex::{Agreement, Config, GexParams, GroupLookup, HostKeys, Parts};
@@ -118,10 +118,10 @@ fn say_calls(
     row: &mut Row<'_>,
     found: &mut Found,
 ) -> Result<(), Fault> {
-    match &mut transport_of(row.alloc(), side, config) {
-        Ok(transport) => called(transport, config, row, found),
+    match transport_of(row.alloc(), side, config) {
+        Ok(transport) => lent(transport, |transport| called(transport, config, row, found)),
         Err(error) => {
-            found.say_shown(error);
+            found.say_shown(&error);
             Ok(())
         }
     }
