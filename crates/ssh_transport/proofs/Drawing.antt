@@ -1,5 +1,5 @@
 -- What a side sends of itself is padded, and its cookie drawn, by what the generator gives next.
-use Rattle.std.proofs.Common.{◌≡◌, ℕ, ◌<◌, ◌++◌, List, [], ◌∷◌, length, Some, None, Option, Bool, true, Result, Ok, Err, OnOk, OnErr, refl, sym, ap, ◌∙◌, subst, arith, append-nil, inl, inr}
+use Rattle.std.proofs.Common.{◌≡◌, ℕ, ◌<◌, ◌++◌, List, [], ◌∷◌, length, Some, None, Option, Bool, true, false, Result, Ok, Err, IfOk, OnOk, OnErr, refl, sym, ap, ◌∙◌, subst, arith, append-nil, inl, inr}
 use Rattle.std.specs.Borrow.{Bor}
 use Rattle.rand_core.specs.Stream.{Stream}
 use Rattle.ssh_wire.specs.declared.error.Error.{Error}
@@ -9,13 +9,16 @@ use Rattle.ssh_negotiate.specs.Reading.{behind_cookie, kexinit_drawn}
 use Rattle.ssh_negotiate.specs.declared.kex.KexCause.{KexCause}
 use Rattle.ssh_packet.specs.Sealing.{IsAdmissible, item_of}
 use Rattle.ssh_packet.specs.Writing.{SameButRoom, Sends, Writer}
+use Rattle.ssh_kex.specs.Setting.{Says}
 use Rattle.ssh_kex.specs.Stages.{Machine}
 use Rattle.ssh_kex.specs.declared.config.Config.{Config}
-use Rattle.ssh_transport.specs.Drawing.{AtMostNext, GoesNext, kexinit_packet, packet_with, writing_at}
+use Rattle.ssh_rules.specs.Log.{sent_bytes}
+use Rattle.ssh_transport.specs.Drawing.{AtMostNext, DrawsFirst, GoesNext, OpensDrawn, kexinit_packet, packet_with, writing_at}
 use Rattle.ssh_transport.specs.Kexinits.{setting_between}
 use Rattle.ssh_transport.specs.Saying.{GoesOn, IsUnsaid}
-use Rattle.ssh_transport.specs.States.{standing_of}
+use Rattle.ssh_transport.specs.States.{is_silent, standing_of, stands_of, with_more}
 use Rattle.ssh_transport.specs.Stopping.{IsAsBefore, WantsKeys}
+use Rattle.ssh_transport.specs.Taking.{PollsOne, Reads, read_by}
 use Rattle.ssh_transport.specs.declared.connection.Connection.{Connection}
 use Rattle.ssh_transport.specs.declared.session.Session.{Session}
 use Rattle.ssh_transport.proofs.Kexinits.{between_config, between_side, sends_item}
@@ -49,7 +52,7 @@ opened_drawn s m w' cause peer stream e h =
 -- ---- a payload
 
 pub sealed_next : (s s1 s' : Session) (read : ℕ) (p : List ℕ) (stream : Stream) → 0 < length p → Sends s.writer p stream s1.writer → GoesOn s1 read s' → GoesNext s.writer.output (packet_with (writing_at s.writer) p stream) s'.writer.output
-sealed_next s s1 s' read p stream l h g = (Rattle.ssh_rules.specs.Log.sent_bytes s1.side (record { sealing = s1.writer.sealing; number = s1.writer.number }) g.events, g.writes.output ∙ ap (λ (t : List ℕ). t ++ Rattle.ssh_rules.specs.Log.sent_bytes s1.side (record { sealing = s1.writer.sealing; number = s1.writer.number }) g.events) (sent_next s.writer s1.writer p stream l h))
+sealed_next s s1 s' read p stream l h g = (sent_bytes s1.side (record { sealing = s1.writer.sealing; number = s1.writer.number }) g.events, g.writes.output ∙ ap (λ (t : List ℕ). t ++ sent_bytes s1.side (record { sealing = s1.writer.sealing; number = s1.writer.number }) g.events) (sent_next s.writer s1.writer p stream l h))
 
 -- outside an exchange nothing is held, so all that memory was wanting for is the exchange that a limit begins
 pub sealed_alone : (s s1 s' : Session) (read : ℕ) (p : List ℕ) (stream : Stream) → 0 < length p → Sends s.writer p stream s1.writer → s1 ≡ record s { writer = s1.writer } → WantsKeys s1 read s'
@@ -76,3 +79,26 @@ left_answer {T} c c' s' P (Err x) done d r h = subst (λ (y : Result T Error). O
 pub drawn_answer : {T : Type 0} (c c' : Connection) (s' : Session) (P : List ℕ → Type 0) (answer done : Result T Error) → done ≡ answer → OnOk answer (c' ≡ record c { session = s' }) → OnOk answer (P s'.writer.output) → OnOk done (P (standing_of c').output)
 drawn_answer {T} c c' s' P (Ok u) done d e h = subst (λ (y : Result T Error). OnOk y (P (standing_of c').output)) (sym d) (subst (λ (x : Connection). P x.session.writer.output) (sym e) h)
 drawn_answer {T} c c' s' P (Err x) done d e h = subst (λ (y : Result T Error). OnOk y (P (standing_of c').output)) (sym d) tt
+
+-- ---- the first KEXINIT of a side, which its call began
+
+-- what goes behind it leaves it there
+first_goes : (c heard c' : Connection) (stream : Stream) (sent : List ℕ) → OpensDrawn c.session heard.session stream → c'.session.writer.output ≡ heard.session.writer.output ++ sent → DrawsFirst (standing_of c) (standing_of c') stream
+first_goes c heard c' stream sent h e = λ silent begun. (sent, e ∙ ap (λ (o : List ℕ). o ++ sent) (h silent))
+
+pub first_read : (says : Says) (c kept heard c' : Connection) (more : List ℕ) (stream : Stream) (answer : Result (Unit {0}) Error) → kept ≡ record c { reader = kept.reader } → OpensDrawn kept.session heard.session stream → OnOk answer (Reads says (with_more heard more) c') → OnOk answer (DrawsFirst (standing_of c) (standing_of c') stream)
+first_read says c kept heard c' more stream (Ok u) e h r = first_goes c heard c' stream (sent_bytes heard.session.side (record { sealing = heard.session.writer.sealing; number = heard.session.writer.number }) r.events) (subst (λ (s : Session). OpensDrawn s heard.session stream) (ap (λ (x : Connection). x.session) e) h) r.output
+first_read says c kept heard c' more stream (Err x) e h r = tt
+
+pub first_polled : (says : Says) (c heard c' : Connection) (stream : Stream) (answer : Result Bool Error) → OpensDrawn c.session heard.session stream → IfOk answer (λ lends. PollsOne says heard (read_by lends) c') → OnOk answer (DrawsFirst (standing_of c) (standing_of c') stream)
+first_polled says c heard c' stream (Ok true) h r = first_goes c heard c' stream _ h r.goes.output
+first_polled says c heard c' stream (Ok false) h r = first_goes c heard c' stream _ h r.0.output
+first_polled says c heard c' stream (Err x) h r = tt
+
+-- before the end of the other's version line none is begun
+pub first_awaited : (c kept heard : Connection) (stream : Stream) → kept ≡ record c { reader = kept.reader } → heard.session ≡ record kept.session { line = heard.session.line } → DrawsFirst (standing_of c) (standing_of heard) stream
+first_awaited c kept heard stream e s = λ silent begun. absurd (let f : true ≡ false = sym silent ∙ (sym (ap (λ (x : Connection). is_silent (stands_of x.session.finished.items x.session.kex)) e) ∙ (sym (ap (λ (x : Session). is_silent (stands_of x.finished.items x.kex)) s) ∙ begun)) in cc)
+
+pub first_answer : {T : Type 0} (c taken c' : Connection) (stream : Stream) (answer done : Result T Error) → done ≡ answer → OnOk answer (c' ≡ taken) → OnOk answer (DrawsFirst (standing_of c) (standing_of taken) stream) → OnOk done (DrawsFirst (standing_of c) (standing_of c') stream)
+first_answer {T} c taken c' stream (Ok u) done d e h = subst (λ (y : Result T Error). OnOk y (DrawsFirst (standing_of c) (standing_of c') stream)) (sym d) (subst (λ (x : Connection). DrawsFirst (standing_of c) (standing_of x) stream) (sym e) h)
+first_answer {T} c taken c' stream (Err x) done d e h = subst (λ (y : Result T Error). OnOk y (DrawsFirst (standing_of c) (standing_of c') stream)) (sym d) tt

@@ -1,6 +1,7 @@
 -- What a call that lends the next payload leaves, as contracts see it.
 use Rattle.std.proofs.Common.{◌≡◌, ℕ, Bool, true, false, List, [], Option, Some, None, Result, Ok, Err, IfErr, IfOk, OnErr, OnOk, sym, subst}
 use Rattle.std.specs.Borrow.{Bor}
+use Rattle.rand_core.specs.Stream.{Stream}
 use Rattle.ssh_wire.specs.declared.error.Error.{Error}
 use Rattle.ssh_wire.specs.declared.error.Error.TheVariants.{Disconnect}
 use Rattle.ssh_kex.specs.Refusals.{Denies}
@@ -12,6 +13,7 @@ use Rattle.ssh_rules.specs.Polling.{LendsPayload, Polls, queued}
 use Rattle.ssh_rules.specs.Refusing.{RefusesPiece}
 use Rattle.ssh_rules.specs.Standing.{Standing, unfinished}
 use Rattle.ssh_rules.proofs.Lemmas.{input_few}
+use Rattle.ssh_transport.specs.Drawing.{DrawsFirst}
 use Rattle.ssh_transport.specs.Lending.{PollsAs}
 use Rattle.ssh_transport.specs.Taking.{lent_by}
 
@@ -29,13 +31,13 @@ LendsFor (Err x) handed (Err e) = e.now ≡ x
 alive : (old : Standing) (lends : Bool) (P : Type 0) → (old.failed ≡ true → Ok lends ≡ Err Disconnect) → old.failed ≡ true → P
 alive old lends P h f = absurd (let e = h f in cc)
 
-polls_as : (says : Says) (denies : Denies) (untrusted : ServerHost → Type 0) (n n' : PartCalls) (old new : Standing) (handed : List ℕ) (answer : Result Bool Error) (result : Result (Option (Bor (List ℕ))) (Bor Error)) → LendsFor answer handed result
+polls_as : (says : Says) (denies : Denies) (untrusted : ServerHost → Type 0) (n n' : PartCalls) (stream : Stream) (old new : Standing) (handed : List ℕ) (answer : Result Bool Error) (result : Result (Option (Bor (List ℕ))) (Bor Error)) → LendsFor answer handed result
     → (old.failed ≡ true → answer ≡ Err Disconnect) → (old.failed ≡ true → new ≡ old) → (new.side ≡ old.side) × (new.config ≡ old.config)
     → (old.failed ≡ false → OnOk answer (new.failed ≡ false)) → (old.failed ≡ false → OnErr answer ((new.failed ≡ true) × (unfinished new ≡ [])))
     → new.delivered ≡ old.delivered → IfOk answer (λ lends. Polls says old (lent_by lends handed) new) → (old.failed ≡ false → IfErr answer (λ e. RefusesPiece says denies untrusted old [] e new))
-    → OnOk answer (AsksWithin old.side old.state new.state n n') → (old.failed ≡ false → OnErr answer (RefusesAsking says old [] new n n'))
-    → PollsAs says denies untrusted n n' old result new
-polls_as says denies untrusted n n' old new handed (Ok true) (Ok (Some p)) rel dead same stays lives ends unqueued polled refused asks asked = record {
+    → OnOk answer (AsksWithin old.side old.state new.state n n') → (old.failed ≡ false → OnErr answer (RefusesAsking says old [] new n n')) → OnOk answer (DrawsFirst old new stream)
+    → PollsAs says denies untrusted n n' stream old result new
+polls_as says denies untrusted n n' stream old new handed (Ok true) (Ok (Some p)) rel dead same stays lives ends unqueued polled refused asks asked drawn = record {
   dead = λ f. alive old true _ dead f;
   stays = stays;
   lives = lives;
@@ -46,11 +48,12 @@ polls_as says denies untrusted n n' old new handed (Ok true) (Ok (Some p)) rel d
   asks = asks;
   few = input_few says old (queued new p.now) n n' asks;
   asks_refused = λ f. tt;
+  drawn = drawn;
 }
-polls_as says denies untrusted n n' old new handed (Ok true) (Ok None) rel dead same stays lives ends unqueued polled refused asks asked = absurd rel
-polls_as says denies untrusted n n' old new handed (Ok true) (Err e) rel dead same stays lives ends unqueued polled refused asks asked = absurd rel
-polls_as says denies untrusted n n' old new handed (Ok false) (Ok (Some p)) rel dead same stays lives ends unqueued polled refused asks asked = absurd rel
-polls_as says denies untrusted n n' old new handed (Ok false) (Ok None) rel dead same stays lives ends unqueued polled refused asks asked = record {
+polls_as says denies untrusted n n' stream old new handed (Ok true) (Ok None) rel dead same stays lives ends unqueued polled refused asks asked drawn = absurd rel
+polls_as says denies untrusted n n' stream old new handed (Ok true) (Err e) rel dead same stays lives ends unqueued polled refused asks asked drawn = absurd rel
+polls_as says denies untrusted n n' stream old new handed (Ok false) (Ok (Some p)) rel dead same stays lives ends unqueued polled refused asks asked drawn = absurd rel
+polls_as says denies untrusted n n' stream old new handed (Ok false) (Ok None) rel dead same stays lives ends unqueued polled refused asks asked drawn = record {
   dead = λ f. alive old false _ dead f;
   stays = stays;
   lives = lives;
@@ -61,10 +64,11 @@ polls_as says denies untrusted n n' old new handed (Ok false) (Ok None) rel dead
   asks = asks;
   few = input_few says old new n n' asks;
   asks_refused = λ f. tt;
+  drawn = drawn;
 }
-polls_as says denies untrusted n n' old new handed (Ok false) (Err e) rel dead same stays lives ends unqueued polled refused asks asked = absurd rel
-polls_as says denies untrusted n n' old new handed (Err x) (Ok o) rel dead same stays lives ends unqueued polled refused asks asked = absurd rel
-polls_as says denies untrusted n n' old new handed (Err x) (Err e) rel dead same stays lives ends unqueued polled refused asks asked = record {
+polls_as says denies untrusted n n' stream old new handed (Ok false) (Err e) rel dead same stays lives ends unqueued polled refused asks asked drawn = absurd rel
+polls_as says denies untrusted n n' stream old new handed (Err x) (Ok o) rel dead same stays lives ends unqueued polled refused asks asked drawn = absurd rel
+polls_as says denies untrusted n n' stream old new handed (Err x) (Err e) rel dead same stays lives ends unqueued polled refused asks asked drawn = record {
   dead = λ f. (sym_is rel (dead f), same f);
   stays = stays;
   lives = λ f. tt;
@@ -75,6 +79,7 @@ polls_as says denies untrusted n n' old new handed (Err x) (Err e) rel dead same
   asks = tt;
   few = tt;
   asks_refused = asked;
+  drawn = tt;
 } where
   sym_is : e.now ≡ x → (let r : Result Bool Error = Err x in r) ≡ Err Disconnect → e.now ≡ Disconnect
   sym_is a b = cc
@@ -90,11 +95,11 @@ pub lends_refusal : (answer : Result Bool Error) (handed : List ℕ) (x : Error)
 lends_refusal answer handed x b e h = subst (λ (a : Result Bool Error). LendsFor a handed (Err b)) (sym e) h
 
 -- of the value that its caller sees
-pub polls_seen : (says : Config → Says) (denies : Denies) (untrusted : ServerHost → Type 0) (n n' : PartCalls) (old t new : Standing) (handed : List ℕ) (answer : Result Bool Error) (result : Result (Option (Bor (List ℕ))) (Bor Error)) → old ≡ t → LendsFor answer handed result
+pub polls_seen : (says : Config → Says) (denies : Denies) (untrusted : ServerHost → Type 0) (n n' : PartCalls) (stream : Stream) (old t new : Standing) (handed : List ℕ) (answer : Result Bool Error) (result : Result (Option (Bor (List ℕ))) (Bor Error)) → old ≡ t → LendsFor answer handed result
     → (old.failed ≡ true → answer ≡ Err Disconnect) → (old.failed ≡ true → new ≡ old) → (new.side ≡ old.side) × (new.config ≡ old.config)
     → (old.failed ≡ false → OnOk answer (new.failed ≡ false)) → (old.failed ≡ false → OnErr answer ((new.failed ≡ true) × (unfinished new ≡ [])))
     → new.delivered ≡ old.delivered → IfOk answer (λ lends. Polls (says old.config) old (lent_by lends handed) new) → (old.failed ≡ false → IfErr answer (λ e. RefusesPiece (says old.config) denies untrusted old [] e new))
-    → OnOk answer (AsksWithin old.side old.state new.state n n') → (old.failed ≡ false → OnErr answer (RefusesAsking (says old.config) old [] new n n'))
-    → PollsAs (says t.config) denies untrusted n n' t result new
-polls_seen says denies untrusted n n' old t new handed answer result same rel dead kept stays lives ends unqueued polled refused asks asked =
-    subst (λ (x : Standing). PollsAs (says x.config) denies untrusted n n' x result new) same (polls_as (says old.config) denies untrusted n n' old new handed answer result rel dead kept stays lives ends unqueued polled refused asks asked)
+    → OnOk answer (AsksWithin old.side old.state new.state n n') → (old.failed ≡ false → OnErr answer (RefusesAsking (says old.config) old [] new n n')) → OnOk answer (DrawsFirst old new stream)
+    → PollsAs (says t.config) denies untrusted n n' stream t result new
+polls_seen says denies untrusted n n' stream old t new handed answer result same rel dead kept stays lives ends unqueued polled refused asks asked drawn =
+    subst (λ (x : Standing). PollsAs (says x.config) denies untrusted n n' stream x result new) same (polls_as (says old.config) denies untrusted n n' stream old new handed answer result rel dead kept stays lives ends unqueued polled refused asks asked drawn)

@@ -1,5 +1,5 @@
 -- What a side sends of itself, with what it draws for it.
-use Rattle.std.specs.Prelude.{◌≡◌, ℕ, List, ◌++◌, Some, None, ◌⊎◌}
+use Rattle.std.specs.Prelude.{◌≡◌, ℕ, true, false, List, ◌++◌, Some, None, ◌⊎◌}
 use Rattle.rand_core.specs.Stream.{Stream}
 use Rattle.ssh_wire.specs.declared.side.Side.{Side}
 use Rattle.ssh_wire.specs.declared.side.Side.TheVariants.{Client, Server}
@@ -8,6 +8,9 @@ use Rattle.ssh_packet.specs.Sealing.{item_of, sealed_packet}
 use Rattle.ssh_packet.specs.Writing.{Writer}
 use Rattle.ssh_kex.specs.declared.config.Config.{Config}
 use Rattle.ssh_rules.specs.Machine.{Spot}
+use Rattle.ssh_rules.specs.Standing.{Standing}
+use Rattle.ssh_transport.specs.States.{is_silent, stands_of}
+use Rattle.ssh_transport.specs.declared.session.Session.{Session}
 
 -- where a writer stands
 abbrev pub writing_at : Writer → Spot
@@ -33,3 +36,13 @@ GoesNext old packet new = (rest : List ℕ) × (new ≡ (old ++ packet) ++ rest)
 -- nothing went behind the output, or this packet alone
 abbrev pub AtMostNext : List ℕ → List ℕ → List ℕ → Type 0
 AtMostNext old packet new = (new ≡ old) ⊎ (new ≡ old ++ packet)
+
+-- Where a session had begun no exchange, its first KEXINIT is what it wrote, drawn so.
+abbrev pub OpensDrawn : Session → Session → Stream → Type 0
+OpensDrawn s s' stream = is_silent (stands_of s.finished.items s.kex) ≡ true
+    → s'.writer.output ≡ s.writer.output ++ kexinit_packet s.side s.config.now (writing_at s.writer) stream
+
+-- Where a side that had begun no exchange has begun one, the KEXINIT of its first one went behind the output, drawn so.
+abbrev pub DrawsFirst : (old new : Standing) → Stream → Type 0
+DrawsFirst old new stream = is_silent old.state.stands ≡ true → is_silent new.state.stands ≡ false
+    → GoesNext old.output (kexinit_packet old.side old.config old.state.writing stream) new.output

@@ -3,6 +3,7 @@ use Rattle.std.specs.Prelude.{◌≡◌, true, false, ℕ, List, [], Option, Som
 use Rattle.std.specs.Borrow.{Bor, Fml, MutBor}
 use Rattle.std.specs.Io.BufRead.{Rests}
 use mir.Syntax.{named}
+use Rattle.rand_core.specs.Stream.{Stream}
 use Rattle.ssh_wire.specs.declared.error.Error.{Error}
 use Rattle.ssh_wire.specs.declared.error.Error.TheVariants.{Disconnect}
 use Rattle.ssh_kex.specs.Refusals.{Denies}
@@ -12,6 +13,7 @@ use Rattle.ssh_rules.specs.Asking.{AsksFew, AsksWithin, PartCalls, RefusesAsking
 use Rattle.ssh_rules.specs.Polling.{Polls, queued}
 use Rattle.ssh_rules.specs.Refusing.{RefusesPiece}
 use Rattle.ssh_rules.specs.Standing.{Standing, unfinished}
+use Rattle.ssh_transport.specs.Drawing.{DrawsFirst}
 use Rattle.ssh_transport.specs.contracts.transport.Transport.{the_row}
 
 -- the payload that is lent
@@ -30,9 +32,9 @@ queued_by None t = t
 queued_by (Some payload) t = queued t payload
 
 -- What a call that lends the next payload leaves, when the loan is over. The parts were asked so often before and so
--- often behind it.
+-- often behind it, and the generator gave these words next.
 pub record PollsAs (says : Says) (denies : Denies) (untrusted : ServerHost → Type 0) (calls calls' : PartCalls)
-    (old : Standing) (result : Result (Option (Bor (List ℕ))) (Bor Error)) (new : Standing) : Type 0 where
+    (stream : Stream) (old : Standing) (result : Result (Option (Bor (List ℕ))) (Bor Error)) (new : Standing) : Type 0 where
   pub dead : old.failed ≡ true → IsRefusedWith result Disconnect × (new ≡ old)
   pub stays : (new.side ≡ old.side) × (new.config ≡ old.config)
   pub lives : old.failed ≡ false → OnOk result (new.failed ≡ false)
@@ -43,8 +45,9 @@ pub record PollsAs (says : Says) (denies : Denies) (untrusted : ServerHost → T
   pub asks : OnOk result (AsksWithin old.side old.state new.state calls calls')
   pub few : IfOk result (λ lent. AsksFew says old (queued_by (payload_in lent) new) calls calls')
   pub asks_refused : old.failed ≡ false → OnErr result (RefusesAsking says old [] new calls calls')
+  pub drawn : OnOk result (DrawsFirst old new stream)
 
-abbrev pub LendsPoll : Says → Denies → (ServerHost → Type 0) → (calls calls' : PartCalls) → MutBor Standing
+abbrev pub LendsPoll : Says → Denies → (ServerHost → Type 0) → (calls calls' : PartCalls) → Stream → MutBor Standing
     → Result (Option (Bor (List ℕ))) (Bor Error) → Fml
-LendsPoll says denies untrusted calls calls' s result =
-    Rests (the_row (record { mir = named 1; lft = [] })) s (PollsAs says denies untrusted calls calls' s.now result)
+LendsPoll says denies untrusted calls calls' stream s result =
+    Rests (the_row (record { mir = named 1; lft = [] })) s (PollsAs says denies untrusted calls calls' stream s.now result)

@@ -44,7 +44,7 @@ impl<'c> Connection<'c> {
     ghost use Rattle.ssh_packet.specs.Reading.{window_length};
     ghost use Rattle.ssh_rules.specs.Standing.{IsNew, Rekeyed, Submitted, WaitsInPart, input_room, is_outside, unfinished, with_input};
     ghost use Rattle.ssh_wire.specs.Reading.{waiting_length};
-    ghost use Rattle.ssh_transport.specs.Drawing.{AtMostNext, GoesNext, kexinit_packet, packet_with};
+    ghost use Rattle.ssh_transport.specs.Drawing.{AtMostNext, DrawsFirst, GoesNext, OpensDrawn, kexinit_packet, packet_with};
     ghost use Rattle.ssh_transport.specs.Handling.{IsHeard, IsOpen};
     ghost use Rattle.ssh_transport.specs.Hearing.{EndsBy};
     ghost use Rattle.ssh_transport.specs.Kept.{IsKept, IsLive};
@@ -94,6 +94,7 @@ impl<'c> Connection<'c> {
         ensures ends { self.old.failed ≡ false → OnErr result ((self.new.failed ≡ true)
             × (unfinished (standing_of self.new) ≡ [])) }
         ensures fed { OnOk result (⟦<Parts<A, H, G, R> as Served>⟧.feeds self.old parts.old piece.now self.new) }
+        ensures drawn { OnOk result (DrawsFirst (standing_of self.old) (standing_of self.new) (R.stream parts.old.rng)) }
         ensures refused { self.old.failed ≡ false → IfErr result
             (λ e. ⟦<Parts<A, H, G, R> as Served>⟧.refuses_piece self.old parts.old parts.new piece.now e self.new) }
         ensures keeps { ⟦<Parts<A, H, G, R> as Handed>⟧.keeps parts.old parts.new }
@@ -127,6 +128,7 @@ impl<'c> Connection<'c> {
             × (unfinished (standing_of self.new) ≡ [])) }
         ensures polled { IfOk result (λ lends. ⟦<Parts<A, H, G, R> as Served>⟧.polls self.old parts.old lends
             self.new) }
+        ensures drawn { OnOk result (DrawsFirst (standing_of self.old) (standing_of self.new) (R.stream parts.old.rng)) }
         ensures refused { self.old.failed ≡ false → IfErr result
             (λ e. ⟦<Parts<A, H, G, R> as Served>⟧.refuses_piece self.old parts.old parts.new [] e self.new) }
         ensures wants { self.old.failed ≡ false → result ≡ Err Memory → ⟦<Parts<A, H, G, R> as Served>⟧.may_want
@@ -158,6 +160,7 @@ impl<'c> Connection<'c> {
         ensures settled { OnOk result (WaitsBehind self.new.session.line self.new.reader.waiting) }
         ensures takes { IfOk result (λ lends. ⟦<Parts<A, H, G, R> as Served>⟧.takes_payload self.old parts.old lends
             self.new) }
+        ensures drawn { OnOk result (DrawsFirst (standing_of self.old) (standing_of self.new) (R.stream parts.old.rng)) }
         ensures fails { IfErr result (λ e. ⟦<Parts<A, H, G, R> as Served>⟧.fails self.old parts.old parts.new
             self.old.reader.waiting e self.new) }
         ensures wants { result ≡ Err Memory → ⟦<Parts<A, H, G, R> as Served>⟧.may_want self.old parts.old }
@@ -350,6 +353,7 @@ impl<'c> Connection<'c> {
         ensures settled { OnOk result (WaitsBehind self.new.session.line self.new.reader.waiting) }
         ensures took { OnOk result (⟦<Parts<A, H, G, R> as Served>⟧.takes self.old parts.old
             (self.old.reader.waiting ++ piece.now) self.new) }
+        ensures drawn { OnOk result (DrawsFirst (standing_of self.old) (standing_of self.new) (R.stream parts.old.rng)) }
         ensures fails { IfErr result (λ e. ⟦<Parts<A, H, G, R> as Served>⟧.fails self.old parts.old parts.new
             (self.old.reader.waiting ++ piece.now) e self.new) }
         ensures fixed { IsFixed self.old.session self.new.session }
@@ -410,6 +414,9 @@ impl<'c> Connection<'c> {
         ensures fails { IfErr result (λ e. HearsNothing (emptied self.old) self.old.reader.waiting e self.new) }
         ensures ended { result ≡ Err Memory → EndsBy self.old.session.side self.old.session.line
             self.old.reader.waiting }
+        ensures drawn { result ≡ Ok true → OpensDrawn self.old.session self.new.session (R.stream rng.old) }
+        ensures still { result ≡ Ok false → self.new.session ≡ record self.old.session
+            { line = self.new.session.line } }
         ensures fixed { IsFixed self.old.session self.new.session }
         ensures unfailed { self.new.failed ≡ self.old.failed }
     {

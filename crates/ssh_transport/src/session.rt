@@ -3,7 +3,7 @@
 ghost use Rattle.std.specs.Prelude.{◌≡◌, [], ◌++◌, ◌+◌, ◌<◌, ◌≤◌, ◌-◌, if◌then◌else◌, ◌^◌, ◌||◌, ◌&&◌, ◌⊎◌, ℕ, nat_le, not, List, Some, Ok, Err, true, false, IfErr, IfOk, IfSome, OnErr, OnOk, length, take};
 ghost use Rattle.ssh_rules.specs.MessageTypes.{is_payload_type, is_violation};
 ghost use Rattle.ssh_transport.specs.Asking.{asks_trust};
-ghost use Rattle.ssh_transport.specs.Drawing.{AtMostNext, GoesNext, kexinit_packet, packet_with, writing_at};
+ghost use Rattle.ssh_transport.specs.Drawing.{AtMostNext, GoesNext, OpensDrawn, kexinit_packet, packet_with, writing_at};
 ghost use Rattle.ssh_transport.specs.Stopping.{IsDistrusted};
 ghost use Rattle.ssh_transport.specs.declared.session.Handled.TheVariants.{Delivers};
 ghost use Rattle.ssh_kex.specs.Parts.{KeepsHosts};
@@ -123,6 +123,7 @@ impl<'c> Session<'c> {
         ensures fixed { IsFixed self.old self.new }
         ensures opened { IsOpen self.old → OnOk result (IsOpen self.new) }
         ensures line { IfOk result (λ used. HearsLine self.old piece.now used self.new) }
+        ensures drawn { IfOk result (λ used. IfSome used (λ _. OpensDrawn self.old self.new (R.stream rng.old))) }
         ensures unheard { IfErr result (λ e. HearsNot self.old piece.now e self.new) }
         ensures ended { IsUnheard self.old → result ≡ Err Memory → EndsBy self.old.side self.old.line piece.now }
     {

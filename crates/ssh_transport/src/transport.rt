@@ -47,7 +47,7 @@ impl<'c> Model for Transport<'c> {
 impl<'c> Transport<'c> {
     ghost use Rattle.ssh_rules.specs.Polling.{MayWant};
     ghost use Rattle.ssh_rules.specs.Standing.{IsNew, Rekeyed, Submitted, TakesInput, input_room, is_outside, most_unfinished, unfinished, with_input};
-    ghost use Rattle.ssh_transport.specs.Drawing.{AtMostNext, GoesNext, kexinit_packet, packet_with};
+    ghost use Rattle.ssh_transport.specs.Drawing.{AtMostNext, DrawsFirst, GoesNext, kexinit_packet, packet_with};
     ghost use Rattle.ssh_transport.specs.Lending.{IsRefusedWith, LendsPoll};
     ghost use Rattle.ssh_transport.specs.Submitting.{Breaks};
 
@@ -87,7 +87,8 @@ impl<'c> Transport<'c> {
     }
 
     /// Takes the next bytes that the other side sent, however they are cut: its version line, and then its packets,
-    /// each as soon as it is whole. Payloads are delivered, and the messages that are due are written. A refusal is the
+    /// each as soon as it is whole. Payloads are delivered, and the messages that are due are written. The cookie of the
+    /// first KEXINIT and its padding are what the handed-in generator gives next (RFC 4253 section 7.1). A refusal is the
     /// end of the transport: each later `feed`, `submit` and `rekey` answers Disconnect, and what was delivered stays.
     ///
     /// Disconnect after a refusal, and at a DISCONNECT; Version where what stands there is no version line (RFC 4253
@@ -107,6 +108,7 @@ impl<'c> Transport<'c> {
         ensures ends { self.old.failed ≡ false → OnErr result ((self.new.failed ≡ true) × (unfinished self.new ≡ [])) }
         ensures fed { OnOk result (TakesInput (⟦<Parts<A, H, G, R> as Handed>⟧.says self.old.config parts.old) self.old
             piece.now self.new) }
+        ensures drawn { OnOk result (DrawsFirst self.old self.new (R.stream parts.old.rng)) }
         ensures refused { self.old.failed ≡ false → IfErr result
             (λ e. RefusesPiece (⟦<Parts<A, H, G, R> as Handed>⟧.says self.old.config parts.old)
             (⟦<Parts<A, H, G, R> as Handed>⟧.denies parts.old parts.new)
@@ -160,7 +162,7 @@ impl<'c> Transport<'c> {
             (⟦<Parts<A, H, G, R> as Handed>⟧.denies parts.old parts.new)
             (⟦<Parts<A, H, G, R> as Asked>⟧.distrusts parts.old parts.new)
             (⟦<Parts<A, H, G, R> as Asked>⟧.calls parts.old) (⟦<Parts<A, H, G, R> as Asked>⟧.calls parts.new)
-            self.entry result) }
+            (R.stream parts.old.rng) self.entry result) }
         ensures dead { self.old.failed ≡ true → IsRefusedWith result Disconnect × (parts.new ≡ parts.old) }
         ensures memory { self.old.failed ≡ false → IsRefusedWith result Memory → MayWant
             (⟦<Parts<A, H, G, R> as Handed>⟧.says self.old.config parts.old) self.old }

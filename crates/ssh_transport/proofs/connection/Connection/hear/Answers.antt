@@ -3,6 +3,7 @@ use Rattle.ssh_wire.specs.declared.error.Error.{Error}
 use Rattle.ssh_wire.specs.declared.error.Error.TheVariants.{Memory}
 use Rattle.ssh_packet.specs.Reading.{Reader}
 use Rattle.ssh_transport.specs.Asking.{nowhere}
+use Rattle.ssh_transport.specs.Drawing.{OpensDrawn}
 use Rattle.ssh_transport.specs.Hearing.{EndsBy}
 use Rattle.ssh_transport.specs.Saying.{IsSettled}
 use Rattle.ssh_transport.specs.States.{WaitsBehind}
@@ -66,3 +67,9 @@ returns-in_err-used-clause-ended g c = λ e.
     let p = err_from_is_err_and c.from_residual.result c.from_residual.ensures.1 in
     subst (λ (b : List ℕ). EndsBy c.args.self.now.session.side c.args.self.now.session.line b) c.unread.ensures
     (c.hear.ensures.ended (λ s. (c.requires.settled nowhere).silent s) (c.in_err-used.was ∙ ap (λ (x : Error). Err x) (sym p.2 ∙ which_error c.from_residual.result p.0 Memory p.1 e)))
+
+pub returns-clause-drawn : goal.returns-clause-drawn
+returns-clause-drawn g c = λ e. some_of c.in_ok-used.field-0 c.in-Some.used (OpensDrawn c.args.self.now.session c.hear.new.self (g.R.Rng.stream c.args.rng.now)) c.in-Some.is c.in_ok-used.ensures.drawn
+
+pub returns-in_default-clause-still : goal.returns-in_default-clause-still
+returns-in_default-clause-still g c = λ e. (heard_at c.args.self.now c.hear.new.self c.unread.result.now c.in_ok-used.field-0 None c.unread.ensures c.in_default.is c.in_ok-used.ensures.line).2

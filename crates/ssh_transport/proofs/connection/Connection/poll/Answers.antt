@@ -1,4 +1,5 @@
 use Rattle.ssh_transport.specs.States.{emptied}
+use Rattle.ssh_transport.proofs.Drawing.{first_answer}
 use Rattle.ssh_transport.proofs.Failing.{asked_answer, asks_answer, fails_alone, refused_answer}
 use Rattle.ssh_transport.proofs.Inputs.{polled_answer}
 use Rattle.ssh_transport.proofs.connection.Connection.poll.Goals as goal
@@ -14,3 +15,6 @@ returns-clause-asks g c = asks_answer _ _ c.args.self.now c.take_payload-polled.
 
 pub returns-clause-asked : goal.returns-clause-asked
 returns-clause-asked g c = λ f. asked_answer _ _ _ _ _ c.args.self.now c.take_payload-polled.new.self c.fail_on.new.self _ c.take_payload-polled.result c.fail_on.result c.fail_on.ensures.result c.take_payload-polled.ensures.fixed c.fail_on.ensures.breaks c.fail_on.ensures.rests (fails_alone _ _ _ _ (emptied c.args.self.now) c.take_payload-polled.new.self c.args.self.now.reader.waiting c.take_payload-polled.result c.take_payload-polled.ensures.fails)
+
+pub returns-clause-drawn : goal.returns-clause-drawn
+returns-clause-drawn g c = first_answer c.args.self.now c.take_payload-polled.new.self c.fail_on.new.self _ c.take_payload-polled.result c.fail_on.result c.fail_on.ensures.result c.fail_on.ensures.same c.take_payload-polled.ensures.drawn

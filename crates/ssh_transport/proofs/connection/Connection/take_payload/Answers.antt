@@ -1,4 +1,4 @@
-use Rattle.std.proofs.Common.{Bool, Err, Ok, ap, ◌∙◌, sym}
+use Rattle.std.proofs.Common.{Bool, Err, Ok, ap, refl, ◌∙◌, sym}
 use Rattle.ssh_wire.specs.declared.error.Error.{Error}
 use Rattle.ssh_wire.specs.declared.error.Error.TheVariants.{Memory}
 use Rattle.ssh_kex.specs.Stepping.{says_of}
@@ -6,6 +6,7 @@ use Rattle.ssh_kex.specs.declared.config.Config.{Config}
 use Rattle.ssh_transport.specs.States.{emptied}
 use Rattle.std.proofs.lemmas.Result.{err_from_is_err_and}
 use Rattle.ssh_transport.proofs.Asking.{between_heard, between_join, to_later, to_still, where_ok}
+use Rattle.ssh_transport.proofs.Drawing.{first_awaited, first_polled}
 use Rattle.ssh_transport.proofs.Failing.{fails_hearing, fails_read}
 use Rattle.ssh_transport.proofs.Inputs.{takes_nothing, takes_polled}
 use Rattle.ssh_transport.proofs.Kept.{live_emptied}
@@ -42,3 +43,9 @@ returns-then-is_heard-clause-asks g c = where_ok c.read_payload.result _ _ (λ a
 
 pub returns-clause-asks : goal.returns-clause-asks
 returns-clause-asks g c = between_heard (emptied c.args.self.now) c.hear.new.self c.args.self.now.reader.waiting _ c.in_ok-is_heard.ensures.heard
+
+pub returns-then-is_heard-clause-drawn : goal.returns-then-is_heard-clause-drawn
+returns-then-is_heard-clause-drawn g c = first_polled (says_of g.A.Agreement.lawful g.A.Agreement.offered g.A.Agreement.client_makes g.A.Agreement.server_makes g.A.Agreement.agrees g.H.HostKeys.lawful g.H.HostKeys.signs g.H.HostKeys.judges g.H.HostKeys.accepts g.H.HostKeys.trusts g.H.HostKeys.makes g.G.GroupLookup.lawful g.G.GroupLookup.group c.hear.new.self.session.config.now c.args.parts.now.agreement c.args.parts.now.hosts c.args.parts.now.groups) c.args.self.now c.hear.new.self c.read_payload.new.self _ c.read_payload.result (c.hear.ensures.drawn (c.in_ok-is_heard.was ∙ ap (λ (b : Bool). Ok b) c.if-is_heard.true)) c.read_payload.ensures.reads
+
+pub returns-clause-drawn : goal.returns-clause-drawn
+returns-clause-drawn g c = first_awaited c.args.self.now c.args.self.now c.hear.new.self _ refl (c.hear.ensures.still (c.in_ok-is_heard.was ∙ ap (λ (b : Bool). Ok b) c.if-is_heard.false))

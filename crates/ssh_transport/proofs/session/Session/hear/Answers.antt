@@ -1,9 +1,10 @@
-use Rattle.std.proofs.Common.{Ok, Some, refl, sym, ◌∙◌, subst}
+use Rattle.std.proofs.Common.{◌≡◌, Ok, Some, true, false, refl, sym, ◌∙◌, subst}
 use Rattle.std.proofs.lemmas.Result.{err_from_is_err_and}
 use Rattle.ssh_wire.specs.declared.error.Error.TheVariants.{Memory}
 use Rattle.ssh_wire.specs.Reading.{Feeds}
 use Rattle.ssh_wire.specs.declared.read_id.IdProgress.{IdProgress}
 use Rattle.ssh_wire.specs.declared.read_id.IdProgress.TheVariants as progress
+use Rattle.ssh_transport.specs.Drawing.{OpensDrawn}
 use Rattle.ssh_transport.specs.Saying.{IsSettled}
 use Rattle.ssh_transport.specs.declared.session.Session.{Session}
 use Rattle.ssh_transport.proofs.Hearing.{settled_begun, settled_late, settled_not_yet}
@@ -52,3 +53,9 @@ returns-in_err-feed-clause-ended g c = λ u e.
 
 pub returns-in_err-begin-in-Id-clause-ended : goal.returns-in_err-begin-in-Id-clause-ended
 returns-in_err-begin-in-Id-clause-ended g c = λ u e. ends_by c.passes_others.result c.args.self.now.side c.args.self.now.line c.args.piece.now c.in_ok-feed.field-0 c.in-Id.used c.feed.new.self c.passes_others.ensures c.in-Id.is (u (silent_is _ (sym c.is_first_due.ensures ∙ c.if-is_first_due.true))) c.in_ok-feed.ensures.fed
+
+pub returns-after-is_first_due-clause-drawn : goal.returns-after-is_first_due-clause-drawn
+returns-after-is_first_due-clause-drawn g c = elim c.if-is_first_due.branch [
+  | then-is_first_due+in_ok-begin-in-Id w ↦ subst (λ (x : Session). OpensDrawn c.args.self.now x (g.R.Rng.stream c.args.rng.now)) (sym w.self-is) (λ silent. w.in_ok-begin-in-Id.ensures.drawn)
+  | else-is_first_due w ↦ λ silent. absurd (let f : true ≡ false = sym silent ∙ (sym c.is_first_due.ensures ∙ w.if-is_first_due.false) in cc)
+]

@@ -4,6 +4,7 @@ use Rattle.ssh_rules.specs.Asking.{AsksWithin, RefusesAsking, counted_by}
 use Rattle.ssh_rules.specs.Refusing.{RefusesPiece, RefusesPieceAsking, untrusted_of}
 use Rattle.ssh_rules.specs.Standing.{Standing, TakesInput}
 use Rattle.ssh_rules.proofs.Lemmas.{input_few}
+use Rattle.ssh_transport.specs.Drawing.{DrawsFirst}
 use Rattle.ssh_transport.specs.States.{standing_of}
 use Rattle.ssh_transport.proofs.Saying.{on_ok}
 use Rattle.ssh_transport.proofs.transport.Transport.feed.Goals as goal
@@ -25,3 +26,6 @@ returns-clause-few g c = on_ok c.feed.result _ _ (λ h. input_few _ c.args.self.
 
 pub returns-clause-refused_few : goal.returns-clause-refused_few
 returns-clause-refused_few g c = subst (λ (t : Standing). t.failed ≡ false → IfErr c.feed.result (λ e. RefusesPieceAsking (says_of g.A.Agreement.lawful g.A.Agreement.offered g.A.Agreement.client_makes g.A.Agreement.server_makes g.A.Agreement.agrees g.H.HostKeys.lawful g.H.HostKeys.signs g.H.HostKeys.judges g.H.HostKeys.accepts g.H.HostKeys.trusts g.H.HostKeys.makes g.G.GroupLookup.lawful g.G.GroupLookup.group t.config c.args.parts.now.agreement c.args.parts.now.hosts c.args.parts.now.groups) (denies_of g.A.Agreement.obliging g.A.Agreement.offered g.A.Agreement.client_makes g.A.Agreement.server_makes g.A.Agreement.refusals g.H.HostKeys.signs g.H.HostKeys.judges g.H.HostKeys.accepts g.H.HostKeys.refused_sign g.H.HostKeys.refused_verify g.G.GroupLookup.obliging g.G.GroupLookup.refusals c.args.parts.now.agreement c.feed.new.parts.agreement c.args.parts.now.hosts c.feed.new.parts.hosts c.args.parts.now.groups c.feed.new.parts.groups) (untrusted_of g.H.HostKeys.judges g.H.HostKeys.trusts g.H.HostKeys.refused_check c.args.parts.now.hosts c.feed.new.parts.hosts) t c.args.piece.now e (standing_of c.feed.new.self) (counted_by g.A.Agreement.calls g.H.HostKeys.calls g.G.GroupLookup.calls c.args.parts.now.agreement c.args.parts.now.hosts c.args.parts.now.groups) (counted_by g.A.Agreement.calls g.H.HostKeys.calls g.G.GroupLookup.calls c.feed.new.parts.agreement c.feed.new.parts.hosts c.feed.new.parts.groups))) c.self.view_is c.feed.ensures.refused_few
+
+pub returns-clause-drawn : goal.returns-clause-drawn
+returns-clause-drawn g c = on_ok c.feed.result _ _ (λ h. subst (λ (t : Standing). DrawsFirst t (standing_of c.feed.new.self) (g.R.Rng.stream c.args.parts.now.rng)) c.self.view_is h) c.feed.ensures.drawn
