@@ -18,7 +18,7 @@ use Rattle.ssh_rules.specs.Standing.{HearsBy, IsNew, IsNoId, OfFault, OfMemory, 
 use Rattle.ssh_rules.specs.Valid.{config_fault}
 use Rattle.ssh_rules.proofs.Lemmas.{LineGoes, behind_more, heard_stays, line_goes, no_bytes, read_join, recorded_is, run_signed, steps_join}
 use Rattle.ssh_kex.specs.Refusals.{Denies}
-use Rattle.ssh_pipe.specs.Desks.{DeskState, HasAnswered, login_service, was_granted}
+use Rattle.ssh_pipe.specs.Desks.{DeskState, HasAnswered, first_of, first_said, login_service, was_granted}
 use Rattle.ssh_pipe.specs.Known.{IsSignedClient}
 use Rattle.ssh_pipe.specs.Talks.{Ends, IsRefusedUnfed, Fed, FedLast, Follows, Handed, Move, Talked, fed_in, untouched}
 use Rattle.ssh_pipe.specs.declared.end.TalkEnd.{TalkEnd}
@@ -204,7 +204,7 @@ has_untouched says side config fed sent answered t r = record { log = r.log; sta
 
 -- a new side that came to an end
 pub talked_as : (says : Says) (denies : Denies) (untrusted : ServerHost → Type 0) (accepts : Accepting) (trusts : Trusting) (side : Side) (config : Config) (start : Standing) (desk : DeskState) (held : Option (List ℕ)) (fed : List ℕ) (held' : Option (List ℕ)) (end : TalkEnd)
-    → Answered says accepts trusts → IsNew side config start → desk.side ≡ side → HasAnswered desk [] → Ends says denies untrusted desk start held fed held' end → Talked side config says denies untrusted accepts trusts held fed held' end
+    → Answered says accepts trusts → IsNew side config start → desk.side ≡ side → HasAnswered desk [] → Ends says denies untrusted desk (first_said (first_of desk.side)) start held fed held' end → Talked side config says denies untrusted accepts trusts held fed held' end
 talked_as says denies untrusted accepts trusts side config start desk held fed held' end answers new of_side fresh ends = record {
   start = start;
   new = new;

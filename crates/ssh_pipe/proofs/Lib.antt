@@ -1,3 +1,4 @@
+pub mod Armour
 pub mod FirstLines
 pub mod Ways
 pub mod Known

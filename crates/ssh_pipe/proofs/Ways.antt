@@ -21,11 +21,11 @@ use Rattle.ssh_service.proofs.Lemmas.{grant_good}
 use Rattle.ssh_transport.proofs.Lemmas.{Denying, Weaker, input_still, piece_still, steps_weaker, submitted_still}
 use Rattle.ssh_service.specs.Messages.{spelling}
 use Rattle.ssh_service.specs.declared.message.ServiceMessage.TheVariants.{Request}
-use Rattle.ssh_pipe.specs.Desks.{DeskState, HasAnswered, IsAsking, IsSaid, LetsNobodyIn, first_of, login_service, reply_to, was_granted}
+use Rattle.ssh_pipe.specs.Desks.{AreReplies, DeskState, HasAnswered, IsAsking, IsSaid, LetsNobodyIn, SaysBefore, first_of, first_said, login_service, reply_to, was_granted}
 use Rattle.ssh_pipe.specs.declared.desk.Reply.{Reply}
 use Rattle.ssh_pipe.specs.declared.desk.Reply.TheVariants as replies
 use Rattle.ssh_pipe.specs.declared.desk.Reply.TheVariants.{Message}
-use Rattle.ssh_pipe.specs.Talks.{AnswersMore, Ends, EndsRefused, EndsWell, GetsReply, HasFault, IsCutAt, IsEndFor, IsGranted, Sends, Fed, FedLast, Follows, Goes, Handed, Move, Moves, MovesBy, TalksOn, fed_in, piece_of, untouched}
+use Rattle.ssh_pipe.specs.Talks.{Answers, AnswersMore, Ends, EndsRefused, EndsWell, GetsReply, HasFault, IsCutAt, IsEndFor, IsGranted, Fed, FedLast, Follows, Goes, Handed, Move, Moves, MovesBy, SaysBack, SaysFirst, TalksOn, fed_in, piece_of, said_in, untouched}
 use Rattle.ssh_pipe.specs.declared.end.TalkEnd.{TalkEnd}
 use Rattle.ssh_pipe.specs.declared.end.TalkEnd.TheVariants.{Disconnected, Exhausted, Granted, InputEnded, NotServed, Refused, SinkFailed, SourceFailed}
 
@@ -110,6 +110,16 @@ follows_join says (m ∷ ms) ns old mid new h k = (h.0, h.1, follows_join says m
 fed_join : (ms ns : List Move) → fed_in (ms ++ ns) ≡ fed_in ms ++ fed_in ns
 fed_join [] ns = refl
 fed_join (m ∷ ms) ns = ap (λ x. piece_of m ++ x) (fed_join ms ns) ∙ sym (append_assoc (piece_of m) (fed_in ms) (fed_in ns))
+
+said_join : (ms ns : List Move) → said_in (ms ++ ns) ≡ said_in ms ++ said_in ns
+said_join [] ns = refl
+said_join (Fed piece ∷ ms) ns = said_join ms ns
+said_join (FedLast piece ∷ ms) ns = said_join ms ns
+said_join (Handed payload ∷ ms) ns = ap (λ l. payload ∷ l) (said_join ms ns)
+
+said_handed : (payloads : List (List ℕ)) → said_in (map Handed payloads) ≡ payloads
+said_handed [] = refl
+said_handed (p ∷ payloads) = ap (λ l. p ∷ l) (said_handed payloads)
 
 -- ---- sources and sinks
 
@@ -280,14 +290,47 @@ goes_weaker x y w a h0 f b h1 g = record {
 
 -- ---- what a desk answered
 
-pub answers_none : (d : DeskState) → AnswersMore d [] d
-answers_none d = (refl, λ earlier h. subst (λ l. HasAnswered d l) (sym (append-nil earlier)) h)
+before_more : (reply : Reply) (said rest more : List (List ℕ)) → SaysBefore reply said rest → SaysBefore reply (said ++ more) (rest ++ more)
+before_more replies.Silent said rest more h = ap (λ l. l ++ more) h
+before_more (Message payload) said rest more h = ap (λ l. l ++ more) h
+before_more replies.NotServed said rest more h = h
+before_more (replies.Bad e) said rest more h = h
 
-pub answers_join : (d mid d' : DeskState) (xs ys : List (List ℕ)) → AnswersMore d xs mid → AnswersMore mid ys d' → AnswersMore d (xs ++ ys) d'
-answers_join d mid d' xs ys h k = (k.0 ∙ h.0, λ earlier a. subst (λ l. HasAnswered d' l) (append_assoc earlier xs ys) (k.1 (earlier ++ xs) (h.1 earlier a)))
+replies_join : (side : Side) (earlier xs ys a b : List (List ℕ)) → AreReplies side earlier xs a → AreReplies side (earlier ++ xs) ys b → AreReplies side earlier (xs ++ ys) (a ++ b)
+replies_join side earlier [] ys a b h k = subst (λ l. AreReplies side earlier ys (l ++ b)) (sym h) (subst (λ l. AreReplies side l ys b) (append-nil earlier) k)
+replies_join side earlier (p ∷ xs) ys a b h k =
+    (h.0 ++ b, before_more (reply_to side earlier p) a h.0 b h.1, replies_join side (earlier ++ p ∷ []) xs ys h.0 b h.2 (subst (λ l. AreReplies side l ys b) (sym (append_assoc earlier (p ∷ []) xs)) k))
 
-pub reply_behind : (d mid : DeskState) (xs ys : List (List ℕ)) (reply : Reply) → AnswersMore d xs mid → GetsReply mid ys reply → GetsReply d (xs ++ ys) reply
-reply_behind d mid xs ys reply h g = record {
+pub answers_none : (d : DeskState) → AnswersMore d [] [] d
+answers_none d = (refl, λ earlier h. subst (λ l. HasAnswered d l) (sym (append-nil earlier)) h, λ earlier h. refl)
+
+pub answers_join : (d mid d' : DeskState) (xs ys a b : List (List ℕ)) → AnswersMore d xs a mid → AnswersMore mid ys b d' → AnswersMore d (xs ++ ys) (a ++ b) d'
+answers_join d mid d' xs ys a b h k = (
+  k.0 ∙ h.0,
+  λ earlier z. subst (λ l. HasAnswered d' l) (append_assoc earlier xs ys) (k.1 (earlier ++ xs) (h.1 earlier z)),
+  λ earlier z. replies_join d.side earlier xs ys a b (h.2 earlier z) (subst (λ s. AreReplies s (earlier ++ xs) ys b) h.0 (k.2 (earlier ++ xs) (h.1 earlier z))),
+)
+
+-- what is said behind a way
+said_behind : (p q : DeskState) (end : TalkEnd) (first xs ys a : List (List ℕ)) (ms ns : List Move) → said_in ms ≡ first ++ a → AnswersMore p xs a q → SaysBack q [] ys ns end → SaysBack p first (xs ++ ys) (ms ++ ns) end
+said_behind p q end first xs ys a ms ns is k (inl (e, at, unmoved, unanswered)) = inr (λ earlier z. (
+  a,
+  said_join ms ns ∙ (ap (λ (l : List Move). said_in ms ++ said_in l) unmoved ∙ (append-nil (said_in ms) ∙ is)),
+  subst (λ l. AreReplies p.side earlier (xs ++ l) a) (sym unanswered) (subst (λ l. AreReplies p.side earlier l a) (sym (append-nil xs)) (k.2 earlier z)),
+))
+said_behind p q end first xs ys a ms ns is k (inr f) = inr (λ earlier z.
+    let r = f (earlier ++ xs) (k.1 earlier z) in (
+      a ++ r.0,
+      said_join ms ns ∙ (ap (λ l. l ++ said_in ns) is ∙ (append_assoc first a (said_in ns) ∙ ap (λ l. first ++ (a ++ l)) r.1)),
+      replies_join p.side earlier xs ys a r.0 (k.2 earlier z) (subst (λ s. AreReplies s (earlier ++ xs) ys r.0) k.0 r.2),
+    ))
+
+-- where nothing was answered, nothing is said
+said_none : (d : DeskState) (moves : List Move) (end : TalkEnd) → said_in moves ≡ [] → SaysBack d [] [] moves end
+said_none d moves end is = inr (λ earlier z. ([], is, refl))
+
+pub reply_behind : (d mid : DeskState) (xs ys a : List (List ℕ)) (reply : Reply) → AnswersMore d xs a mid → GetsReply mid ys reply → GetsReply d (xs ++ ys) reply
+reply_behind d mid xs ys a reply h g = record {
   before = xs ++ g.before;
   payload = g.payload;
   behind = g.behind;
@@ -335,10 +378,10 @@ refused_weaker x y d e u v w t old moves error new r = record {
   refuses = piece_still y x e d v u w t r.mid r.piece error new r.refuses;
 }
 
-well_behind : (refused refused' : Error → Type 0) → ((e : Error) → refused e → refused' e) → (p q : DeskState) (xs ys : List (List ℕ)) → AnswersMore p xs q → (end : TalkEnd) (at : Standing) → EndsWell refused q ys end at → EndsWell refused' p (xs ++ ys) end at
-well_behind refused refused' f p q xs ys h InputEnded at w = w
-well_behind refused refused' f p q xs ys h Disconnected at w = (w.0, w.1, f errors.Disconnect w.2)
-well_behind refused refused' f p q xs ys h Granted at w = (
+well_behind : (refused refused' : Error → Type 0) → ((e : Error) → refused e → refused' e) → (p q : DeskState) (xs ys a : List (List ℕ)) → AnswersMore p xs a q → (end : TalkEnd) (at : Standing) → EndsWell refused q ys end at → EndsWell refused' p (xs ++ ys) end at
+well_behind refused refused' f p q xs ys a h InputEnded at w = w
+well_behind refused refused' f p q xs ys a h Disconnected at w = (w.0, w.1, f errors.Disconnect w.2)
+well_behind refused refused' f p q xs ys a h Granted at w = (
   w.0,
   w.1,
   record {
@@ -348,52 +391,67 @@ well_behind refused refused' f p q xs ys h Granted at w = (
     outside = w.2.outside;
   },
 )
-well_behind refused refused' f p q xs ys h (Refused e) at (inl w) = inl (w.0, w.1, w.2, f e w.3)
-well_behind refused refused' f p q xs ys h (Refused e) at (inr w) = inr (w.0, cause w.1) where
+well_behind refused refused' f p q xs ys a h (Refused e) at (inl w) = inl (w.0, w.1, w.2, f e w.3)
+well_behind refused refused' f p q xs ys a h (Refused e) at (inr w) = inr (w.0, cause w.1) where
   cause : ((e ≡ errors.Memory) ⊎ (HasFault at e ⊎ GetsReply q (ys ++ at.delivered) (replies.Bad e)))
       → ((e ≡ errors.Memory) ⊎ (HasFault at e ⊎ GetsReply p ((xs ++ ys) ++ at.delivered) (replies.Bad e)))
   cause (inl m) = inl m
   cause (inr (inl k)) = inr (inl k)
-  cause (inr (inr g)) = inr (inr (subst (λ l. GetsReply p l (replies.Bad e)) (sym (append_assoc xs ys at.delivered)) (reply_behind p q xs (ys ++ at.delivered) (replies.Bad e) h g)))
-well_behind refused refused' f p q xs ys h NotServed at w =
-    (w.0, subst (λ l. GetsReply p l replies.NotServed) (sym (append_assoc xs ys at.delivered)) (reply_behind p q xs (ys ++ at.delivered) replies.NotServed h w.1))
-well_behind refused refused' f p q xs ys h SourceFailed at w = w
-well_behind refused refused' f p q xs ys h SinkFailed at w = w
-well_behind refused refused' f p q xs ys h Exhausted at w = w
+  cause (inr (inr g)) = inr (inr (subst (λ l. GetsReply p l (replies.Bad e)) (sym (append_assoc xs ys at.delivered)) (reply_behind p q xs (ys ++ at.delivered) a (replies.Bad e) h g)))
+well_behind refused refused' f p q xs ys a h NotServed at w =
+    (w.0, subst (λ l. GetsReply p l replies.NotServed) (sym (append_assoc xs ys at.delivered)) (reply_behind p q xs (ys ++ at.delivered) a replies.NotServed h w.1))
+well_behind refused refused' f p q xs ys a h SourceFailed at w = w
+well_behind refused refused' f p q xs ys a h SinkFailed at w = w
+well_behind refused refused' f p q xs ys a h Exhausted at w = w
 
--- an end behind a way
-pub ends_after : (says : Says) (denies : Denies) (untrusted : ServerHost → Type 0) (p q : DeskState) (a : Standing) (h0 : Option (List ℕ)) (f : List ℕ) (b : Standing) (h1 : Option (List ℕ)) (g : List ℕ) (h2 : Option (List ℕ)) (end : TalkEnd)
-    → TalksOn says p a h0 f q b h1 → Ends says denies untrusted q b h1 g h2 end → Ends says denies untrusted p a h0 (f ++ g) h2 end
+-- an end behind a way on which a side said what it says first, and replies
+ends_after_way : (says : Says) (denies : Denies) (untrusted : ServerHost → Type 0) (p q : DeskState) (first said : List (List ℕ)) (a : Standing) (h0 : Option (List ℕ)) (f : List ℕ) (b : Standing) (h1 : Option (List ℕ)) (g : List ℕ) (h2 : Option (List ℕ)) (end : TalkEnd)
+    → (way : Goes says a h0 f b h1) → said_in way.moves ≡ first ++ said → AnswersMore p way.answered said q → Ends says denies untrusted q [] b h1 g h2 end → Ends says denies untrusted p first a h0 (f ++ g) h2 end
 unfolding goes_join
-ends_after says denies untrusted p q a h0 f b h1 g h2 end on e = record {
+ends_after_way says denies untrusted p q first said a h0 f b h1 g h2 end way is answers e = record {
   at = e.at;
-  goes = goes_join says a h0 f b h1 g e.at h2 on.goes e.goes;
+  goes = goes_join says a h0 f b h1 g e.at h2 way e.goes;
+  said = said_behind p q end first way.answered e.goes.answered said way.moves e.goes.moves is answers e.said;
   well = well_behind
       (λ error. EndsRefused says denies untrusted b e.goes.moves error (untouched e.goes.sent e.goes.answered e.at))
-      (λ error. EndsRefused says denies untrusted a (on.goes.moves ++ e.goes.moves) error (untouched (on.goes.sent ++ e.goes.sent) (on.goes.answered ++ e.goes.answered) e.at))
-      (λ error r. refused_behind says denies untrusted a b on.goes.moves e.goes.moves on.goes.sent e.goes.sent on.goes.answered e.goes.answered error e.at on.goes.follows r)
-      p q on.goes.answered e.goes.answered on.answers end e.at e.well;
+      (λ error. EndsRefused says denies untrusted a (way.moves ++ e.goes.moves) error (untouched (way.sent ++ e.goes.sent) (way.answered ++ e.goes.answered) e.at))
+      (λ error r. refused_behind says denies untrusted a b way.moves e.goes.moves way.sent e.goes.sent way.answered e.goes.answered error e.at way.follows r)
+      p q way.answered e.goes.answered said answers end e.at e.well;
 }
 
-ends_weaker : (x y : Says) (d e : Denies) (u v : ServerHost → Type 0) → Denying y x e d → ((host : ServerHost) → v host → u host) → (p : DeskState) (a : Standing) (h0 : Option (List ℕ)) (f : List ℕ) (h1 : Option (List ℕ)) (end : TalkEnd)
-    → Ends y e v p a h0 f h1 end → Ends x d u p a h0 f h1 end
+pub ends_after : (says : Says) (denies : Denies) (untrusted : ServerHost → Type 0) (p q : DeskState) (a : Standing) (h0 : Option (List ℕ)) (f : List ℕ) (b : Standing) (h1 : Option (List ℕ)) (g : List ℕ) (h2 : Option (List ℕ)) (end : TalkEnd)
+    → TalksOn says p a h0 f q b h1 → Ends says denies untrusted q [] b h1 g h2 end → Ends says denies untrusted p [] a h0 (f ++ g) h2 end
+ends_after says denies untrusted p q a h0 f b h1 g h2 end on e = ends_after_way says denies untrusted p q [] (said_in on.goes.moves) a h0 f b h1 g h2 end on.goes refl on.answers e
+
+ends_weaker : (x y : Says) (d e : Denies) (u v : ServerHost → Type 0) → Denying y x e d → ((host : ServerHost) → v host → u host) → (p : DeskState) (first : List (List ℕ)) (a : Standing) (h0 : Option (List ℕ)) (f : List ℕ) (h1 : Option (List ℕ)) (end : TalkEnd)
+    → Ends y e v p first a h0 f h1 end → Ends x d u p first a h0 f h1 end
 unfolding goes_weaker
-ends_weaker x y d e u v w t p a h0 f h1 end ends = record {
+ends_weaker x y d e u v w t p first a h0 f h1 end ends = record {
   at = ends.at;
   goes = goes_weaker y x w.weaker a h0 f ends.at h1 ends.goes;
+  said = ends.said;
   well = well_behind
       (λ error. EndsRefused y e v a ends.goes.moves error (untouched ends.goes.sent ends.goes.answered ends.at))
       (λ error. EndsRefused x d u a ends.goes.moves error (untouched ends.goes.sent ends.goes.answered ends.at))
       (λ error r. refused_weaker x y d e u v w t a ends.goes.moves error (untouched ends.goes.sent ends.goes.answered ends.at) r)
-      p p [] ends.goes.answered (answers_none p) end ends.at ends.well;
+      p p [] ends.goes.answered [] (answers_none p) end ends.at ends.well;
 }
 
 -- the same, of what the parts say under the configuration of each
 pub ends_behind : (x y : Config → Says) (d e : Denies) (u v : ServerHost → Type 0) → ((k : Config) → Denying (y k) (x k) e d) → ((host : ServerHost) → v host → u host) → (p q : DeskState) (a : Standing) (h0 : Option (List ℕ)) (f : List ℕ) (b : Standing) (h1 : Option (List ℕ)) (g : List ℕ) (h2 : Option (List ℕ)) (end : TalkEnd)
-    → b.config ≡ a.config → TalksOn (x a.config) p a h0 f q b h1 → Ends (y b.config) e v q b h1 g h2 end → Ends (x a.config) d u p a h0 (f ++ g) h2 end
+    → b.config ≡ a.config → TalksOn (x a.config) p a h0 f q b h1 → Ends (y b.config) e v q [] b h1 g h2 end → Ends (x a.config) d u p [] a h0 (f ++ g) h2 end
 ends_behind x y d e u v w t p q a h0 f b h1 g h2 end same on ends =
-    let P : Config → Type 0 = λ k. Ends (y k) e v q b h1 g h2 end in
-    ends_after (x a.config) d u p q a h0 f b h1 g h2 end on (ends_weaker (x a.config) (y a.config) d e u v (w a.config) t q b h1 g h2 end (subst P same ends))
+    let P : Config → Type 0 = λ k. Ends (y k) e v q [] b h1 g h2 end in
+    ends_after (x a.config) d u p q a h0 f b h1 g h2 end on (ends_weaker (x a.config) (y a.config) d e u v (w a.config) t q [] b h1 g h2 end (subst P same ends))
+
+-- an end at which no turn is left
+pub ends_spent : (says : Says) (denies : Denies) (untrusted : ServerHost → Type 0) (p q : DeskState) (a : Standing) (h0 : Option (List ℕ)) (f : List ℕ) (b : Standing) (h1 : Option (List ℕ)) → b.failed ≡ false → TalksOn says p a h0 f q b h1 → Ends says denies untrusted p [] a h0 f h1 Exhausted
+ends_spent says denies untrusted p q a h0 f b h1 live on = record {
+  at = b;
+  goes = on.goes;
+  said = inr (λ earlier z. (said_in on.goes.moves, refl, on.answers.2 earlier z));
+  well = live;
+}
 
 -- a way behind a way
 pub talks_nowhere : (says : Says) (p : DeskState) (t : Standing) (held : Option (List ℕ)) → TalksOn says p t held [] p t held
@@ -405,7 +463,7 @@ pub talks_after : (says : Says) (p q r : DeskState) (a : Standing) (h0 : Option 
 unfolding goes_join
 talks_after says p q r a h0 f b h1 g c h2 x y = record {
   goes = goes_join says a h0 f b h1 g c h2 x.goes y.goes;
-  answers = answers_join p q r x.goes.answered y.goes.answered x.answers y.answers;
+  answers = subst (λ l. AnswersMore p (x.goes.answered ++ y.goes.answered) l r) (sym (said_join x.goes.moves y.goes.moves)) (answers_join p q r x.goes.answered y.goes.answered (said_in x.goes.moves) (said_in y.goes.moves) x.answers y.answers);
 }
 
 talks_weaker : (x y : Says) → Weaker x y → (p q : DeskState) (a : Standing) (h0 : Option (List ℕ)) (f : List ℕ) (b : Standing) (h1 : Option (List ℕ)) → TalksOn x p a h0 f q b h1 → TalksOn y p a h0 f q b h1
@@ -424,35 +482,46 @@ submits_join : (says : Says) (ps qs : List (List ℕ)) (a b c : Standing) → Fo
 submits_join says [] qs a b c h k = subst (λ t. Follows says t (map Handed qs) c) h k
 submits_join says (p ∷ ps) qs a b c h k = (h.0, h.1, submits_join says ps qs h.0 b c h.2 k)
 
--- payloads behind payloads, where the parts are as they were
-pub sends_more : {A H G : Type 0} (says : Config → A → H → G → Says) (config config' : Config) (a a' : A) (h h' : H) (g g' : G) (old mid new : Standing)
-    → config' ≡ config → a' ≡ a → h' ≡ h → g' ≡ g → Sends (says config a h g) old mid → Sends (says config' a' h' g') mid new → Sends (says config a h g) old new
-sends_more says config config' a a' h h' g g' old mid new c e k m first more =
-    let same : Sends (says config a h g) mid new =
-    subst (λ x. Sends (says x a h g) mid new) c
-    (subst (λ x. Sends (says config' x h g) mid new) e
-    (subst (λ x. Sends (says config' a' x g) mid new) k
-    (subst (λ x. Sends (says config' a' h' x) mid new) m more))) in
-    (first.0 ++ same.0, submits_join (says config a h g) first.0 same.0 old mid new first.1 same.1)
+-- replies behind replies, where the parts are as they were
+pub answers_more : {A H G : Type 0} (says : Config → A → H → G → Says) (config config' : Config) (a a' : A) (h h' : H) (g g' : G) (p q r : DeskState) (xs ys : List (List ℕ)) (old mid new : Standing)
+    → config' ≡ config → a' ≡ a → h' ≡ h → g' ≡ g → Answers (says config a h g) p old xs q mid → Answers (says config' a' h' g') q mid ys r new → Answers (says config a h g) p old (xs ++ ys) r new
+answers_more says config config' a a' h h' g g' p q r xs ys old mid new c e k m first more =
+    let same : Answers (says config a h g) q mid ys r new =
+    subst (λ x. Answers (says x a h g) q mid ys r new) c
+    (subst (λ x. Answers (says config' x h g) q mid ys r new) e
+    (subst (λ x. Answers (says config' a' x g) q mid ys r new) k
+    (subst (λ x. Answers (says config' a' h' x) q mid ys r new) m more))) in
+    (first.0 ++ same.0, submits_join (says config a h g) first.0 same.0 old mid new first.1 same.1, answers_join p q r xs ys first.0 same.0 first.2 same.2)
 
-pub sends_none : (says : Says) (t new : Standing) → new ≡ t → Sends says t new
-sends_none says t new is = ([], is)
+pub answers_nothing : (says : Says) (d : DeskState) (t : Standing) → Answers says d t [] d t
+answers_nothing says d t = ([], refl, answers_none d)
 
-pub sends_one : (says : Says) (t : Standing) (payload : List ℕ) (new : Standing) → t.failed ≡ false → IsSaid payload → Submitted says t payload new → Sends says t new
-sends_one says t payload new live said h = (payload ∷ [], (new, (live, (said, h)), refl))
+follows_one : (says : Says) (t : Standing) (payload : List ℕ) (new : Standing) → t.failed ≡ false → IsSaid payload → Submitted says t payload new → Follows says t (Handed payload ∷ []) new
+follows_one says t payload new live said h = (new, (live, (said, h)), refl)
+
+-- one payload was answered: by silence, or by a message
+pub answers_silent : (says : Says) (d d' : DeskState) (t : Standing) (payload : List ℕ) (r : Reply) → r ≡ replies.Silent → d'.side ≡ d.side → ((earlier : List (List ℕ)) → HasAnswered d earlier → HasAnswered d' (earlier ++ payload ∷ [])) → ((earlier : List (List ℕ)) → HasAnswered d earlier → r ≡ reply_to d.side earlier payload)
+    → Answers says d t (payload ∷ []) d' t
+answers_silent says d d' t payload r is side answered reply =
+    ([], refl, (side, answered, λ earlier z. ([], subst (λ x. SaysBefore x [] []) (sym is ∙ reply earlier z) refl, refl)))
+
+pub answers_message : (says : Says) (d d' : DeskState) (t new : Standing) (payload message slice : List ℕ) (r : Reply) → t.failed ≡ false → IsSaid message → slice ≡ message → Submitted says t slice new → r ≡ Message message → d'.side ≡ d.side → ((earlier : List (List ℕ)) → HasAnswered d earlier → HasAnswered d' (earlier ++ payload ∷ [])) → ((earlier : List (List ℕ)) → HasAnswered d earlier → r ≡ reply_to d.side earlier payload)
+    → Answers says d t (payload ∷ []) d' new
+answers_message says d d' t new payload message slice r live said same h is side answered reply =
+    (message ∷ [], follows_one says t message new live said (subst (λ s. Submitted says t s new) same h), (side, answered, λ earlier z. ([], subst (λ x. SaysBefore x (message ∷ []) []) (sym is ∙ reply earlier z) refl, refl)))
 
 -- a piece was taken, and what it delivered was answered
 pub talks_sends : (x y : Config → Says) → ((k : Config) → Weaker (y k) (x k)) → (p q : DeskState) (a : Standing) (held held' : Option (List ℕ)) (piece : List ℕ) (fed c : Standing)
-    → a.failed ≡ false → fed.config ≡ a.config → held' ≡ held → TakesInput (x a.config) a piece fed → AnswersMore p fed.delivered q → Sends (y fed.config) (record fed { delivered = [] }) c → TalksOn (x a.config) p a held piece q c held'
+    → a.failed ≡ false → fed.config ≡ a.config → held' ≡ held → TakesInput (x a.config) a piece fed → Answers (y fed.config) p (record fed { delivered = [] }) fed.delivered q c → TalksOn (x a.config) p a held piece q c held'
 unfolding goes_on goes_join goes_fed goes_weaker goes_submitted
-talks_sends x y w p q a held held' piece fed c live same still takes answers sends =
+talks_sends x y w p q a held held' piece fed c live same still takes answers =
     let b : Standing = record fed { delivered = [] } in
-    let P : Config → Type 0 = λ k. Sends (y k) b c in
-    let s = subst P same sends in
+    let P : Config → Type 0 = λ k. Answers (y k) p b fed.delivered q c in
+    let s = subst P same answers in
     let later = goes_weaker (y a.config) (x a.config) (w a.config) b held [] c held (goes_submitted (y a.config) b s.0 c held s.1) in
     let on : TalksOn (x a.config) p a held piece q c held = record {
       goes = goes_on (x a.config) a held piece b held c held (goes_fed (x a.config) a piece fed b held live takes refl) later;
-      answers = subst (λ l. AnswersMore p l q) (sym (append-nil fed.delivered)) answers;
+      answers = subst (λ l. AnswersMore p l (said_in (map Handed s.0)) q) (sym (append-nil fed.delivered)) (subst (λ l. AnswersMore p fed.delivered l q) (sym (said_handed s.0)) s.2);
     } in
     subst (λ h. TalksOn (x a.config) p a held piece q c h) (sym still) on
 
@@ -469,15 +538,16 @@ cut_well refused p Exhausted at live cut = absurd cut
 
 -- a piece was taken, and the talk ended at what it delivered
 pub ends_cut : (says : Says) (denies : Denies) (untrusted : ServerHost → Type 0) (p : DeskState) (a : Standing) (held held' : Option (List ℕ)) (piece : List ℕ) (fed : Standing) (end : TalkEnd)
-    → a.failed ≡ false → held' ≡ held → TakesInput says a piece fed → IsCutAt p fed.delivered end → Ends says denies untrusted p a held piece held' end
+    → a.failed ≡ false → held' ≡ held → TakesInput says a piece fed → IsCutAt p fed.delivered end → Ends says denies untrusted p [] a held piece held' end
 unfolding goes_taken
 ends_cut says denies untrusted p a held held' piece fed end live still takes cut =
-    let ends : Ends says denies untrusted p a held piece held end = record {
+    let ends : Ends says denies untrusted p [] a held piece held end = record {
       at = fed;
       goes = goes_taken says a piece fed held live takes;
+      said = said_none p (Fed piece ∷ []) end refl;
       well = cut_well (λ e. EndsRefused says denies untrusted a (Fed piece ∷ []) e (untouched [] [] fed)) p end fed takes.acts.live cut;
     } in
-    subst (λ h. Ends says denies untrusted p a held piece h end) (sym still) ends
+    subst (λ h. Ends says denies untrusted p [] a held piece h end) (sym still) ends
 
 end_well : (refused : Error → Type 0) (p : DeskState) (answered : List (List ℕ)) (e : Error) (end : TalkEnd) (at : Standing) → at.output ≡ [] → at.failed ≡ true → refused e → IsEndFor e end → EndsWell refused p answered end at
 end_well refused p answered e end at sent failed r (inl h) = subst (λ t. EndsWell refused p answered t at) (sym h.1) (sent, failed, subst refused h.0 r)
@@ -485,11 +555,12 @@ end_well refused p answered e end at sent failed r (inr h) = subst (λ t. EndsWe
 
 -- a piece was refused, and what was due before was written
 pub ends_refused : (says : Says) (denies : Denies) (untrusted : ServerHost → Type 0) (p : DeskState) (a : Standing) (held held' : Option (List ℕ)) (piece : List ℕ) (fed new : Standing) (e : Error) (end : TalkEnd)
-    → a.failed ≡ false → RefusesPiece says denies untrusted a piece e fed → (new ≡ record fed { output = [] }) × Appends fed.output held held' → IsEndFor e end → Ends says denies untrusted p a held piece held' end
+    → a.failed ≡ false → RefusesPiece says denies untrusted a piece e fed → (new ≡ record fed { output = [] }) × Appends fed.output held held' → IsEndFor e end → Ends says denies untrusted p [] a held piece held' end
 unfolding goes_on goes_join goes_refused goes_sent
 ends_refused says denies untrusted p a held held' piece fed new e end live r sent is = record {
   at = new;
   goes = goes_on says a held piece fed held new held' (goes_refused says a piece fed held r.cause live r.refuses) (goes_sent says fed new held held' sent.0 sent.1);
+  said = said_none p (FedLast piece ∷ []) end refl;
   well = end_well (λ error. EndsRefused says denies untrusted a (FedLast piece ∷ []) error (untouched fed.output [] new)) p [] e end new
       (ap (λ (t : Standing). t.output) sent.0) (ap (λ (t : Standing). t.failed) sent.0 ∙ r.refuses.failed)
       (record { earlier = []; piece = piece; mid = a; moves_are = refl; follows = refl; refuses = subst (λ t. RefusesPiece says denies untrusted a piece e t) (sym back) r }) is;
@@ -499,16 +570,24 @@ ends_refused says denies untrusted p a held held' piece fed new e end live r sen
 
 -- and where the sink failed then
 pub ends_unsent : (says : Says) (denies : Denies) (untrusted : ServerHost → Type 0) (p : DeskState) (a : Standing) (held held' : Option (List ℕ)) (piece : List ℕ) (fed : Standing) (cause : RefusalCause)
-    → a.failed ≡ false → RefusesInput says a piece cause fed → AppendsFront fed.output held held' → Ends says denies untrusted p a held piece held' SinkFailed
-ends_unsent says denies untrusted p a held held' piece fed cause live refuses front = record {
-  at = record fed { output = drop front.0 fed.output };
-  goes = goes_on says a held piece fed held (record fed { output = drop front.0 fed.output }) held' (goes_refused says a piece fed held cause live refuses) (goes_front says fed held held' front);
+    → a.failed ≡ false → RefusesInput says a piece cause fed → AppendsFront fed.output held held' → Ends says denies untrusted p [] a held piece held' SinkFailed
+unfolding goes_on goes_join goes_refused goes_front
+ends_unsent says denies untrusted p a held held' piece fed cause live refuses (n, within, w) = record {
+  at = record fed { output = drop n fed.output };
+  goes = goes_on says a held piece fed held (record fed { output = drop n fed.output }) held' (goes_refused says a piece fed held cause live refuses) (goes_front says fed held held' (n, within, w));
+  said = said_none p (FedLast piece ∷ []) SinkFailed refl;
   well = tt;
 }
 
 -- the sink failed
-pub ends_front : (says : Says) (denies : Denies) (untrusted : ServerHost → Type 0) (p : DeskState) (t : Standing) (held held' : Option (List ℕ)) → AppendsFront t.output held held' → Ends says denies untrusted p t held [] held' SinkFailed
-ends_front says denies untrusted p t held held' front = record { at = record t { output = drop front.0 t.output }; goes = goes_front says t held held' front; well = tt }
+pub ends_front : (says : Says) (denies : Denies) (untrusted : ServerHost → Type 0) (p : DeskState) (t : Standing) (held held' : Option (List ℕ)) → AppendsFront t.output held held' → Ends says denies untrusted p [] t held [] held' SinkFailed
+unfolding goes_front
+ends_front says denies untrusted p t held held' (n, within, w) = record {
+  at = record t { output = drop n t.output };
+  goes = goes_front says t held held' (n, within, w);
+  said = said_none p [] SinkFailed refl;
+  well = tt;
+}
 
 -- all was written before
 talks_sent : (says : Says) (p : DeskState) (t mid : Standing) (held held' : Option (List ℕ)) → (mid ≡ record t { output = [] }) × Appends t.output held held' → TalksOn says p t held [] p mid held'
@@ -522,9 +601,9 @@ talks_sent_before x p q t mid held held' held'' piece new sent on =
     talks_after (x t.config) p p q t held [] mid held' piece new held'' (talks_sent (x t.config) p t mid held held' sent) (subst P (ap (λ (s : Standing). s.config) sent.0) on)
 
 pub ends_sent_before : (x : Config → Says) (denies : Denies) (untrusted : ServerHost → Type 0) (p : DeskState) (t mid : Standing) (held held' held'' : Option (List ℕ)) (piece : List ℕ) (end : TalkEnd) → (mid ≡ record t { output = [] }) × Appends t.output held held'
-    → Ends (x mid.config) denies untrusted p mid held' piece held'' end → Ends (x t.config) denies untrusted p t held piece held'' end
+    → Ends (x mid.config) denies untrusted p [] mid held' piece held'' end → Ends (x t.config) denies untrusted p [] t held piece held'' end
 ends_sent_before x denies untrusted p t mid held held' held'' piece end sent e =
-    let P : Config → Type 0 = λ k. Ends (x k) denies untrusted p mid held' piece held'' end in
+    let P : Config → Type 0 = λ k. Ends (x k) denies untrusted p [] mid held' piece held'' end in
     ends_after (x t.config) denies untrusted p p t held [] mid held' piece held'' end (talks_sent (x t.config) p t mid held held' sent) (subst P (ap (λ (s : Standing). s.config) sent.0) e)
 
 -- what a source gave
@@ -547,31 +626,41 @@ not_true true never = absurd (never refl)
 not_true false never = refl
 
 -- a side that has failed submits nothing
-pub on_ok_sends : {A E : Type 0} (r : Result A E) (e : E) (says : Says) (t : Standing) (payload : List ℕ) (new : Standing) → (t.failed ≡ true → r ≡ Err e) → IsSaid payload → OnOk r (Submitted says t payload new) → OnOk r (Sends says t new)
-on_ok_sends (Ok a) e says t payload new dead said h = sends_one says t payload new (not_true t.failed (λ f. ok_no_err a e (dead f))) said h
-on_ok_sends (Err f) e says t payload new dead said h = h
+pub on_ok_first : {A E : Type 0} (r : Result A E) (e : E) (says : Says) (side : Side) (t : Standing) (o : Option (List ℕ)) (payload slice : List ℕ) (new : Standing) → (t.failed ≡ true → r ≡ Err e) → IsSaid slice → o ≡ Some payload → o ≡ first_of side → slice ≡ payload → OnOk r (Submitted says t slice new) → OnOk r (SaysFirst says side t new)
+on_ok_first (Ok a) e says side t o payload slice new dead said is first same h =
+    subst (λ (x : Option (List ℕ)). Follows says t (map Handed (first_said x)) new) (ap Some same ∙ (sym is ∙ first)) (follows_one says t slice new (not_true t.failed (λ f. ok_no_err a e (dead f))) said h)
+on_ok_first (Err f) e says side t o payload slice new dead said is first same h = tt
+
+-- a side that says nothing first
+pub none_first : (says : Says) (side : Side) (t : Standing) (o : Option (List ℕ)) → o ≡ None → o ≡ first_of side → SaysFirst says side t t
+none_first says side t o is first = subst (λ (x : Option (List ℕ)). Follows says t (map Handed (first_said x)) t) (sym is ∙ first) refl
 
 pub some_weaker : {A : Type 0} (o : Option A) (P Q : A → Type 0) → ((x : A) → P x → Q x) → IfSome o P → IfSome o Q
 some_weaker None P Q f h = tt
 some_weaker (Some x) P Q f h = f x h
 
 -- nothing was done, and the talk ended
-pub ends_nowhere : (says : Says) (denies : Denies) (untrusted : ServerHost → Type 0) (p : DeskState) (t : Standing) (held : Option (List ℕ)) (end : TalkEnd) → EndsWell (λ e. EndsRefused says denies untrusted t [] e (untouched [] [] t)) p [] end t → Ends says denies untrusted p t held [] held end
+pub ends_nowhere : (says : Says) (denies : Denies) (untrusted : ServerHost → Type 0) (p : DeskState) (t : Standing) (held : Option (List ℕ)) (end : TalkEnd) → EndsWell (λ e. EndsRefused says denies untrusted t [] e (untouched [] [] t)) p [] end t → Ends says denies untrusted p [] t held [] held end
 unfolding goes_nowhere
-ends_nowhere says denies untrusted p t held end well = record { at = t; goes = goes_nowhere says t held; well = well }
+ends_nowhere says denies untrusted p t held end well = record { at = t; goes = goes_nowhere says t held; said = said_none p [] end refl; well = well }
+
+-- and it was not even begun
+pub ends_unbegun : (says : Says) (denies : Denies) (untrusted : ServerHost → Type 0) (p : DeskState) (first : List (List ℕ)) (t : Standing) (held : Option (List ℕ)) (e : Error) → EndsWell (λ e. EndsRefused says denies untrusted t [] e (untouched [] [] t)) p [] (Refused e) t → Ends says denies untrusted p first t held [] held (Refused e)
+unfolding goes_nowhere
+ends_unbegun says denies untrusted p first t held e well = record { at = t; goes = goes_nowhere says t held; said = inl (e, refl, refl, refl); well = well }
 
 -- payloads were submitted first, by parts that are as they were
 pub ends_begun : {A H G : Type 0} (says : Config → A → H → G → Says) (denies : A → H → G → Denies) (untrusted : H → ServerHost → Type 0) (p : DeskState) (a a' : A) (h h' : H) (g g' : G) (t mid : Standing) (held : Option (List ℕ)) (fed : List ℕ) (held' : Option (List ℕ)) (end : TalkEnd)
-    → mid.config ≡ t.config → a' ≡ a → h' ≡ h → g' ≡ g → Sends (says t.config a h g) t mid → Ends (says mid.config a' h' g') (denies a' h' g') (untrusted h') p mid held fed held' end → Ends (says t.config a h g) (denies a h g) (untrusted h) p t held fed held' end
+    → mid.config ≡ t.config → a' ≡ a → h' ≡ h → g' ≡ g → SaysFirst (says t.config a h g) p.side t mid → Ends (says mid.config a' h' g') (denies a' h' g') (untrusted h') p [] mid held fed held' end → Ends (says t.config a h g) (denies a h g) (untrusted h) p (first_said (first_of p.side)) t held fed held' end
 unfolding goes_submitted
-ends_begun says denies untrusted p a a' h h' g g' t mid held fed held' end c e k m sends ends =
-    let same : Ends (says t.config a h g) (denies a h g) (untrusted h) p mid held fed held' end =
-    subst (λ x. Ends (says x a h g) (denies a h g) (untrusted h) p mid held fed held' end) c
-    (subst (λ x. Ends (says mid.config x h g) (denies x h g) (untrusted h) p mid held fed held' end) e
-    (subst (λ x. Ends (says mid.config a' x g) (denies a' x g) (untrusted x) p mid held fed held' end) k
-    (subst (λ x. Ends (says mid.config a' h' x) (denies a' h' x) (untrusted h') p mid held fed held' end) m ends))) in
-    let on : TalksOn (says t.config a h g) p t held [] p mid held = record { goes = goes_submitted (says t.config a h g) t sends.0 mid held sends.1; answers = answers_none p } in
-    ends_after (says t.config a h g) (denies a h g) (untrusted h) p p t held [] mid held fed held' end on same
+ends_begun says denies untrusted p a a' h h' g g' t mid held fed held' end c e k m begun ends =
+    let first = first_said (first_of p.side) in
+    let same : Ends (says t.config a h g) (denies a h g) (untrusted h) p [] mid held fed held' end =
+    subst (λ x. Ends (says x a h g) (denies a h g) (untrusted h) p [] mid held fed held' end) c
+    (subst (λ x. Ends (says mid.config x h g) (denies x h g) (untrusted h) p [] mid held fed held' end) e
+    (subst (λ x. Ends (says mid.config a' x g) (denies a' x g) (untrusted x) p [] mid held fed held' end) k
+    (subst (λ x. Ends (says mid.config a' h' x) (denies a' h' x) (untrusted h') p [] mid held fed held' end) m ends))) in
+    ends_after_way (says t.config a h g) (denies a h g) (untrusted h) p p first [] t held [] mid held fed held' end (goes_submitted (says t.config a h g) t first mid held begun) (said_handed first ∙ sym (append-nil first)) (answers_none p) same
 
 -- the end is reached where none is left
 pub at_end : (buffer : List ℕ) (old new : Option (List ℕ)) → TakesNext 0 buffer old new → IsAtEnd old → ReachesEnd old new
@@ -599,11 +688,11 @@ message_good r payload is h = by (subst LetsNobodyIn is h) where
   by (inr grant) = grant_good payload grant
 
 -- one payload of some ends the talk
-pub cut_behind : (d mid : DeskState) (xs : List (List ℕ)) (payload : List ℕ) (behind payloads : List (List ℕ)) (end : TalkEnd) → AnswersMore d xs mid → xs ++ payload ∷ behind ≡ payloads → IsCutAt mid (payload ∷ []) end → IsCutAt d payloads end
-cut_behind d mid xs payload behind payloads end h all cut = by end cut where
+pub cut_behind : (d mid : DeskState) (xs said : List (List ℕ)) (payload : List ℕ) (behind payloads : List (List ℕ)) (end : TalkEnd) → AnswersMore d xs said mid → xs ++ payload ∷ behind ≡ payloads → IsCutAt mid (payload ∷ []) end → IsCutAt d payloads end
+cut_behind d mid xs said payload behind payloads end h all cut = by end cut where
   replied : (reply : Reply) → GetsReply mid (payload ∷ []) reply → GetsReply d payloads reply
   replied reply g =
-      let k = reply_behind d mid xs (payload ∷ []) reply h g in
+      let k = reply_behind d mid xs (payload ∷ []) said reply h g in
       record {
         before = k.before;
         payload = k.payload;

@@ -1,5 +1,5 @@
 -- What a payload is answered.
-use Rattle.std.specs.Prelude.{◌≡◌, ℕ, ◌⊎◌, ◌==◌, Bool, false, if◌then◌else◌, List, [], ◌∷◌, codes, Option, Some, None, Result, Ok, Err}
+use Rattle.std.specs.Prelude.{◌≡◌, ℕ, ◌⊎◌, ◌==◌, Bool, false, if◌then◌else◌, List, [], ◌∷◌, ◌++◌, codes, Option, Some, None, Result, Ok, Err}
 use Rattle.std.specs.List.{list_any}
 use Rattle.std.specs.Str.{bytes_eq}
 use Rattle.ssh_service.specs.Answers.{ServiceState, StandsFor, answer_after, asks_for}
@@ -46,6 +46,11 @@ abbrev pub first_of : Side → Option (List ℕ)
 first_of Client = Some (spelling (Request login_service))
 first_of Server = None
 
+-- as a list
+abbrev pub first_said : Option (List ℕ) → List (List ℕ)
+first_said None = []
+first_said (Some payload) = payload ∷ []
+
 -- whether what was read grants that service
 abbrev pub grants_in : Result ServiceMessage Error → Bool
 grants_in (Ok (Request name)) = false
@@ -90,6 +95,21 @@ abbrev pub reply_to : Side → (earlier : List (List ℕ)) → List ℕ → Repl
 reply_to Client earlier payload = client_reply (was_granted Client earlier) (message_of payload)
 reply_to Server earlier payload =
     server_reply (was_granted Server earlier) (is_login payload) (answer_after (login_service ∷ []) earlier payload)
+
+-- Behind what a reply sends comes the rest. Silence sends nothing. Behind a reply of another kind no talk goes on.
+abbrev pub SaysBefore : Reply → (said rest : List (List ℕ)) → Type 0
+SaysBefore Silent said rest = said ≡ rest
+SaysBefore (Message payload) said rest = said ≡ payload ∷ rest
+SaysBefore NotServed said rest = ⊥
+SaysBefore (Bad e) said rest = ⊥
+
+-- Each of some payloads, which came behind earlier ones, got a reply behind which the talk goes on. What these replies
+-- send was said, in order, and no more.
+abbrev pub AreReplies : Side → (earlier payloads said : List (List ℕ)) → Type 0
+AreReplies side earlier [] said = said ≡ []
+AreReplies side earlier (payload ∷ payloads) said = (rest : List (List ℕ))
+    × SaysBefore (reply_to side earlier payload) said rest
+    × AreReplies side (earlier ++ payload ∷ []) payloads rest
 
 -- what is known of a desk
 pub record DeskState : Type 0 where

@@ -1,35 +1,33 @@
 -- The file of a private key, in OpenSSH's own form (OpenSSH's PROTOCOL.key).
-use Rattle.std.specs.Prelude.{◌≡◌, ℕ, ◌==◌, ◌&&◌, ◌||◌, Bool, true, false, if◌then◌else◌, List, [], ◌∷◌, ◌++◌, codes, length, take, drop, Option, Some, None, Result, Ok, Err, refl}
+use Rattle.std.specs.Prelude.{◌≡◌, ℕ, ◌==◌, ◌&&◌, Bool, true, false, not, if◌then◌else◌, List, [], ◌∷◌, ◌++◌, codes, length, take, drop, filter, flat_map, Option, Some, None, Result, Ok, Err, refl}
+use Rattle.std.specs.Result.{result_ok}
 use Rattle.std.specs.Str.{bytes_eq}
 use Rattle.base64.specs.Engines.{standard}
 use Rattle.base64.specs.GeneralPurpose.{decode_of}
 use Rattle.ssh_wire.specs.Fields.{◌>>=◌, mpint_at, string_at, u32_at}
 use Rattle.ssh_wire.specs.declared.error.EncodingFault.{EncodingFault}
+use Rattle.ssh_lines.specs.Lines.{pieces}
 use Rattle.ssh_modp.specs.Hosts.{RsaSecret}
-
--- what was given, if anything was
-abbrev pub given : {X E : Type 0} → Result X E → Option X
-given (Ok x) = Some x
-given (Err e) = None
 
 -- the bytes that a text in base64 stands for (RFC 4648)
 abbrev pub base64_bytes : List ℕ → Option (List ℕ)
-base64_bytes text = given (decode_of standard text)
+base64_bytes text = result_ok (decode_of standard text)
 
--- a byte of a line, before what comes behind it: line ends are left out, and so is a line that is skipped
-abbrev pub before_rest : (ends skips : Bool) → ℕ → List ℕ → List ℕ
-before_rest ends skips b rest = if ends || skips || b == 13 then rest else b ∷ rest
+-- a line that begins or ends the armour, as its first byte, a dash, tells
+abbrev pub is_dashed : List ℕ → Bool
+is_dashed [] = false
+is_dashed (b ∷ rest) = b == 45
 
--- the text of the lines that don't begin with a dash, without line ends: at a line's begin its first byte decides
-abbrev pub text_in : (begins skips : Bool) → List ℕ → List ℕ
-text_in begins skips [] = []
-text_in begins skips (b ∷ rest) =
-    before_rest (b == 10) (if begins then b == 45 else skips) b
-    (text_in (b == 10) (if begins then b == 45 else skips) rest)
+-- no CR
+abbrev pub is_kept : ℕ → Bool
+is_kept b = not (b == 13)
 
--- of a whole file
+abbrev pub line_text : List ℕ → List ℕ
+line_text line = if is_dashed line then [] else filter is_kept line
+
+-- the lines of a file's text that don't begin with a dash, without line ends
 abbrev pub armoured : List ℕ → List ℕ
-armoured text = text_in true false text
+armoured text = flat_map line_text (pieces 10 text)
 
 -- what stands before the fields
 abbrev pub key_magic : List ℕ

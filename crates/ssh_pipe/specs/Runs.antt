@@ -1,8 +1,12 @@
 -- What the program does, by its words and the text of the key's file.
-use Rattle.std.specs.Prelude.{◌≡◌, ◌≤◌, ◌+◌, ◌^◌, ◌⊎◌, ℕ, List, Option, IfSome, length}
+use Rattle.std.specs.Prelude.{◌≡◌, ◌≤◌, ◌+◌, ◌^◌, ◌⊎◌, ℕ, List, Option, IfSome, Result, length}
+use Rattle.std.specs.Global.{Global}
+use Rattle.std.specs.declared.string.String.{String}
+use Rattle.std.specs.declared.vec.IntoIter.{IntoIter}
 use Rattle.rand_chacha.specs.ChaCha.{ChaCha, of_seed}
 use Rattle.ssh_wire.specs.Outside.{ReachesEnd, TakesFront}
 use Rattle.ssh_wire.specs.declared.side.Side.{Side}
+use Rattle.ssh_program.specs.Programs.{AreWords}
 use Rattle.ssh_program.specs.Statuses.{no_command, script_faulty, want_of_memory}
 use Rattle.ssh_kex.specs.Refusals.{Denies}
 use Rattle.ssh_kex.specs.Setting.{Says}
@@ -31,9 +35,9 @@ pub record Ports : Type 0 where
   pub source_faults : ℕ
   pub sink_faults : ℕ
 
--- nothing was read or written
+-- nothing was read or written, nor tried
 abbrev pub IsUntouched : (before now : Ports) → Type 0
-IsUntouched before now = (now.left ≡ before.left) × (now.held ≡ before.held)
+IsUntouched before now = now ≡ before
 
 -- What is said of a talk's end: at the input's end all was taken, a talk that is told as endless took at least 2^64 - 1
 -- bytes, and a fault of source or sink ends it so and nothing else does.
@@ -60,6 +64,10 @@ pub record IsTalkRun (says : Config → PipeParts → Says) (denies : PipeParts 
       (is_known parts.hosts.known) before.held fed now.held end
   pub told : IsToldEnd before now end
 
+-- the longest file of a key, in bytes
+abbrev pub longest_file : ℕ
+longest_file = 65536
+
 -- A command ran by the text of its key's file and a seed: the file is faulty or memory was wanting, and nothing was read
 -- or written; or a side talked.
 abbrev pub IsRunWithKey : (says : Config → PipeParts → Says) → (denies : PipeParts → PipeParts → Denies)
@@ -70,13 +78,14 @@ IsRunWithKey says denies distrusts side limit text seed before now status =
     ⊎ IsTalkRun says denies distrusts side limit text seed before now status
 
 -- A command's words ran: the file can't be read, there are no random bytes or no memory, and nothing was read or written;
--- or the command ran by some text and some seed.
+-- or the command ran by some text, which isn't too long, and some seed.
 abbrev pub IsCommandRun : (says : Config → PipeParts → Says) → (denies : PipeParts → PipeParts → Denies)
     → (distrusts : PipeParts → PipeParts → ServerHost → Type 0) → Side → (limit : ℕ) → (before now : Ports)
     → (status : ℕ) → Type 0
 IsCommandRun says denies distrusts side limit before now status =
     (((status ≡ script_faulty) ⊎ (status ≡ want_of_memory)) × IsUntouched before now)
-    ⊎ ((text : List ℕ) × (seed : List ℕ) × IsRunWithKey says denies distrusts side limit text seed before now status)
+    ⊎ ((text : List ℕ) × (seed : List ℕ) × (length text ≤ longest_file)
+    × IsRunWithKey says denies distrusts side limit text seed before now status)
 
 -- What the words lead to: where they name no command, nothing was read or written.
 abbrev pub IsRun : (says : Config → PipeParts → Says) → (denies : PipeParts → PipeParts → Denies)
@@ -86,3 +95,11 @@ IsRun says denies distrusts words before now status =
     (NamesNoCommand words × (status ≡ no_command) × IsUntouched before now)
     ⊎ ((side : Side) × (file : List ℕ) × (limit : ℕ) × IsPipeCommand words side file limit
     × IsCommandRun says denies distrusts side limit before now status)
+
+-- What the program does with what it was called with, by what each of its words leads to: its arguments found no memory,
+-- and nothing was read or written; or their words ran.
+abbrev pub IsProgramRun : {E : Type 0} → (runs : List (List ℕ) → Ports → Ports → ℕ → Type 0)
+    → Result (IntoIter (String Global) Global) E → (before now : Ports) → (status : ℕ) → Type 0
+IsProgramRun runs arguments before now status =
+    ((status ≡ want_of_memory) × IsUntouched before now)
+    ⊎ ((words : List (List ℕ)) × AreWords arguments words × runs words before now status)

@@ -14,7 +14,7 @@ use Rattle.ssh_rules.specs.Parts.{Accepting, Trusting}
 use Rattle.ssh_rules.specs.Refusing.{RefusesPiece}
 use Rattle.ssh_rules.specs.Standing.{IsNew, RefusalCause, RefusesInput, Standing, Submitted, TakesInput, is_outside}
 use Rattle.ssh_rules.specs.Valid.{config_fault}
-use Rattle.ssh_pipe.specs.Desks.{DeskState, HasAnswered, IsSaid, reply_to, was_granted}
+use Rattle.ssh_pipe.specs.Desks.{AreReplies, DeskState, HasAnswered, IsSaid, first_of, first_said, reply_to, was_granted}
 use Rattle.ssh_pipe.specs.Known.{IsSignedClient}
 use Rattle.ssh_pipe.specs.declared.desk.Reply.{Reply}
 use Rattle.ssh_pipe.specs.declared.desk.Reply.TheVariants as replies
@@ -42,9 +42,9 @@ abbrev pub Follows : Says → Standing → List Move → Standing → Type 0
 Follows says old [] new = new ≡ old
 Follows says old (m ∷ ms) new = (mid : Standing) × Moves says old m mid × Follows says mid ms new
 
--- some payloads were submitted, one after the other
-abbrev pub Sends : Says → Standing → Standing → Type 0
-Sends says old new = (payloads : List (List ℕ)) × Follows says old (map Handed payloads) new
+-- what a side says first was submitted
+abbrev pub SaysFirst : Says → Side → Standing → Standing → Type 0
+SaysFirst says side old new = Follows says old (map Handed (first_said (first_of side))) new
 
 -- the bytes that a move feeds
 abbrev pub piece_of : Move → List ℕ
@@ -56,6 +56,13 @@ piece_of (Handed payload) = []
 abbrev pub fed_in : List Move → List ℕ
 fed_in [] = []
 fed_in (m ∷ ms) = piece_of m ++ fed_in ms
+
+-- the payloads that moves hand to a side, in order
+abbrev pub said_in : List Move → List (List ℕ)
+said_in [] = []
+said_in (Fed piece ∷ ms) = said_in ms
+said_in (FedLast piece ∷ ms) = said_in ms
+said_in (Handed payload ∷ ms) = payload ∷ said_in ms
 
 -- a side as if these bytes of its output had not been taken from it, nor these payloads of what was delivered
 abbrev pub untouched : (sent : List ℕ) → (answered : List (List ℕ)) → Standing → Standing
@@ -72,16 +79,22 @@ pub record Goes (says : Says) (old : Standing) (held : Option (List ℕ)) (fed :
   pub fed_is : fed_in moves ≡ fed
   pub written : Appends sent held held'
 
--- Between two states a desk answered these payloads.
-abbrev pub AnswersMore : DeskState → List (List ℕ) → DeskState → Type 0
-AnswersMore d payloads d' = (d'.side ≡ d.side)
+-- Between two states a desk answered these payloads, with these replies.
+abbrev pub AnswersMore : DeskState → (payloads said : List (List ℕ)) → DeskState → Type 0
+AnswersMore d payloads said d' = (d'.side ≡ d.side)
     × ((earlier : List (List ℕ)) → HasAnswered d earlier → HasAnswered d' (earlier ++ payloads))
+    × ((earlier : List (List ℕ)) → HasAnswered d earlier → AreReplies d.side earlier payloads said)
 
--- A talk went on: what was taken of what was delivered, the desk answered.
+-- A desk answered these payloads, and the side was handed the replies, one after the other.
+abbrev pub Answers : Says → DeskState → Standing → (payloads : List (List ℕ)) → DeskState → Standing → Type 0
+Answers says d old payloads d' new = (said : List (List ℕ)) × Follows says old (map Handed said) new
+    × AnswersMore d payloads said d'
+
+-- A talk went on: what was taken of what was delivered, the desk answered, and its replies were all that was said.
 pub record TalksOn (says : Says) (d : DeskState) (old : Standing) (held : Option (List ℕ)) (fed : List ℕ)
     (d' : DeskState) (new : Standing) (held' : Option (List ℕ)) : Type 0 where
   pub goes : Goes says old held fed new held'
-  pub answers : AnswersMore d goes.answered d'
+  pub answers : AnswersMore d goes.answered (said_in goes.moves) d'
 
 -- ---- why a talk ends
 
@@ -136,11 +149,21 @@ EndsWell refused d answered SourceFailed at = (at.output ≡ []) × (at.failed �
 EndsWell refused d answered SinkFailed at = Unit {0}
 EndsWell refused d answered Exhausted at = at.failed ≡ false
 
--- A talk ended at some standing of the side.
-pub record Ends (says : Says) (denies : Denies) (untrusted : ServerHost → Type 0) (d : DeskState) (old : Standing)
-    (held : Option (List ℕ)) (fed : List ℕ) (held' : Option (List ℕ)) (end : TalkEnd) : Type 0 where
+-- What a side says first was said, and behind it the replies to what was answered. Or nothing was done yet, where a
+-- talk ends as refused.
+abbrev pub SaysBack : DeskState → (first answered : List (List ℕ)) → List Move → TalkEnd → Type 0
+SaysBack d first answered moves end =
+    ((e : Error) × (end ≡ Refused e) × (moves ≡ []) × (answered ≡ []))
+    ⊎ ((earlier : List (List ℕ)) → HasAnswered d earlier → (replies : List (List ℕ))
+    × (said_in moves ≡ first ++ replies) × AreReplies d.side earlier answered replies)
+
+-- A talk ended at some standing of the side, which says this first.
+pub record Ends (says : Says) (denies : Denies) (untrusted : ServerHost → Type 0) (d : DeskState)
+    (first : List (List ℕ)) (old : Standing) (held : Option (List ℕ)) (fed : List ℕ) (held' : Option (List ℕ))
+    (end : TalkEnd) : Type 0 where
   pub at : Standing
   pub goes : Goes says old held fed at held'
+  pub said : SaysBack d first goes.answered goes.moves end
   pub well : EndsWell
       (λ e. EndsRefused says denies untrusted old goes.moves e (untouched goes.sent goes.answered at))
       d goes.answered end at
@@ -165,7 +188,8 @@ abbrev pub TellsFault : (failed : TalkEnd) → (before now : ℕ) → TalkEnd �
 TellsFault failed before now end = (end ≡ failed → Rose before now) × ((end ≡ failed → ⊥) → now ≡ before)
 
 -- A new side of this configuration talked, and its desk had answered nothing: it was fed these bytes, and what was
--- written of its output, the sink holds. Where it is a client, each exchange that it finished was signed by a host that
+-- written of its output, the sink holds. What it was handed to send is what it says first, and a reply to each payload
+-- that was delivered and answered. Where it is a client, each exchange that it finished was signed by a host that
 -- it trusts.
 pub record Talked (side : Side) (config : Config) (says : Says) (denies : Denies) (untrusted : ServerHost → Type 0)
     (accepts : Accepting) (trusts : Trusting) (held : Option (List ℕ)) (fed : List ℕ) (held' : Option (List ℕ))
@@ -175,5 +199,5 @@ pub record Talked (side : Side) (config : Config) (says : Says) (denies : Denies
   pub desk : DeskState
   pub of_side : desk.side ≡ side
   pub fresh : HasAnswered desk []
-  pub ends : Ends says denies untrusted desk start held fed held' end
+  pub ends : Ends says denies untrusted desk (first_said (first_of desk.side)) start held fed held' end
   pub known : side ≡ Client → IsSignedClient accepts trusts says config fed ends.at

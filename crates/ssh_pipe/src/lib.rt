@@ -9,6 +9,7 @@ mod notes;
 mod program;
 mod setup;
 mod talking;
+mod told;
 
 pub use crate::command::{PipeCommand, command_of};
 pub use crate::desk::{Desk, Reply};
@@ -17,4 +18,5 @@ pub use crate::keys::{known_blob, private_key};
 pub use crate::program::{exit_code, run_with_key, set_up, talk_as};
 pub use crate::setup::{PipeParts, config_of, parts_of};
 pub use crate::talking::talk;
+pub use crate::told::RunTold;
 pub use ssh_program::{StdSink, StdSource, Word};

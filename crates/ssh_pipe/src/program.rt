@@ -3,7 +3,6 @@
 ghost use Rattle.std.specs.Prelude.{◌≡◌, ◌⊎◌, ◌≤◌, ◌+◌, ◌^◌, List, [], ℕ, Some, IfErr, IfOk, IfSome, length};
 ghost use Rattle.std.specs.Process.{exit_status};
 ghost use Rattle.ssh_wire.specs.Outside.{ReachesEnd, TakesFront};
-ghost use Rattle.ssh_program.specs.Programs.{AreWords};
 ghost use Rattle.ssh_program.specs.Statuses.{want_of_memory};
 ghost use Rattle.rand_chacha.specs.ChaCha.{of_seed};
 ghost use Rattle.ssh_modp.specs.Hosts.{is_known};
@@ -14,7 +13,7 @@ ghost use Rattle.ssh_wire.specs.declared.error.ConfigFault.{ConfigFault};
 ghost use Rattle.ssh_wire.specs.declared.error.Error.TheVariants.{InvalidConfig, Memory};
 ghost use Rattle.ssh_pipe.specs.Desks.{HasAnswered};
 ghost use Rattle.ssh_pipe.specs.Keys.{IsFaultyFile, IsSetUp};
-ghost use Rattle.ssh_pipe.specs.Runs.{IsRun, IsRunWithKey};
+ghost use Rattle.ssh_pipe.specs.Runs.{IsProgramRun, longest_file};
 ghost use Rattle.ssh_pipe.specs.Talks.{Talked, TellsFault};
 ghost use Rattle.ssh_pipe.specs.declared.end.TalkEnd.TheVariants.{Exhausted, InputEnded, SinkFailed, SourceFailed};
 
@@ -25,6 +24,7 @@ use crate::keys::{known_blob, private_key};
 use crate::notes::{tell, tell_end};
 use crate::setup::{PipeParts, config_of, parts_of};
 use crate::talking::talk;
+use crate::told::RunTold;
 use rand_chacha::ChaCha20Rng;
 use ssh_kex::{Config, Handed, Parts};
 use ssh_modp::{FieldAgreement, ModpGroups, RsaHosts};
@@ -58,13 +58,7 @@ pub fn exit_code<R: Files + RandomSource, S: Source, K: Sink, N: Sink>(
     notes: &mut N,
 ) -> ExitCode
     ensures status { exit_status result ≤ want_of_memory }
-    ensures ran { ((exit_status result ≡ want_of_memory)
-        × (S.left source.new ≡ S.left source.old) × (K.held sink.new ≡ K.held sink.old))
-        ⊎ ((words : List (List ℕ)) × AreWords arguments words × IsRun
-        (λ config parts. ⟦<Parts<FieldAgreement, RsaHosts, ModpGroups, ChaCha20Rng> as Handed>⟧.says config parts)
-        (λ parts left. ⟦<Parts<FieldAgreement, RsaHosts, ModpGroups, ChaCha20Rng> as Handed>⟧.denies parts left)
-        (λ parts left. ⟦<Parts<FieldAgreement, RsaHosts, ModpGroups, ChaCha20Rng> as Asked>⟧.distrusts parts left)
-        words
+    ensures ran { IsProgramRun ⟦<Parts<FieldAgreement, RsaHosts, ModpGroups, ChaCha20Rng> as RunTold>⟧.runs arguments
         (record {
           left = S.left source.old;
           held = K.held sink.old;
@@ -76,7 +70,7 @@ pub fn exit_code<R: Files + RandomSource, S: Source, K: Sink, N: Sink>(
           held = K.held sink.new;
           source_faults = S.faults source.new;
           sink_faults = K.faults sink.new;
-        }) (exit_status result)) }
+        }) (exit_status result) }
 {
     match words_of(alloc, arguments) {
         Ok(words) => ExitCode::from(run(rt, alloc, words.as_slice(), source, sink, notes)),
@@ -94,11 +88,7 @@ fn run<R: Files + RandomSource, S: Source, K: Sink, N: Sink>(
     notes: &mut N,
 ) -> u8
     ensures status { result ≤ want_of_memory }
-    ensures ran { IsRun
-        (λ config parts. ⟦<Parts<FieldAgreement, RsaHosts, ModpGroups, ChaCha20Rng> as Handed>⟧.says config parts)
-        (λ parts left. ⟦<Parts<FieldAgreement, RsaHosts, ModpGroups, ChaCha20Rng> as Handed>⟧.denies parts left)
-        (λ parts left. ⟦<Parts<FieldAgreement, RsaHosts, ModpGroups, ChaCha20Rng> as Asked>⟧.distrusts parts left)
-        words.now
+    ensures ran { ⟦<Parts<FieldAgreement, RsaHosts, ModpGroups, ChaCha20Rng> as RunTold>⟧.runs words.now
         (record {
           left = S.left source.old;
           held = K.held sink.old;
@@ -146,10 +136,7 @@ pub fn run_with_key<S: Source, K: Sink, N: Sink>(
     requires some { 1 ≤ command.now.limit }
     requires most { command.now.limit ≤ 2 ^ 30 }
     ensures status { result ≤ want_of_memory }
-    ensures ran { IsRunWithKey
-        (λ config parts. ⟦<Parts<FieldAgreement, RsaHosts, ModpGroups, ChaCha20Rng> as Handed>⟧.says config parts)
-        (λ parts left. ⟦<Parts<FieldAgreement, RsaHosts, ModpGroups, ChaCha20Rng> as Handed>⟧.denies parts left)
-        (λ parts left. ⟦<Parts<FieldAgreement, RsaHosts, ModpGroups, ChaCha20Rng> as Asked>⟧.distrusts parts left)
+    ensures ran { ⟦<Parts<FieldAgreement, RsaHosts, ModpGroups, ChaCha20Rng> as RunTold>⟧.runs_with_key
         command.now.side command.now.limit text.now seed
         (record {
           left = S.left source.old;
@@ -190,14 +177,16 @@ pub fn run_with_key<S: Source, K: Sink, N: Sink>(
 }
 
 /// The bytes of a file; none where it can't be read, or has over 65536 bytes. AllocError.
-fn key_file<R: Files>(rt: &R, alloc: Global, name: &str) -> Result<Option<Vec<u8>>, AllocError> {
+fn key_file<R: Files>(rt: &R, alloc: Global, name: &str) -> Result<Option<Vec<u8>>, AllocError>
+    ensures short { IfOk result (λ text. IfSome text (λ bytes. length bytes.items ≤ longest_file)) }
+{
     let mut text = Vec::new(alloc);
     let Ok(file) = File::open(rt, name) else {
         return Ok(None);
     };
     let mut source = StdSource::new(file);
     let mut buffer = [0; 4096];
-    for _ in 0..LONGEST_FILE {
+    'pieces: for _piece in 0..LONGEST_FILE {
         match source.read(&mut buffer) {
             Ok(0) => return Ok(Some(text)),
             Ok(n) => text.extend_from_slice(&buffer[..n])?,

@@ -5,7 +5,8 @@ ghost use Rattle.ssh_rules.specs.Standing.{Submitted};
 ghost use Rattle.ssh_rules.specs.Valid.{is_good_payload};
 ghost use Rattle.ssh_wire.specs.Outside.{Appends, AppendsFront, ReachesEnd, Rose, TakesFront};
 ghost use Rattle.ssh_wire.specs.declared.error.Error.TheVariants.{Memory};
-ghost use Rattle.ssh_pipe.specs.Talks.{AnswersMore, Ends, IsCutAt, IsEndFor, Sends, TalksOn, TellsFault};
+ghost use Rattle.ssh_pipe.specs.Desks.{first_of, first_said};
+ghost use Rattle.ssh_pipe.specs.Talks.{Answers, Ends, IsCutAt, IsEndFor, SaysFirst, TalksOn, TellsFault};
 ghost use Rattle.ssh_pipe.specs.declared.end.TalkEnd.TheVariants.{Exhausted, InputEnded, Refused, SinkFailed, SourceFailed};
 
 use crate::desk::{Desk, Reply};
@@ -37,8 +38,8 @@ pub fn talk<A: Agreement, H: HostKeys, G: GroupLookup, R: Rng, S: Source, K: Sin
     ensures talked { (bytes : List ℕ) × TakesFront bytes (S.left source.old) (S.left source.new)
         × Ends (⟦<Parts<A, H, G, R> as Handed>⟧.says transport.old.config parts.old)
         (⟦<Parts<A, H, G, R> as Handed>⟧.denies parts.old parts.new)
-        (⟦<Parts<A, H, G, R> as Asked>⟧.distrusts parts.old parts.new) desk.old transport.old
-        (K.held sink.old) bytes (K.held sink.new) result }
+        (⟦<Parts<A, H, G, R> as Asked>⟧.distrusts parts.old parts.new) desk.old
+        (first_said (first_of desk.old.side)) transport.old (K.held sink.old) bytes (K.held sink.new) result }
     ensures whole { result ≡ InputEnded → ReachesEnd (S.left source.old) (S.left source.new) }
     ensures long { result ≡ Exhausted → IfSome (S.left source.old) (λ left. 2 ^ 64 ≤ length left + 1) }
     ensures source { TellsFault SourceFailed (S.faults source.old) (S.faults source.new) result }
@@ -64,7 +65,7 @@ fn take_turns<A: Agreement, H: HostKeys, G: GroupLookup, R: Rng, S: Source, K: S
     ensures talked { (bytes : List ℕ) × TakesFront bytes (S.left source.old) (S.left source.new)
         × Ends (⟦<Parts<A, H, G, R> as Handed>⟧.says transport.old.config parts.old)
         (⟦<Parts<A, H, G, R> as Handed>⟧.denies parts.old parts.new)
-        (⟦<Parts<A, H, G, R> as Asked>⟧.distrusts parts.old parts.new) desk.old transport.old
+        (⟦<Parts<A, H, G, R> as Asked>⟧.distrusts parts.old parts.new) desk.old [] transport.old
         (K.held sink.old) bytes (K.held sink.new) result }
     ensures whole { result ≡ InputEnded → ReachesEnd (S.left source.old) (S.left source.new) }
     ensures long { result ≡ Exhausted → IfSome (S.left source.old) (λ left. 2 ^ 64 ≤ length left + 1) }
@@ -92,8 +93,8 @@ fn begin<A: Agreement, H: HostKeys, G: GroupLookup, R: Rng>(
 ) -> Result<(), Error>
     requires live { transport.old.failed ≡ false }
     ensures memory { IfErr result (λ e. e ≡ Memory) }
-    ensures sent { OnOk result (Sends (⟦<Parts<A, H, G, R> as Handed>⟧.says transport.old.config parts.old)
-        transport.old transport.new) }
+    ensures sent { OnOk result (SaysFirst (⟦<Parts<A, H, G, R> as Handed>⟧.says transport.old.config parts.old)
+        desk.now.side transport.old transport.new) }
     ensures live { OnOk result (transport.old.failed ≡ false → transport.new.failed ≡ false) }
     ensures config { OnOk result (transport.new.config ≡ transport.old.config) }
     ensures parts { (parts.new.agreement ≡ parts.old.agreement) × (parts.new.hosts ≡ parts.old.hosts)
@@ -122,7 +123,7 @@ fn turn<A: Agreement, H: HostKeys, G: GroupLookup, R: Rng, S: Source, K: Sink>(
     ensures ends { IfSome result (λ end. (piece : List ℕ) × TakesFront piece (S.left source.old) (S.left source.new)
         × Ends (⟦<Parts<A, H, G, R> as Handed>⟧.says transport.old.config parts.old)
         (⟦<Parts<A, H, G, R> as Handed>⟧.denies parts.old parts.new)
-        (⟦<Parts<A, H, G, R> as Asked>⟧.distrusts parts.old parts.new) desk.old transport.old
+        (⟦<Parts<A, H, G, R> as Asked>⟧.distrusts parts.old parts.new) desk.old [] transport.old
         (K.held sink.old) piece (K.held sink.new) end) }
     ensures live { result ≡ None → transport.new.failed ≡ false }
     ensures unspent { IfSome result (λ end. end ≡ Exhausted → ⊥) }
@@ -158,7 +159,7 @@ fn read_on<A: Agreement, H: HostKeys, G: GroupLookup, R: Rng, S: Source, K: Sink
     ensures ends { IfSome result (λ end. (piece : List ℕ) × TakesFront piece (S.left source.old) (S.left source.new)
         × Ends (⟦<Parts<A, H, G, R> as Handed>⟧.says transport.old.config parts.old)
         (⟦<Parts<A, H, G, R> as Handed>⟧.denies parts.old parts.new)
-        (⟦<Parts<A, H, G, R> as Asked>⟧.distrusts parts.old parts.new) desk.old transport.old
+        (⟦<Parts<A, H, G, R> as Asked>⟧.distrusts parts.old parts.new) desk.old [] transport.old
         (K.held sink.old) piece (K.held sink.new) end) }
     ensures live { result ≡ None → transport.new.failed ≡ false }
     ensures unspent { IfSome result (λ end. end ≡ Exhausted → ⊥) }
@@ -216,7 +217,7 @@ fn take_piece<A: Agreement, H: HostKeys, G: GroupLookup, R: Rng, K: Sink>(
     ensures live { result ≡ None → transport.new.failed ≡ false }
     ensures ends { IfSome result (λ end. Ends (⟦<Parts<A, H, G, R> as Handed>⟧.says transport.old.config parts.old)
         (⟦<Parts<A, H, G, R> as Handed>⟧.denies parts.old parts.new)
-        (⟦<Parts<A, H, G, R> as Asked>⟧.distrusts parts.old parts.new) desk.old transport.old
+        (⟦<Parts<A, H, G, R> as Asked>⟧.distrusts parts.old parts.new) desk.old [] transport.old
         (K.held sink.old) piece.now (K.held sink.new) end) }
     ensures other { IfSome result (λ end. end ≡ InputEnded → ⊥) }
     ensures unspent { IfSome result (λ end. end ≡ Exhausted → ⊥) }
@@ -256,9 +257,8 @@ fn answer_all<A: Agreement, H: HostKeys, G: GroupLookup, R: Rng>(
     desk: &mut Desk,
 ) -> Option<TalkEnd>
     requires live { transport.old.failed ≡ false }
-    ensures sent { result ≡ None → Sends (⟦<Parts<A, H, G, R> as Handed>⟧.says transport.old.config parts.old)
-        (record transport.old { delivered = [] }) transport.new }
-    ensures answered { result ≡ None → AnswersMore desk.old transport.old.delivered desk.new }
+    ensures answers { result ≡ None → Answers (⟦<Parts<A, H, G, R> as Handed>⟧.says transport.old.config parts.old)
+        desk.old (record transport.old { delivered = [] }) transport.old.delivered desk.new transport.new }
     ensures live { result ≡ None → transport.new.failed ≡ false }
     ensures config { result ≡ None → transport.new.config ≡ transport.old.config }
     ensures cut { IfSome result (IsCutAt desk.old transport.old.delivered) }
@@ -284,9 +284,8 @@ fn answer_one<A: Agreement, H: HostKeys, G: GroupLookup, R: Rng>(
     payload: &[u8],
 ) -> Option<TalkEnd>
     requires live { transport.old.failed ≡ false }
-    ensures sent { result ≡ None → Sends (⟦<Parts<A, H, G, R> as Handed>⟧.says transport.old.config parts.old)
-        transport.old transport.new }
-    ensures answered { result ≡ None → AnswersMore desk.old (payload.now ∷ []) desk.new }
+    ensures answers { result ≡ None → Answers (⟦<Parts<A, H, G, R> as Handed>⟧.says transport.old.config parts.old)
+        desk.old transport.old (payload.now ∷ []) desk.new transport.new }
     ensures live { result ≡ None → transport.new.failed ≡ false }
     ensures config { result ≡ None → transport.new.config ≡ transport.old.config }
     ensures cut { IfSome result (IsCutAt desk.old (payload.now ∷ [])) }

@@ -4,7 +4,7 @@ use Rattle.ssh_wire.specs.Reading.{Waiting}
 use Rattle.ssh_rules.specs.Machine.{first_state}
 use Rattle.ssh_rules.specs.Standing.{Standing}
 use Rattle.ssh_pipe.proofs.Known.{fresh_desk, talked_as, unopened}
-use Rattle.ssh_pipe.proofs.Ways.{ends_nowhere, takes_none}
+use Rattle.ssh_pipe.proofs.Ways.{ends_unbegun, takes_none}
 use Rattle.ssh_pipe.proofs.program.talk_as.Goals as goal
 
 pub returns-in-Err-clause-talked : goal.returns-in-Err-clause-talked
@@ -20,7 +20,7 @@ returns-in-Err-clause-talked g c =
       failed = false;
     } in
     let fresh = fresh_desk c.args.side in
-    ([], takes_none _, talked_as _ _ _ _ _ c.args.side c.args.config.now start fresh.desk _ [] _ _ (λ host hash signature k. k, λ host k. k) refl fresh.of_side fresh.answered (ends_nowhere _ _ _ fresh.desk start _ _ (inr (unopened fresh.desk start c.in-Err.error refl c.in-Err.ensures.err))))
+    ([], takes_none _, talked_as _ _ _ _ _ c.args.side c.args.config.now start fresh.desk _ [] _ _ (λ host hash signature k. k, λ host k. k) refl fresh.of_side fresh.answered (ends_unbegun _ _ _ fresh.desk _ start _ c.in-Err.error (inr (unopened fresh.desk start c.in-Err.error refl c.in-Err.ensures.err))))
 
 pub returns-in-Ok-clause-talked : goal.returns-in-Ok-clause-talked
 returns-in-Ok-clause-talked g c =

@@ -6,7 +6,7 @@ use Rattle.ssh_rules.specs.Refusing.{untrusted_of}
 use Rattle.ssh_transport.proofs.Lemmas.{agreement_after, agreement_same, groups_after, groups_same, hosts_after, hosts_same, kept_denying, kept_untrusting, kept_weaker}
 use Rattle.ssh_pipe.specs.Talks.{TellsFault}
 use Rattle.ssh_pipe.specs.declared.end.TalkEnd.TheVariants.{SinkFailed, SourceFailed}
-use Rattle.ssh_pipe.proofs.Ways.{ends_behind, reaches_later, takes_join, takes_none, talks_behind, talks_nowhere}
+use Rattle.ssh_pipe.proofs.Ways.{ends_behind, ends_spent, reaches_later, takes_join, takes_none, talks_behind, talks_nowhere}
 use Rattle.ssh_pipe.proofs.talking.take_turns.Goals as goal
 
 pub turns-init : goal.turns-init
@@ -35,6 +35,11 @@ turns-preserved g c =
       hosts = hosts_after _ _ _ _ _ _ _ _ _ _ _ _ inv.hosts c.turn-end.ensures.keeps.hosts;
       groups = groups_after _ _ _ _ _ _ _ _ inv.groups c.turn-end.ensures.keeps.groups;
     }
+
+pub returns-clause-talked : goal.returns-clause-talked
+returns-clause-talked g c =
+    let inv = c.turns.invariant in
+    (inv.gone.0, inv.gone.1, ends_spent _ _ _ c.args.desk.now c.turns.desk c.args.transport.now _ inv.gone.0 c.turns.transport _ inv.live inv.gone.2)
 
 pub returns-in-Some-clause-talked : goal.returns-in-Some-clause-talked
 returns-in-Some-clause-talked g c =

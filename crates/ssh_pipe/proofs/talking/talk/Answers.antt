@@ -1,11 +1,11 @@
 use Rattle.std.proofs.Common.{[], inl, inr}
 use Rattle.ssh_kex.specs.Stepping.{denies_of, says_of}
 use Rattle.ssh_rules.specs.Refusing.{untrusted_of}
-use Rattle.ssh_pipe.proofs.Ways.{ends_begun, ends_nowhere, takes_none}
+use Rattle.ssh_pipe.proofs.Ways.{ends_begun, ends_unbegun, takes_none}
 use Rattle.ssh_pipe.proofs.talking.talk.Goals as goal
 
 pub returns-in-Err-clause-talked : goal.returns-in-Err-clause-talked
-returns-in-Err-clause-talked g c = ([], takes_none _, ends_nowhere _ _ _ c.args.desk.now c.args.transport.now _ _ (inr (c.requires.live, inl c.in-Err.ensures.memory)))
+returns-in-Err-clause-talked g c = ([], takes_none _, ends_unbegun _ _ _ c.args.desk.now _ c.args.transport.now _ c.in-Err.error (inr (c.requires.live, inl c.in-Err.ensures.memory)))
 
 pub returns-in-Ok-clause-talked : goal.returns-in-Ok-clause-talked
 returns-in-Ok-clause-talked g c =
