@@ -3,7 +3,8 @@
 //! REKEY bytes of payload. Writes how many bytes were delivered, and how long both wires are.
 #![tactic(auto)]
 
-use ssh_link::{Script, ScriptError, parse_script, run_script};
+use ssh_link::{Script, Word, parse_script, run_script};
+use ssh_program::words_of;
 use ssh_rules::link::{LinkReport, Step};
 use ssh_wire::{Blob, Error, Side};
 use std::alloc::Global;
@@ -66,10 +67,10 @@ fn script_of(alloc: Global, cipher: &str, mac: &str) -> io::Result<Option<Script
     }
 }
 
-/// The report of the run.
-fn run(alloc: Global, mut script: Script, load: Load) -> Result<LinkReport, Error> {
+/// The report of the script with these steps behind its own.
+fn run(alloc: Global, script: &mut Script, load: Load) -> Result<LinkReport, Error> {
     push_steps(alloc, &mut script.steps, load)?;
-    run_script(alloc, &script)
+    run_script(alloc, script)
 }
 
 /// How many bytes were delivered.
@@ -81,33 +82,36 @@ fn delivered(report: &LinkReport) -> u64 {
     bytes
 }
 
-fn main(rt: HostRuntime) -> io::Result<()> {
-    let mut words = env::args(&rt)?.skip(1);
-    let (Some(cipher), Some(mac), Some(length), Some(count), Some(piece), Some(rekey)) = (
-        words.next(),
-        words.next(),
-        words.next(),
-        words.next(),
-        words.next(),
-        words.next(),
-    ) else {
-        return Ok(());
-    };
-    let load = Load {
+/// What the words ask to be carried.
+fn load_of(length: &Word, count: &Word, piece: &Word, rekey: &Word) -> Load {
+    Load {
         length: length.as_str().parse::<usize>().unwrap_or(0),
         count: count.as_str().parse::<u32>().unwrap_or(0),
         piece: piece.as_str().parse::<u64>().unwrap_or(0),
         rekey: rekey.as_str().parse::<u64>().unwrap_or(0),
-    };
-    let Some(script) = script_of(rt.alloc(), cipher.as_str(), mac.as_str())? else {
+    }
+}
+
+/// How many bytes were delivered, and how long both wires are.
+fn carried(alloc: Global, script: &mut Script, load: Load) -> Result<(u64, usize), Error> {
+    let report = run(alloc, script, load)?;
+    let wires = report.client.wire.as_slice().len() + report.server.wire.as_slice().len();
+    Ok((delivered(&report), wires))
+}
+
+fn main(rt: HostRuntime) -> io::Result<()> {
+    let Ok(words) = words_of(rt.alloc(), env::args(&rt)) else {
         return Ok(());
     };
-    match run(rt.alloc(), script, load) {
-        Ok(report) => {
-            let bytes = delivered(&report);
-            let wires = report.client.wire.as_slice().len() + report.server.wire.as_slice().len();
-            println!(rt; "{bytes} {wires}")?;
-        }
+    let [cipher, mac, length, count, piece, rekey] = words.as_slice() else {
+        return Ok(());
+    };
+    let load = load_of(length, count, piece, rekey);
+    let Some(mut script) = script_of(rt.alloc(), cipher.as_str(), mac.as_str())? else {
+        return Ok(());
+    };
+    match carried(rt.alloc(), &mut script, load) {
+        Ok((bytes, wires)) => println!(rt; "{bytes} {wires}")?,
         Err(error) => println!(rt; "{error}")?,
     }
     Ok(())

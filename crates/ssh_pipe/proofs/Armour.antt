@@ -3,7 +3,7 @@ use Rattle.std.proofs.Common.{◌≡◌, ℕ, ◌==◌, ◌||◌, not, Bool, tru
 use Rattle.std.specs.Prelude.{filter, flat_map}
 use Rattle.std.proofs.lemmas.Grind.{common_steps}
 use Rattle.ssh_lines.specs.Lines.{pieces, onto_first}
-use Rattle.ssh_pipe.specs.KeyFiles.{armoured, is_kept, line_text}
+use Rattle.ssh_pipe.specs.KeyFiles.{armour_line, armoured, is_kept}
 
 -- a byte of a line, before what comes after it: line ends are left out, and so is a line that is skipped
 abbrev pub before_rest : (ends skips : Bool) → ℕ → List ℕ → List ℕ
@@ -25,14 +25,14 @@ rest_of_line skips line = if skips then [] else filter is_kept line
 -- what comes after a line's begin
 abbrev pub from_inside : (skips : Bool) → List (List ℕ) → List ℕ
 from_inside skips [] = rest_of_line skips [] ++ []
-from_inside skips (line ∷ lines) = rest_of_line skips line ++ flat_map line_text lines
+from_inside skips (line ∷ lines) = rest_of_line skips line ++ flat_map armour_line lines
 
 abbrev pub from_lines : (begins skips : Bool) → List (List ℕ) → List ℕ
-from_lines true skips lines = flat_map line_text lines
+from_lines true skips lines = flat_map armour_line lines
 from_lines false skips lines = from_inside skips lines
 
 -- a line's end
-no_line : (begins skips : Bool) (lines : List (List ℕ)) → flat_map line_text lines ≡ from_lines begins skips ([] ∷ lines)
+no_line : (begins skips : Bool) (lines : List (List ℕ)) → flat_map armour_line lines ≡ from_lines begins skips ([] ∷ lines)
 no_line true skips lines = refl
 no_line false true lines = refl
 no_line false false lines = refl
@@ -48,9 +48,9 @@ byte_on false b line more = byte_kept (b == 13) b (filter is_kept line) more
 
 byte_of_lines : (begins skips : Bool) (b : ℕ) (lines : List (List ℕ)) → before_rest false (if begins then b == 45 else skips) b (from_inside (if begins then b == 45 else skips) lines) ≡ from_lines begins skips (onto_first b lines)
 byte_of_lines true skips b [] = byte_on (b == 45) b [] []
-byte_of_lines true skips b (line ∷ lines) = byte_on (b == 45) b line (flat_map line_text lines)
+byte_of_lines true skips b (line ∷ lines) = byte_on (b == 45) b line (flat_map armour_line lines)
 byte_of_lines false skips b [] = byte_on skips b [] []
-byte_of_lines false skips b (line ∷ lines) = byte_on skips b line (flat_map line_text lines)
+byte_of_lines false skips b (line ∷ lines) = byte_on skips b line (flat_map armour_line lines)
 
 -- a byte of a text
 byte_of_text : (ends begins skips : Bool) (b : ℕ) (rest : List ℕ) (lines : List (List ℕ)) → rest ≡ from_lines ends (if begins then b == 45 else skips) lines → before_rest ends (if begins then b == 45 else skips) b rest ≡ from_lines begins skips (if ends then [] ∷ lines else onto_first b lines)

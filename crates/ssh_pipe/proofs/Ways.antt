@@ -25,7 +25,7 @@ use Rattle.ssh_pipe.specs.Desks.{AreReplies, DeskState, HasAnswered, IsAsking, I
 use Rattle.ssh_pipe.specs.declared.desk.Reply.{Reply}
 use Rattle.ssh_pipe.specs.declared.desk.Reply.TheVariants as replies
 use Rattle.ssh_pipe.specs.declared.desk.Reply.TheVariants.{Message}
-use Rattle.ssh_pipe.specs.Talks.{Answers, AnswersMore, Ends, EndsRefused, EndsWell, GetsReply, HasFault, IsCutAt, IsEndFor, IsGranted, Fed, FedLast, Follows, Goes, Handed, Move, Moves, MovesBy, SaysBack, SaysFirst, TalksOn, fed_in, piece_of, said_in, untouched}
+use Rattle.ssh_pipe.specs.Talks.{AnswersMore, Ends, EndsRefused, EndsWell, GetsReply, HandsReplies, HasFault, IsCutAt, IsEndFor, IsGranted, Fed, FedLast, Follows, Goes, Handed, Move, Moves, MovesBy, SaysBack, SaysFirst, TalksOn, fed_in, piece_of, said_in, untouched}
 use Rattle.ssh_pipe.specs.declared.end.TalkEnd.{TalkEnd}
 use Rattle.ssh_pipe.specs.declared.end.TalkEnd.TheVariants.{Disconnected, Exhausted, Granted, InputEnded, NotServed, Refused, SinkFailed, SourceFailed}
 
@@ -484,39 +484,36 @@ submits_join says (p ∷ ps) qs a b c h k = (h.0, h.1, submits_join says ps qs h
 
 -- replies behind replies, where the parts are as they were
 pub answers_more : {A H G : Type 0} (says : Config → A → H → G → Says) (config config' : Config) (a a' : A) (h h' : H) (g g' : G) (p q r : DeskState) (xs ys : List (List ℕ)) (old mid new : Standing)
-    → config' ≡ config → a' ≡ a → h' ≡ h → g' ≡ g → Answers (says config a h g) p old xs q mid → Answers (says config' a' h' g') q mid ys r new → Answers (says config a h g) p old (xs ++ ys) r new
+    → config' ≡ config → a' ≡ a → h' ≡ h → g' ≡ g → HandsReplies (says config a h g) p old xs q mid → HandsReplies (says config' a' h' g') q mid ys r new → HandsReplies (says config a h g) p old (xs ++ ys) r new
 answers_more says config config' a a' h h' g g' p q r xs ys old mid new c e k m first more =
-    let same : Answers (says config a h g) q mid ys r new =
-    subst (λ x. Answers (says x a h g) q mid ys r new) c
-    (subst (λ x. Answers (says config' x h g) q mid ys r new) e
-    (subst (λ x. Answers (says config' a' x g) q mid ys r new) k
-    (subst (λ x. Answers (says config' a' h' x) q mid ys r new) m more))) in
+    let same : HandsReplies (says config a h g) q mid ys r new =
+    subst (λ x. HandsReplies (says x a h g) q mid ys r new) c
+    (subst (λ x. HandsReplies (says config' x h g) q mid ys r new) e
+    (subst (λ x. HandsReplies (says config' a' x g) q mid ys r new) k
+    (subst (λ x. HandsReplies (says config' a' h' x) q mid ys r new) m more))) in
     (first.0 ++ same.0, submits_join (says config a h g) first.0 same.0 old mid new first.1 same.1, answers_join p q r xs ys first.0 same.0 first.2 same.2)
-
-pub answers_nothing : (says : Says) (d : DeskState) (t : Standing) → Answers says d t [] d t
-answers_nothing says d t = ([], refl, answers_none d)
 
 follows_one : (says : Says) (t : Standing) (payload : List ℕ) (new : Standing) → t.failed ≡ false → IsSaid payload → Submitted says t payload new → Follows says t (Handed payload ∷ []) new
 follows_one says t payload new live said h = (new, (live, (said, h)), refl)
 
 -- one payload was answered: by silence, or by a message
 pub answers_silent : (says : Says) (d d' : DeskState) (t : Standing) (payload : List ℕ) (r : Reply) → r ≡ replies.Silent → d'.side ≡ d.side → ((earlier : List (List ℕ)) → HasAnswered d earlier → HasAnswered d' (earlier ++ payload ∷ [])) → ((earlier : List (List ℕ)) → HasAnswered d earlier → r ≡ reply_to d.side earlier payload)
-    → Answers says d t (payload ∷ []) d' t
+    → HandsReplies says d t (payload ∷ []) d' t
 answers_silent says d d' t payload r is side answered reply =
     ([], refl, (side, answered, λ earlier z. ([], subst (λ x. SaysBefore x [] []) (sym is ∙ reply earlier z) refl, refl)))
 
 pub answers_message : (says : Says) (d d' : DeskState) (t new : Standing) (payload message slice : List ℕ) (r : Reply) → t.failed ≡ false → IsSaid message → slice ≡ message → Submitted says t slice new → r ≡ Message message → d'.side ≡ d.side → ((earlier : List (List ℕ)) → HasAnswered d earlier → HasAnswered d' (earlier ++ payload ∷ [])) → ((earlier : List (List ℕ)) → HasAnswered d earlier → r ≡ reply_to d.side earlier payload)
-    → Answers says d t (payload ∷ []) d' new
+    → HandsReplies says d t (payload ∷ []) d' new
 answers_message says d d' t new payload message slice r live said same h is side answered reply =
     (message ∷ [], follows_one says t message new live said (subst (λ s. Submitted says t s new) same h), (side, answered, λ earlier z. ([], subst (λ x. SaysBefore x (message ∷ []) []) (sym is ∙ reply earlier z) refl, refl)))
 
 -- a piece was taken, and what it delivered was answered
 pub talks_sends : (x y : Config → Says) → ((k : Config) → Weaker (y k) (x k)) → (p q : DeskState) (a : Standing) (held held' : Option (List ℕ)) (piece : List ℕ) (fed c : Standing)
-    → a.failed ≡ false → fed.config ≡ a.config → held' ≡ held → TakesInput (x a.config) a piece fed → Answers (y fed.config) p (record fed { delivered = [] }) fed.delivered q c → TalksOn (x a.config) p a held piece q c held'
+    → a.failed ≡ false → fed.config ≡ a.config → held' ≡ held → TakesInput (x a.config) a piece fed → HandsReplies (y fed.config) p (record fed { delivered = [] }) fed.delivered q c → TalksOn (x a.config) p a held piece q c held'
 unfolding goes_on goes_join goes_fed goes_weaker goes_submitted
 talks_sends x y w p q a held held' piece fed c live same still takes answers =
     let b : Standing = record fed { delivered = [] } in
-    let P : Config → Type 0 = λ k. Answers (y k) p b fed.delivered q c in
+    let P : Config → Type 0 = λ k. HandsReplies (y k) p b fed.delivered q c in
     let s = subst P same answers in
     let later = goes_weaker (y a.config) (x a.config) (w a.config) b held [] c held (goes_submitted (y a.config) b s.0 c held s.1) in
     let on : TalksOn (x a.config) p a held piece q c held = record {

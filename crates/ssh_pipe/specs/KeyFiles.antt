@@ -22,12 +22,12 @@ is_dashed (b ∷ rest) = b == 45
 abbrev pub is_kept : ℕ → Bool
 is_kept b = not (b == 13)
 
-abbrev pub line_text : List ℕ → List ℕ
-line_text line = if is_dashed line then [] else filter is_kept line
+abbrev pub armour_line : List ℕ → List ℕ
+armour_line line = if is_dashed line then [] else filter is_kept line
 
 -- the lines of a file's text that don't begin with a dash, without line ends
 abbrev pub armoured : List ℕ → List ℕ
-armoured text = flat_map line_text (pieces 10 text)
+armoured text = flat_map armour_line (pieces 10 text)
 
 -- what stands before the fields
 abbrev pub key_magic : List ℕ

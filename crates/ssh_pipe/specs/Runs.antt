@@ -35,6 +35,14 @@ pub record Ports : Type 0 where
   pub source_faults : ℕ
   pub sink_faults : ℕ
 
+abbrev pub ports : (left held : Option (List ℕ)) → (source_faults sink_faults : ℕ) → Ports
+ports left held source_faults sink_faults = record {
+  left = left;
+  held = held;
+  source_faults = source_faults;
+  sink_faults = sink_faults;
+}
+
 -- nothing was read or written, nor tried
 abbrev pub IsUntouched : (before now : Ports) → Type 0
 IsUntouched before now = now ≡ before

@@ -86,8 +86,8 @@ AnswersMore d payloads said d' = (d'.side ≡ d.side)
     × ((earlier : List (List ℕ)) → HasAnswered d earlier → AreReplies d.side earlier payloads said)
 
 -- A desk answered these payloads, and the side was handed the replies, one after the other.
-abbrev pub Answers : Says → DeskState → Standing → (payloads : List (List ℕ)) → DeskState → Standing → Type 0
-Answers says d old payloads d' new = (said : List (List ℕ)) × Follows says old (map Handed said) new
+abbrev pub HandsReplies : Says → DeskState → Standing → (payloads : List (List ℕ)) → DeskState → Standing → Type 0
+HandsReplies says d old payloads d' new = (said : List (List ℕ)) × Follows says old (map Handed said) new
     × AnswersMore d payloads said d'
 
 -- A talk went on: what was taken of what was delivered, the desk answered, and its replies were all that was said.

@@ -13,7 +13,7 @@ ghost use Rattle.ssh_wire.specs.declared.error.ConfigFault.{ConfigFault};
 ghost use Rattle.ssh_wire.specs.declared.error.Error.TheVariants.{InvalidConfig, Memory};
 ghost use Rattle.ssh_pipe.specs.Desks.{HasAnswered};
 ghost use Rattle.ssh_pipe.specs.Keys.{IsFaultyFile, IsSetUp};
-ghost use Rattle.ssh_pipe.specs.Runs.{IsProgramRun, longest_file};
+ghost use Rattle.ssh_pipe.specs.Runs.{IsProgramRun, longest_file, ports};
 ghost use Rattle.ssh_pipe.specs.Talks.{Talked, TellsFault};
 ghost use Rattle.ssh_pipe.specs.declared.end.TalkEnd.TheVariants.{Exhausted, InputEnded, SinkFailed, SourceFailed};
 
@@ -59,18 +59,8 @@ pub fn exit_code<R: Files + RandomSource, S: Source, K: Sink, N: Sink>(
 ) -> ExitCode
     ensures status { exit_status result ≤ want_of_memory }
     ensures ran { IsProgramRun ⟦<Parts<FieldAgreement, RsaHosts, ModpGroups, ChaCha20Rng> as RunTold>⟧.runs arguments
-        (record {
-          left = S.left source.old;
-          held = K.held sink.old;
-          source_faults = S.faults source.old;
-          sink_faults = K.faults sink.old;
-        })
-        (record {
-          left = S.left source.new;
-          held = K.held sink.new;
-          source_faults = S.faults source.new;
-          sink_faults = K.faults sink.new;
-        }) (exit_status result) }
+        (ports (S.left source.old) (K.held sink.old) (S.faults source.old) (K.faults sink.old))
+        (ports (S.left source.new) (K.held sink.new) (S.faults source.new) (K.faults sink.new)) (exit_status result) }
 {
     match words_of(alloc, arguments) {
         Ok(words) => ExitCode::from(run(rt, alloc, words.as_slice(), source, sink, notes)),
@@ -89,18 +79,8 @@ fn run<R: Files + RandomSource, S: Source, K: Sink, N: Sink>(
 ) -> u8
     ensures status { result ≤ want_of_memory }
     ensures ran { ⟦<Parts<FieldAgreement, RsaHosts, ModpGroups, ChaCha20Rng> as RunTold>⟧.runs words.now
-        (record {
-          left = S.left source.old;
-          held = K.held sink.old;
-          source_faults = S.faults source.old;
-          sink_faults = K.faults sink.old;
-        })
-        (record {
-          left = S.left source.new;
-          held = K.held sink.new;
-          source_faults = S.faults source.new;
-          sink_faults = K.faults sink.new;
-        }) result }
+        (ports (S.left source.old) (K.held sink.old) (S.faults source.old) (K.faults sink.old))
+        (ports (S.left source.new) (K.held sink.new) (S.faults source.new) (K.faults sink.new)) result }
 {
     let Some(command) = command_of(words) else {
         tell(USAGE, notes);
@@ -138,18 +118,8 @@ pub fn run_with_key<S: Source, K: Sink, N: Sink>(
     ensures status { result ≤ want_of_memory }
     ensures ran { ⟦<Parts<FieldAgreement, RsaHosts, ModpGroups, ChaCha20Rng> as RunTold>⟧.runs_with_key
         command.now.side command.now.limit text.now seed
-        (record {
-          left = S.left source.old;
-          held = K.held sink.old;
-          source_faults = S.faults source.old;
-          sink_faults = K.faults sink.old;
-        })
-        (record {
-          left = S.left source.new;
-          held = K.held sink.new;
-          source_faults = S.faults source.new;
-          sink_faults = K.faults sink.new;
-        }) result }
+        (ports (S.left source.old) (K.held sink.old) (S.faults source.old) (K.faults sink.old))
+        (ports (S.left source.new) (K.held sink.new) (S.faults source.new) (K.faults sink.new)) result }
 {
     match set_up(alloc, command, text, seed) {
         Ok((config, mut parts)) => {

@@ -6,7 +6,7 @@ ghost use Rattle.ssh_rules.specs.Valid.{is_good_payload};
 ghost use Rattle.ssh_wire.specs.Outside.{Appends, AppendsFront, ReachesEnd, Rose, TakesFront};
 ghost use Rattle.ssh_wire.specs.declared.error.Error.TheVariants.{Memory};
 ghost use Rattle.ssh_pipe.specs.Desks.{first_of, first_said};
-ghost use Rattle.ssh_pipe.specs.Talks.{Answers, Ends, IsCutAt, IsEndFor, SaysFirst, TalksOn, TellsFault};
+ghost use Rattle.ssh_pipe.specs.Talks.{Ends, HandsReplies, IsCutAt, IsEndFor, SaysFirst, TalksOn, TellsFault};
 ghost use Rattle.ssh_pipe.specs.declared.end.TalkEnd.TheVariants.{Exhausted, InputEnded, Refused, SinkFailed, SourceFailed};
 
 use crate::desk::{Desk, Reply};
@@ -257,7 +257,7 @@ fn answer_all<A: Agreement, H: HostKeys, G: GroupLookup, R: Rng>(
     desk: &mut Desk,
 ) -> Option<TalkEnd>
     requires live { transport.old.failed ≡ false }
-    ensures answers { result ≡ None → Answers (⟦<Parts<A, H, G, R> as Handed>⟧.says transport.old.config parts.old)
+    ensures answers { result ≡ None → HandsReplies (⟦<Parts<A, H, G, R> as Handed>⟧.says transport.old.config parts.old)
         desk.old (record transport.old { delivered = [] }) transport.old.delivered desk.new transport.new }
     ensures live { result ≡ None → transport.new.failed ≡ false }
     ensures config { result ≡ None → transport.new.config ≡ transport.old.config }
@@ -284,7 +284,7 @@ fn answer_one<A: Agreement, H: HostKeys, G: GroupLookup, R: Rng>(
     payload: &[u8],
 ) -> Option<TalkEnd>
     requires live { transport.old.failed ≡ false }
-    ensures answers { result ≡ None → Answers (⟦<Parts<A, H, G, R> as Handed>⟧.says transport.old.config parts.old)
+    ensures answers { result ≡ None → HandsReplies (⟦<Parts<A, H, G, R> as Handed>⟧.says transport.old.config parts.old)
         desk.old transport.old (payload.now ∷ []) desk.new transport.new }
     ensures live { result ≡ None → transport.new.failed ≡ false }
     ensures config { result ≡ None → transport.new.config ≡ transport.old.config }
