@@ -11,8 +11,8 @@ use Rattle.ssh_kex.specs.Setting.{Says}
 use Rattle.ssh_kex.specs.declared.config.Config.{Config}
 use Rattle.ssh_kex.specs.declared.exchange.ServerHost.{ServerHost}
 use Rattle.ssh_rules.specs.Refusing.{RefusesPiece}
-use Rattle.ssh_rules.specs.Log.{sent_bytes, delivered_in}
-use Rattle.ssh_rules.specs.Machine.{Event}
+use Rattle.ssh_rules.specs.Log.{sent_bytes, delivered_in, handled}
+use Rattle.ssh_rules.specs.Machine.{Event, ExchangeBegun, IdHeard, PayloadSubmitted, AnswerSent, PayloadSent, MessageTaken, GuessDropped, PayloadDelivered, PacketDropped, ExchangeFinished}
 use Rattle.ssh_wire.specs.declared.side.Side.TheVariants.{Client, Server}
 use Rattle.ssh_wire.specs.declared.side.Side.{Side}
 use Rattle.ssh_rules.specs.Standing.{Acts, HearsBy, OfFault, OfMemory, OfPacket, OfVersion, RefusalCause, RefusesInput, Standing, Submitted, TakesInput, is_outside}
@@ -25,7 +25,7 @@ use Rattle.ssh_pipe.specs.Desks.{AreReplies, DeskState, HasAnswered, IsAsking, I
 use Rattle.ssh_pipe.specs.declared.desk.Reply.{Reply}
 use Rattle.ssh_pipe.specs.declared.desk.Reply.TheVariants as replies
 use Rattle.ssh_pipe.specs.declared.desk.Reply.TheVariants.{Message}
-use Rattle.ssh_pipe.specs.Talks.{AnswersMore, Ends, EndsRefused, EndsWell, GetsReply, HandsReplies, HasFault, IsCutAt, IsEndFor, IsGranted, Fed, FedLast, Follows, Goes, Handed, Move, Moves, MovesBy, SaysBack, SaysFirst, TalksOn, fed_in, piece_of, said_in, untouched}
+use Rattle.ssh_pipe.specs.Talks.{AnswersMore, Ends, EndsRefused, EndsWell, GetsReply, HandsReplies, HasFault, IsCutAt, IsEndFor, IsGranted, LeavesNone, Fed, FedLast, Follows, Goes, Handed, Move, Moves, MovesBy, SaysBack, SaysFirst, TalksOn, fed_in, piece_of, said_in, untouched}
 use Rattle.ssh_pipe.specs.declared.end.TalkEnd.{TalkEnd}
 use Rattle.ssh_pipe.specs.declared.end.TalkEnd.TheVariants.{Disconnected, Exhausted, Granted, InputEnded, NotServed, Refused, SinkFailed, SourceFailed}
 
@@ -339,6 +339,56 @@ reply_behind d mid xs ys a reply h g = record {
       ∙ (ap (λ l. reply_to mid.side l g.payload) (sym (append_assoc earlier xs g.before)) ∙ g.reply_is (earlier ++ xs) (h.1 earlier a));
 }
 
+-- ---- what is left of what was delivered
+
+cons_nil : {A : Type 0} (x : A) (xs : List A) → x ∷ xs ≡ [] → ⊥
+cons_nil x xs e = cc
+
+-- nothing is delivered where nothing is read
+none_delivered : (es : List Event) → handled es ≡ [] → delivered_in es ≡ []
+none_delivered [] e = refl
+none_delivered (IdHeard id ∷ es) e = none_delivered es e
+none_delivered (PayloadSubmitted p ∷ es) e = none_delivered es e
+none_delivered (ExchangeBegun cause i ∷ es) e = none_delivered es e
+none_delivered (AnswerSent i r ∷ es) e = none_delivered es e
+none_delivered (PayloadSent i ∷ es) e = none_delivered es e
+none_delivered (MessageTaken i ∷ es) e = absurd (cons_nil i (handled es) e)
+none_delivered (GuessDropped i ∷ es) e = absurd (cons_nil i (handled es) e)
+none_delivered (PayloadDelivered i ∷ es) e = absurd (cons_nil i (handled es) e)
+none_delivered (PacketDropped i ∷ es) e = absurd (cons_nil i (handled es) e)
+none_delivered (ExchangeFinished i x ∷ es) e = absurd (cons_nil i (handled es) e)
+
+-- payloads that are handed to a side deliver none
+handed_keeps : (says : Says) (payloads : List (List ℕ)) (old new : Standing) → Follows says old (map Handed payloads) new → new.delivered ≡ old.delivered
+handed_keeps says [] old new h = ap (λ (t : Standing). t.delivered) h
+handed_keeps says (p ∷ payloads) old new h =
+    let sends = h.1.1.1 in
+    handed_keeps says payloads h.0 new h.2 ∙ (sends.acts.delivered ∙ (ap (λ l. old.delivered ++ l) (none_delivered sends.events sends.none_read) ∙ append-nil old.delivered))
+
+left_nowhere : (end : TalkEnd) (at : Standing) → at.delivered ≡ [] → LeavesNone end at
+left_nowhere InputEnded at n = n
+left_nowhere Disconnected at n = tt
+left_nowhere Granted at n = n
+left_nowhere (Refused e) at n = tt
+left_nowhere NotServed at n = tt
+left_nowhere SourceFailed at n = n
+left_nowhere SinkFailed at n = tt
+left_nowhere Exhausted at n = n
+
+left_cut : (p : DeskState) (payloads : List (List ℕ)) (end : TalkEnd) (at : Standing) → IsCutAt p payloads end → LeavesNone end at
+left_cut p payloads InputEnded at cut = absurd cut
+left_cut p payloads Disconnected at cut = tt
+left_cut p payloads Granted at cut = absurd cut
+left_cut p payloads (Refused e) at cut = tt
+left_cut p payloads NotServed at cut = tt
+left_cut p payloads SourceFailed at cut = absurd cut
+left_cut p payloads SinkFailed at cut = tt
+left_cut p payloads Exhausted at cut = absurd cut
+
+left_refused : (e : Error) (end : TalkEnd) (at : Standing) → IsEndFor e end → LeavesNone end at
+left_refused e end at (inl h) = subst (λ x. LeavesNone x at) (sym h.1) tt
+left_refused e end at (inr h) = subst (λ x. LeavesNone x at) (sym h.1) tt
+
 -- ---- ends
 
 -- what is told of a piece that was refused stands under what was written and answered
@@ -406,12 +456,13 @@ well_behind refused refused' f p q xs ys a h Exhausted at w = w
 
 -- an end behind a way on which a side said what it says first, and replies
 ends_after_way : (says : Says) (denies : Denies) (untrusted : ServerHost → Type 0) (p q : DeskState) (first said : List (List ℕ)) (a : Standing) (h0 : Option (List ℕ)) (f : List ℕ) (b : Standing) (h1 : Option (List ℕ)) (g : List ℕ) (h2 : Option (List ℕ)) (end : TalkEnd)
-    → (way : Goes says a h0 f b h1) → said_in way.moves ≡ first ++ said → AnswersMore p way.answered said q → Ends says denies untrusted q [] b h1 g h2 end → Ends says denies untrusted p first a h0 (f ++ g) h2 end
+    → (way : Goes says a h0 f b h1) → said_in way.moves ≡ first ++ said → AnswersMore p way.answered said q → (a.delivered ≡ [] → b.delivered ≡ []) → Ends says denies untrusted q [] b h1 g h2 end → Ends says denies untrusted p first a h0 (f ++ g) h2 end
 unfolding goes_join
-ends_after_way says denies untrusted p q first said a h0 f b h1 g h2 end way is answers e = record {
+ends_after_way says denies untrusted p q first said a h0 f b h1 g h2 end way is answers all e = record {
   at = e.at;
   goes = goes_join says a h0 f b h1 g e.at h2 way e.goes;
   said = said_behind p q end first way.answered e.goes.answered said way.moves e.goes.moves is answers e.said;
+  all = λ n. e.all (all n);
   well = well_behind
       (λ error. EndsRefused says denies untrusted b e.goes.moves error (untouched e.goes.sent e.goes.answered e.at))
       (λ error. EndsRefused says denies untrusted a (way.moves ++ e.goes.moves) error (untouched (way.sent ++ e.goes.sent) (way.answered ++ e.goes.answered) e.at))
@@ -421,7 +472,7 @@ ends_after_way says denies untrusted p q first said a h0 f b h1 g h2 end way is 
 
 pub ends_after : (says : Says) (denies : Denies) (untrusted : ServerHost → Type 0) (p q : DeskState) (a : Standing) (h0 : Option (List ℕ)) (f : List ℕ) (b : Standing) (h1 : Option (List ℕ)) (g : List ℕ) (h2 : Option (List ℕ)) (end : TalkEnd)
     → TalksOn says p a h0 f q b h1 → Ends says denies untrusted q [] b h1 g h2 end → Ends says denies untrusted p [] a h0 (f ++ g) h2 end
-ends_after says denies untrusted p q a h0 f b h1 g h2 end on e = ends_after_way says denies untrusted p q [] (said_in on.goes.moves) a h0 f b h1 g h2 end on.goes refl on.answers e
+ends_after says denies untrusted p q a h0 f b h1 g h2 end on e = ends_after_way says denies untrusted p q [] (said_in on.goes.moves) a h0 f b h1 g h2 end on.goes refl on.answers on.all e
 
 ends_weaker : (x y : Says) (d e : Denies) (u v : ServerHost → Type 0) → Denying y x e d → ((host : ServerHost) → v host → u host) → (p : DeskState) (first : List (List ℕ)) (a : Standing) (h0 : Option (List ℕ)) (f : List ℕ) (h1 : Option (List ℕ)) (end : TalkEnd)
     → Ends y e v p first a h0 f h1 end → Ends x d u p first a h0 f h1 end
@@ -430,6 +481,7 @@ ends_weaker x y d e u v w t p first a h0 f h1 end ends = record {
   at = ends.at;
   goes = goes_weaker y x w.weaker a h0 f ends.at h1 ends.goes;
   said = ends.said;
+  all = ends.all;
   well = well_behind
       (λ error. EndsRefused y e v a ends.goes.moves error (untouched ends.goes.sent ends.goes.answered ends.at))
       (λ error. EndsRefused x d u a ends.goes.moves error (untouched ends.goes.sent ends.goes.answered ends.at))
@@ -450,13 +502,14 @@ ends_spent says denies untrusted p q a h0 f b h1 live on = record {
   at = b;
   goes = on.goes;
   said = inr (λ earlier z. (said_in on.goes.moves, refl, on.answers.2 earlier z));
+  all = on.all;
   well = live;
 }
 
 -- a way behind a way
 pub talks_nowhere : (says : Says) (p : DeskState) (t : Standing) (held : Option (List ℕ)) → TalksOn says p t held [] p t held
 unfolding goes_nowhere
-talks_nowhere says p t held = record { goes = goes_nowhere says t held; answers = answers_none p }
+talks_nowhere says p t held = record { goes = goes_nowhere says t held; answers = answers_none p; all = λ n. n }
 
 pub talks_after : (says : Says) (p q r : DeskState) (a : Standing) (h0 : Option (List ℕ)) (f : List ℕ) (b : Standing) (h1 : Option (List ℕ)) (g : List ℕ) (c : Standing) (h2 : Option (List ℕ))
     → TalksOn says p a h0 f q b h1 → TalksOn says q b h1 g r c h2 → TalksOn says p a h0 (f ++ g) r c h2
@@ -464,11 +517,12 @@ unfolding goes_join
 talks_after says p q r a h0 f b h1 g c h2 x y = record {
   goes = goes_join says a h0 f b h1 g c h2 x.goes y.goes;
   answers = subst (λ l. AnswersMore p (x.goes.answered ++ y.goes.answered) l r) (sym (said_join x.goes.moves y.goes.moves)) (answers_join p q r x.goes.answered y.goes.answered (said_in x.goes.moves) (said_in y.goes.moves) x.answers y.answers);
+  all = λ n. y.all (x.all n);
 }
 
 talks_weaker : (x y : Says) → Weaker x y → (p q : DeskState) (a : Standing) (h0 : Option (List ℕ)) (f : List ℕ) (b : Standing) (h1 : Option (List ℕ)) → TalksOn x p a h0 f q b h1 → TalksOn y p a h0 f q b h1
 unfolding goes_weaker
-talks_weaker x y w p q a h0 f b h1 on = record { goes = goes_weaker x y w a h0 f b h1 on.goes; answers = on.answers }
+talks_weaker x y w p q a h0 f b h1 on = record { goes = goes_weaker x y w a h0 f b h1 on.goes; answers = on.answers; all = on.all }
 
 pub talks_behind : (x y : Config → Says) → ((k : Config) → Weaker (y k) (x k)) → (p q r : DeskState) (a : Standing) (h0 : Option (List ℕ)) (f : List ℕ) (b : Standing) (h1 : Option (List ℕ)) (g : List ℕ) (c : Standing) (h2 : Option (List ℕ))
     → b.config ≡ a.config → TalksOn (x a.config) p a h0 f q b h1 → TalksOn (y b.config) q b h1 g r c h2 → TalksOn (x a.config) p a h0 (f ++ g) r c h2
@@ -519,6 +573,7 @@ talks_sends x y w p q a held held' piece fed c live same still takes answers =
     let on : TalksOn (x a.config) p a held piece q c held = record {
       goes = goes_on (x a.config) a held piece b held c held (goes_fed (x a.config) a piece fed b held live takes refl) later;
       answers = subst (λ l. AnswersMore p l (said_in (map Handed s.0)) q) (sym (append-nil fed.delivered)) (subst (λ l. AnswersMore p fed.delivered l q) (sym (said_handed s.0)) s.2);
+      all = λ n. handed_keeps (y a.config) s.0 b c s.1;
     } in
     subst (λ h. TalksOn (x a.config) p a held piece q c h) (sym still) on
 
@@ -542,6 +597,7 @@ ends_cut says denies untrusted p a held held' piece fed end live still takes cut
       at = fed;
       goes = goes_taken says a piece fed held live takes;
       said = said_none p (Fed piece ∷ []) end refl;
+      all = λ n. left_cut p fed.delivered end fed cut;
       well = cut_well (λ e. EndsRefused says denies untrusted a (Fed piece ∷ []) e (untouched [] [] fed)) p end fed takes.acts.live cut;
     } in
     subst (λ h. Ends says denies untrusted p [] a held piece h end) (sym still) ends
@@ -558,6 +614,7 @@ ends_refused says denies untrusted p a held held' piece fed new e end live r sen
   at = new;
   goes = goes_on says a held piece fed held new held' (goes_refused says a piece fed held r.cause live r.refuses) (goes_sent says fed new held held' sent.0 sent.1);
   said = said_none p (FedLast piece ∷ []) end refl;
+  all = λ n. left_refused e end new is;
   well = end_well (λ error. EndsRefused says denies untrusted a (FedLast piece ∷ []) error (untouched fed.output [] new)) p [] e end new
       (ap (λ (t : Standing). t.output) sent.0) (ap (λ (t : Standing). t.failed) sent.0 ∙ r.refuses.failed)
       (record { earlier = []; piece = piece; mid = a; moves_are = refl; follows = refl; refuses = subst (λ t. RefusesPiece says denies untrusted a piece e t) (sym back) r }) is;
@@ -573,6 +630,7 @@ ends_unsent says denies untrusted p a held held' piece fed cause live refuses (n
   at = record fed { output = drop n fed.output };
   goes = goes_on says a held piece fed held (record fed { output = drop n fed.output }) held' (goes_refused says a piece fed held cause live refuses) (goes_front says fed held held' (n, within, w));
   said = said_none p (FedLast piece ∷ []) SinkFailed refl;
+  all = λ n. tt;
   well = tt;
 }
 
@@ -583,13 +641,14 @@ ends_front says denies untrusted p t held held' (n, within, w) = record {
   at = record t { output = drop n t.output };
   goes = goes_front says t held held' (n, within, w);
   said = said_none p [] SinkFailed refl;
+  all = λ n. tt;
   well = tt;
 }
 
 -- all was written before
 talks_sent : (says : Says) (p : DeskState) (t mid : Standing) (held held' : Option (List ℕ)) → (mid ≡ record t { output = [] }) × Appends t.output held held' → TalksOn says p t held [] p mid held'
 unfolding goes_sent
-talks_sent says p t mid held held' sent = record { goes = goes_sent says t mid held held' sent.0 sent.1; answers = answers_none p }
+talks_sent says p t mid held held' sent = record { goes = goes_sent says t mid held held' sent.0 sent.1; answers = answers_none p; all = λ n. ap (λ (s : Standing). s.delivered) sent.0 ∙ n }
 
 pub talks_sent_before : (x : Config → Says) (p q : DeskState) (t mid : Standing) (held held' held'' : Option (List ℕ)) (piece : List ℕ) (new : Standing) → (mid ≡ record t { output = [] }) × Appends t.output held held'
     → TalksOn (x mid.config) p mid held' piece q new held'' → TalksOn (x t.config) p t held piece q new held''
@@ -639,12 +698,12 @@ some_weaker (Some x) P Q f h = f x h
 -- nothing was done, and the talk ended
 pub ends_nowhere : (says : Says) (denies : Denies) (untrusted : ServerHost → Type 0) (p : DeskState) (t : Standing) (held : Option (List ℕ)) (end : TalkEnd) → EndsWell (λ e. EndsRefused says denies untrusted t [] e (untouched [] [] t)) p [] end t → Ends says denies untrusted p [] t held [] held end
 unfolding goes_nowhere
-ends_nowhere says denies untrusted p t held end well = record { at = t; goes = goes_nowhere says t held; said = said_none p [] end refl; well = well }
+ends_nowhere says denies untrusted p t held end well = record { at = t; goes = goes_nowhere says t held; said = said_none p [] end refl; all = left_nowhere end t; well = well }
 
 -- and it was not even begun
 pub ends_unbegun : (says : Says) (denies : Denies) (untrusted : ServerHost → Type 0) (p : DeskState) (first : List (List ℕ)) (t : Standing) (held : Option (List ℕ)) (e : Error) → EndsWell (λ e. EndsRefused says denies untrusted t [] e (untouched [] [] t)) p [] (Refused e) t → Ends says denies untrusted p first t held [] held (Refused e)
 unfolding goes_nowhere
-ends_unbegun says denies untrusted p first t held e well = record { at = t; goes = goes_nowhere says t held; said = inl (e, refl, refl, refl); well = well }
+ends_unbegun says denies untrusted p first t held e well = record { at = t; goes = goes_nowhere says t held; said = inl (e, refl, refl, refl); all = λ n. tt; well = well }
 
 -- payloads were submitted first, by parts that are as they were
 pub ends_begun : {A H G : Type 0} (says : Config → A → H → G → Says) (denies : A → H → G → Denies) (untrusted : H → ServerHost → Type 0) (p : DeskState) (a a' : A) (h h' : H) (g g' : G) (t mid : Standing) (held : Option (List ℕ)) (fed : List ℕ) (held' : Option (List ℕ)) (end : TalkEnd)
@@ -657,7 +716,7 @@ ends_begun says denies untrusted p a a' h h' g g' t mid held fed held' end c e k
     (subst (λ x. Ends (says mid.config x h g) (denies x h g) (untrusted h) p [] mid held fed held' end) e
     (subst (λ x. Ends (says mid.config a' x g) (denies a' x g) (untrusted x) p [] mid held fed held' end) k
     (subst (λ x. Ends (says mid.config a' h' x) (denies a' h' x) (untrusted h') p [] mid held fed held' end) m ends))) in
-    ends_after_way (says t.config a h g) (denies a h g) (untrusted h) p p first [] t held [] mid held fed held' end (goes_submitted (says t.config a h g) t first mid held begun) (said_handed first ∙ sym (append-nil first)) (answers_none p) same
+    ends_after_way (says t.config a h g) (denies a h g) (untrusted h) p p first [] t held [] mid held fed held' end (goes_submitted (says t.config a h g) t first mid held begun) (said_handed first ∙ sym (append-nil first)) (answers_none p) (λ n. handed_keeps (says t.config a h g) first t mid begun ∙ n) same
 
 -- the end is reached where none is left
 pub at_end : (buffer : List ℕ) (old new : Option (List ℕ)) → TakesNext 0 buffer old new → IsAtEnd old → ReachesEnd old new

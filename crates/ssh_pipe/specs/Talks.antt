@@ -90,11 +90,12 @@ abbrev pub HandsReplies : Says → DeskState → Standing → (payloads : List (
 HandsReplies says d old payloads d' new = (said : List (List ℕ)) × Follows says old (map Handed said) new
     × AnswersMore d payloads said d'
 
--- A talk went on: what was taken of what was delivered, the desk answered, and its replies were all that was said.
+-- A talk went on: the desk answered all that was delivered, and its replies were all that was said.
 pub record TalksOn (says : Says) (d : DeskState) (old : Standing) (held : Option (List ℕ)) (fed : List ℕ)
     (d' : DeskState) (new : Standing) (held' : Option (List ℕ)) : Type 0 where
   pub goes : Goes says old held fed new held'
   pub answers : AnswersMore d goes.answered (said_in goes.moves) d'
+  pub all : old.delivered ≡ [] → new.delivered ≡ []
 
 -- ---- why a talk ends
 
@@ -157,6 +158,17 @@ SaysBack d first answered moves end =
     ⊎ ((earlier : List (List ℕ)) → HasAnswered d earlier → (replies : List (List ℕ))
     × (said_in moves ≡ first ++ replies) × AreReplies d.side earlier answered replies)
 
+-- Where a talk ends between two pieces, all that was delivered was answered.
+abbrev pub LeavesNone : TalkEnd → Standing → Type 0
+LeavesNone InputEnded at = at.delivered ≡ []
+LeavesNone Disconnected at = Unit {0}
+LeavesNone Granted at = at.delivered ≡ []
+LeavesNone (Refused e) at = Unit {0}
+LeavesNone NotServed at = Unit {0}
+LeavesNone SourceFailed at = at.delivered ≡ []
+LeavesNone SinkFailed at = Unit {0}
+LeavesNone Exhausted at = at.delivered ≡ []
+
 -- A talk ended at some standing of the side, which says this first.
 pub record Ends (says : Says) (denies : Denies) (untrusted : ServerHost → Type 0) (d : DeskState)
     (first : List (List ℕ)) (old : Standing) (held : Option (List ℕ)) (fed : List ℕ) (held' : Option (List ℕ))
@@ -164,6 +176,7 @@ pub record Ends (says : Says) (denies : Denies) (untrusted : ServerHost → Type
   pub at : Standing
   pub goes : Goes says old held fed at held'
   pub said : SaysBack d first goes.answered goes.moves end
+  pub all : old.delivered ≡ [] → LeavesNone end at
   pub well : EndsWell
       (λ e. EndsRefused says denies untrusted old goes.moves e (untouched goes.sent goes.answered at))
       d goes.answered end at
