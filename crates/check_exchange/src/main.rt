@@ -1,6 +1,6 @@
-//! Compares rows of values with what the public calls of the exchange answer (sizes, groups, secrets, canonical
-//! signatures, lengths of keys), the parts of the tests, proved callers, and links whose sides hold secrets that may
-//! differ. The status is 0 where none failed and at least one passed.
+//! Compares rows of values with what an exchange's public calls, the tests' parts, proved callers and links answer.
+//! The calls are of sizes, groups, secrets, canonical signatures and lengths of keys. The sides of a link hold secrets
+//! that may differ. The status is 0 where none failed and at least one passed.
 #![tactic(auto)]
 
 mod callers;

@@ -1,5 +1,5 @@
-//! Compares rows of values with what the machines of both sides of an exchange take, write and refuse, each given the
-//! other's packets. The status is 0 where none failed and at least one passed.
+//! Compares rows of values with what the machines of both sides of an exchange take, write and refuse. Each is given
+//! the other's packets. The status is 0 where none failed and at least one passed.
 #![tactic(auto)]
 
 mod play;

@@ -1,5 +1,5 @@
-//! Compares rows of values with what the public calls on services and extension info answer, and with what a server
-//! over a transport grants. The status is 0 where none failed and at least one passed.
+//! Compares rows of values with what the public calls on services and extension info answer. It compares too what a
+//! server over a transport grants. The status is 0 where none failed and at least one passed.
 #![tactic(auto)]
 
 mod messages;

@@ -1,5 +1,5 @@
-//! AES (FIPS 197), counter mode and chaining mode (SP 800-38A) and Galois counter mode (SP
-//! 800-38D), without memory of their own.
+//! AES (FIPS 197), counter mode and chaining mode (SP 800-38A), and Galois counter mode (SP
+//! 800-38D). None takes memory of its own.
 #![tactic(auto)]
 
 mod aes;

@@ -1,4 +1,4 @@
-//! The run of a script, from its text to the text of its report, and the top call of the program.
+//! The run of a script, from its text to the text of its report, and the program's top call.
 #![tactic(auto)]
 
 mod answer;
