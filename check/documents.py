@@ -11,6 +11,8 @@ Checks what the documents show, prints what isn't so, and ends with status 1 the
 - Each row of docs/ANSWERS.md names clauses of each of its calls, definitions, laws, edits, and files of rows or cases.
 - The bytes of docs/REPORT.md stand where it says.
 - Names in backticks are those of some source, script or file.
+- No sentence has over 25 words, and no cell of a table over 20. README.md has at most 9 KB, and 18 words a sentence in
+  the mean. A link counts by its text, and what stands in backticks as one word. Pages made of sources aren't counted.
 """
 import functools
 import pathlib
@@ -178,12 +180,42 @@ def faulty_names():
                 yield f"{page.relative_to(TOP)}: nothing is named {quoted}"
 
 
+def words_of(text):
+    text = re.sub(r"\[([^\]]*)\]\([^)]*\)", r"\1", text)
+    return sum(bool(re.search(r"\w", word)) for word in re.sub(r"`[^`]*`", "code", text).split())
+
+
+def parts_of(page):
+    """The sentences and the cells of a page, without its code."""
+    text = re.sub(r"^```.*?^```", "", page.read_text(encoding="utf-8"), flags=re.M | re.S)
+    rows = [line for line in text.split("\n") if line.startswith("|")]
+    cells = [cell for row in rows for cell in re.split(r"(?<!\\)\|", row.strip().strip("|"))]
+    prose = "\n".join("" if line.startswith(("|", "#")) else line for line in text.split("\n"))
+    parts = re.split(r"\n\s*\n|\n(?=\s*(?:[-*]|\d+\.) )", prose)
+    sentences = (re.split(r"(?<=[.:!?])\s+(?=[A-Z`\[*])", " ".join(part.split())) for part in parts)
+    return [it for part in sentences for it in part if words_of(it)], cells
+
+
+def faulty_lengths():
+    for page in pages():
+        if page.parent.parent == TOP / "crates":
+            continue
+        sentences, cells = parts_of(page)
+        long = [it for it in sentences if words_of(it) > 25] + [it for it in cells if words_of(it) > 20]
+        yield from (f"{page.relative_to(TOP)}: {words_of(it)} words: {it.strip()[:60]}" for it in long)
+    readme = TOP / "README.md"
+    sentences = parts_of(readme)[0]
+    mean = sum(map(words_of, sentences)) / len(sentences)
+    if mean > 18 or readme.stat().st_size > 9000:
+        yield f"README.md: {readme.stat().st_size} bytes, and {mean:.1f} words a sentence"
+
+
 def main():
     if sys.argv[1:]:
         print(__doc__)
         sys.exit(0 if sys.argv[1:] == ["--help"] else 2)
     checks = (faulty_definitions, faulty_snippets, faulty_links, faulty_protocol, faulty_answers, faulty_bytes,
-              faulty_names)
+              faulty_names, faulty_lengths)
     faults = [fault for check in checks for fault in check()]
     print("\n".join(faults) if faults else "documents: what they show stands where they say")
     sys.exit(1 if faults else 0)
