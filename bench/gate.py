@@ -1,17 +1,18 @@
 #!/usr/bin/env python3
 """Usage: bench/gate.py
 
-Runs the gate on a clean clone of HEAD, in a temporary folder, and prints what each crate cost: the minutes of processor time
-of `rattle build`, which proves a library and compiles a program, and of `rattle check`, which proves a program and tries
-edits; the most memory that one of its processes held, in gigabytes; and how many edits it has. The last lines are the sums,
-the minutes by the clock, how much was done in this run, and the gate's verdict, whose status is this program's. The kit keeps
-what a run on this machine passed in a folder `rattle-kept` beside its own: only where that is moved aside is all done
-anew. What the gate writes goes to standard error. Reads /proc once a second, so it needs Linux. What runs beside it isn't
-counted, and makes it slower.
+Runs the gate on a clean clone of HEAD, in a temporary folder, and prints what each crate cost. The minutes of processor
+time are those of `rattle build`, which proves a library and compiles a program; of `rattle check`, which proves a
+program; and of the checks that try its edits. Then come the most memory that one of its processes held, in gigabytes, and
+how many edits it has. The last lines are the sums, the minutes by the clock, and the gate's verdict, whose status is
+this program's. A kit may keep what a run on this machine passed in a folder `rattle-kept` beside its own: only where that
+is moved aside is all done anew. What the gate writes goes to standard error. Reads /proc once a second, so it needs
+Linux. What runs beside it isn't counted, and makes it slower.
 """
 
 import os
 import pathlib
+import resource
 import subprocess
 import sys
 import tempfile
@@ -30,14 +31,16 @@ def proving(room):
             words = pathlib.Path(f"/proc/{name}/cmdline").read_bytes().decode(errors="replace").split("\0")
             if os.path.basename(words[0]) != "rattle" or words[1] not in ("build", "check"):
                 continue
-            if not os.readlink(f"/proc/{name}/cwd").startswith(room):
+            folder = os.readlink(f"/proc/{name}/cwd")
+            if not folder.startswith(room):
                 continue
+            command = "edits" if "/rt-edit-" in folder else words[1]
             # the fields behind the process's name, which stands in brackets
             fields = pathlib.Path(f"/proc/{name}/stat").read_text().rpartition(")")[2].split()
             crate = words[words.index("--crate-name") + 1]
         except (OSError, ValueError, IndexError):
             continue
-        yield (name, fields[19]), words[1], crate, (int(fields[11]) + int(fields[12])) / TICKS, int(fields[21]) * PAGE
+        yield (name, fields[19]), command, crate, (int(fields[11]) + int(fields[12])) / TICKS, int(fields[21]) * PAGE
 
 
 def watch(process, room):
@@ -57,17 +60,19 @@ def edits_of(crate):
 
 def table(seen):
     """The lines of the table, dearest crate first, and the sums."""
+    commands = ("build", "check", "edits")
     minutes, memory = {}, {}
     for command, crate, seconds, held in seen:
-        row = minutes.setdefault(crate, {"build": 0, "check": 0})
+        row = minutes.setdefault(crate, dict.fromkeys(commands, 0))
         row[command] += seconds / 60
         memory[crate] = max(memory.get(crate, 0), held)
-    yield "| crate | builds | checks | gigabytes | edits |"
-    yield "|---|---|---|---|---|"
+    yield "| crate | builds | checks | edits | how many | gigabytes |"
+    yield "|---|---|---|---|---|---|"
     for crate, row in sorted(minutes.items(), key=lambda it: -sum(it[1].values())):
-        yield f"| `{crate}` | {row['build']:.1f} | {row['check']:.1f} | {memory[crate] / 1e9:.1f} | {edits_of(crate) or ''} |"
-    builds, checks = (sum(row[command] for row in minutes.values()) for command in ("build", "check"))
-    yield f"| sum | {builds:.0f} | {checks:.0f} | | {sum(map(edits_of, minutes))} |"
+        cells = " | ".join(f"{row[command]:.1f}" if row[command] else "" for command in commands)
+        yield f"| `{crate}` | {cells} | {edits_of(crate) or ''} | {memory[crate] / 1e9:.1f} |"
+    sums = [sum(row[command] for row in minutes.values()) for command in commands]
+    yield f"| sum | {' | '.join(f'{it:.0f}' for it in sums)} | {sum(map(edits_of, minutes))} | |"
 
 
 def main():
@@ -90,6 +95,8 @@ def main():
             written = log.read()
     sys.stderr.write(written)
     print("\n".join(table(seen)))
+    used = resource.getrusage(resource.RUSAGE_CHILDREN)
+    print(f"{(used.ru_utime + used.ru_stime) / 60:.0f} minutes of processor time in all, what was too short to be seen too")
     print(f"{clock:.0f} minutes by the clock")
     lines = written.split("\n")
     print(next((line for line in lines if line.startswith("rt: ok")), "rt: not ok"))
