@@ -11,12 +11,13 @@ use Rattle.ssh_kex.specs.Setting.{Says}
 use Rattle.ssh_kex.specs.declared.config.Config.{Config}
 use Rattle.ssh_kex.specs.declared.exchange.ServerHost.{ServerHost}
 use Rattle.ssh_rules.specs.Refusing.{RefusesPiece}
-use Rattle.ssh_rules.specs.Log.{sent_bytes, delivered_in, handled}
-use Rattle.ssh_rules.specs.Machine.{Event, ExchangeBegun, IdHeard, PayloadSubmitted, AnswerSent, PayloadSent, MessageTaken, GuessDropped, PayloadDelivered, PacketDropped, ExchangeFinished}
+use Rattle.ssh_rules.specs.Log.{sent_bytes, delivered_in}
+use Rattle.ssh_rules.specs.Machine.{Event}
 use Rattle.ssh_wire.specs.declared.side.Side.TheVariants.{Client, Server}
 use Rattle.ssh_wire.specs.declared.side.Side.{Side}
 use Rattle.ssh_rules.specs.Standing.{Acts, HearsBy, OfFault, OfMemory, OfPacket, OfVersion, RefusalCause, RefusesInput, Standing, Submitted, TakesInput, is_outside}
 use Rattle.ssh_rules.specs.Valid.{is_good_payload}
+use Rattle.ssh_rules.proofs.any_bytes.FedSides.{none_delivered}
 use Rattle.ssh_service.proofs.Lemmas.{grant_good}
 use Rattle.ssh_transport.proofs.Lemmas.{Denying, Weaker, input_still, piece_still, steps_weaker, submitted_still}
 use Rattle.ssh_service.specs.Messages.{spelling}
@@ -340,23 +341,6 @@ reply_behind d mid xs ys a reply h g = record {
 }
 
 -- ---- what is left of what was delivered
-
-cons_nil : {A : Type 0} (x : A) (xs : List A) → x ∷ xs ≡ [] → ⊥
-cons_nil x xs e = cc
-
--- nothing is delivered where nothing is read
-none_delivered : (es : List Event) → handled es ≡ [] → delivered_in es ≡ []
-none_delivered [] e = refl
-none_delivered (IdHeard id ∷ es) e = none_delivered es e
-none_delivered (PayloadSubmitted p ∷ es) e = none_delivered es e
-none_delivered (ExchangeBegun cause i ∷ es) e = none_delivered es e
-none_delivered (AnswerSent i r ∷ es) e = none_delivered es e
-none_delivered (PayloadSent i ∷ es) e = none_delivered es e
-none_delivered (MessageTaken i ∷ es) e = absurd (cons_nil i (handled es) e)
-none_delivered (GuessDropped i ∷ es) e = absurd (cons_nil i (handled es) e)
-none_delivered (PayloadDelivered i ∷ es) e = absurd (cons_nil i (handled es) e)
-none_delivered (PacketDropped i ∷ es) e = absurd (cons_nil i (handled es) e)
-none_delivered (ExchangeFinished i x ∷ es) e = absurd (cons_nil i (handled es) e)
 
 -- payloads that are handed to a side deliver none
 handed_keeps : (says : Says) (payloads : List (List ℕ)) (old new : Standing) → Follows says old (map Handed payloads) new → new.delivered ≡ old.delivered
