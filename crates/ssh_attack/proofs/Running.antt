@@ -1,21 +1,17 @@
 -- One side's trace of an attacked run, one step more.
-use Rattle.std.proofs.Common.{◌≡◌, ℕ, List, [], ◌∷◌, ◌++◌, Bool, true, false, Option, ap, sym, ◌∙◌, subst}
+use Rattle.std.proofs.Common.{◌≡◌, ℕ, List, [], ◌∷◌, ◌++◌, Bool, true, false, ap, sym, ◌∙◌, subst}
 use Rattle.std.specs.Prelude.{Result, Ok, Err}
-use Rattle.ssh_negotiate.specs.declared.kex.Name.{Name as KexName}
 use Rattle.ssh_wire.specs.Sides.{same_side}
 use Rattle.ssh_wire.specs.declared.error.Error.{Error}
 use Rattle.ssh_wire.specs.declared.side.Side.{Side}
-use Rattle.ssh_kex.specs.Parts.{KeepsAgreement, KeepsGroups, KeepsHosts, Setup}
 use Rattle.ssh_kex.specs.declared.config.Config.{Config}
-use Rattle.ssh_kex.specs.declared.exchange.ServerHost.{ServerHost}
-use Rattle.ssh_kex.specs.declared.group.DhGroup.{DhGroup}
-use Rattle.ssh_kex.specs.declared.group.GexParams.{GexParams}
 use Rattle.ssh_rules.specs.Attacking.{AttackedEnd, AttacksEnd, AttacksSide, FeedsBy, OwnStep, RekeysBy, SubmitsBy, Tells, tells_by}
 use Rattle.ssh_rules.specs.Standing.{RekeyedFrom, is_outside}
 use Rattle.ssh_rules.specs.declared.link.AttackStep.{AttackStep}
 use Rattle.ssh_rules.specs.declared.link.AttackStep.TheVariants.{Submit, Feed, Rekey}
 use Rattle.ssh_rules.proofs.Lemmas.{end_lifted, one_more, trace_lifted}
 use Rattle.ssh_attack.proofs.Lifting.{earlier_lifts, later_lifts}
+use Rattle.ssh_kex.specs.Members.{AgreementKept, AgreementMembers, GroupLookupMembers, GroupsKept, HostKeysMembers, HostsKept}
 
 -- no step changes the configuration
 abbrev SameConfig : AttackedEnd → AttackedEnd → Type 0
@@ -51,19 +47,16 @@ config_kept t side (Submit s p) a old new h = own_config (same_side s side) _ ol
 config_kept t side (Feed s bytes) a old new h = own_config (same_side s side) _ old new (λ f. feeds_config t old.transport.failed old bytes a new f.does) h
 config_kept t side (Rekey s) a old new h = own_config (same_side s side) _ old new (rekeys_config t old.transport.failed old a new) h
 
-pub side_more : {A H G : Type 0} (lawful : A → Setup → Type 0) (obliging : A → A → Setup → Option DhGroup → Type 0) (offered : A → KexName → Bool) (client_makes : KexName → Option DhGroup → List ℕ → List ℕ → Type 0) (server_makes : KexName → Option DhGroup → List ℕ → List ℕ → Type 0) (agrees : KexName → Option DhGroup → List ℕ → List ℕ → List ℕ → Type 0) (refusals calls : A → ℕ)
-    (lawful_hosts : H → Setup → Type 0) (signs judges : H → H → Setup → Type 0) (accepts : H → ServerHost → List ℕ → List ℕ → Bool) (trusts : H → ServerHost → Bool) (makes : Config → ServerHost → List ℕ → List ℕ → Type 0) (refused_sign refused_verify refused_check asked : H → ℕ)
-    (lawful_groups : G → Setup → Type 0) (obliging_groups : G → G → Setup → Type 0) (group : G → GexParams → DhGroup) (refused_lookup looked : G → ℕ)
-    → (config : Config) (a a' a'' : A) (h h' h'' : H) (g g' g'' : G) (side : Side) (steps steps' : List AttackStep) (answers answers' : List (Result (Unit {0}) Error)) (step : AttackStep) (answer : Result (Unit {0}) Error) (old mid new : AttackedEnd)
-    → KeepsAgreement lawful obliging offered refusals calls a a' → KeepsHosts lawful_hosts signs judges accepts trusts refused_sign refused_verify refused_check asked h h' → KeepsGroups lawful_groups obliging_groups group refused_lookup looked g g'
-    → KeepsAgreement lawful obliging offered refusals calls a' a'' → KeepsHosts lawful_hosts signs judges accepts trusts refused_sign refused_verify refused_check asked h' h'' → KeepsGroups lawful_groups obliging_groups group refused_lookup looked g' g''
+pub side_more : {A H G : Type 0} (ma : AgreementMembers A) (mh : HostKeysMembers H) (mg : GroupLookupMembers G) (config : Config) (a a' a'' : A) (h h' h'' : H) (g g' g'' : G) (side : Side) (steps steps' : List AttackStep) (answers answers' : List (Result (Unit {0}) Error)) (step : AttackStep) (answer : Result (Unit {0}) Error) (old mid new : AttackedEnd)
+    → AgreementKept ma a a' → HostsKept mh h h' → GroupsKept mg g g'
+    → AgreementKept ma a' a'' → HostsKept mh h' h'' → GroupsKept mg g' g''
     → mid.transport.config ≡ config → steps' ≡ steps ++ step ∷ [] → answers' ≡ answers ++ answer ∷ []
-    → AttacksSide (tells_by lawful obliging offered client_makes server_makes agrees refusals calls lawful_hosts signs judges accepts trusts makes refused_sign refused_verify refused_check asked lawful_groups obliging_groups group refused_lookup looked config a a' h h' g g') side steps answers old mid
-    → AttacksEnd (tells_by lawful obliging offered client_makes server_makes agrees refusals calls lawful_hosts signs judges accepts trusts makes refused_sign refused_verify refused_check asked lawful_groups obliging_groups group refused_lookup looked mid.transport.config a' a'' h' h'' g' g'') side step answer mid new
-    → AttacksSide (tells_by lawful obliging offered client_makes server_makes agrees refusals calls lawful_hosts signs judges accepts trusts makes refused_sign refused_verify refused_check asked lawful_groups obliging_groups group refused_lookup looked config a a'' h h'' g g'') side steps' answers' old new
-side_more lawful obliging offered client_makes server_makes agrees refusals calls lawful_hosts signs judges accepts trusts makes refused_sign refused_verify refused_check asked lawful_groups obliging_groups group refused_lookup looked config a a' a'' h h' h'' g g' g'' side steps steps' answers answers' step answer old mid new ka kh kg la lh lg same s b trace one =
-    let u : Tells = tells_by lawful obliging offered client_makes server_makes agrees refusals calls lawful_hosts signs judges accepts trusts makes refused_sign refused_verify refused_check asked lawful_groups obliging_groups group refused_lookup looked config a a'' h h'' g g'' in
-    let before = trace_lifted _ u side steps answers old mid (later_lifts lawful obliging offered client_makes server_makes agrees refusals calls lawful_hosts signs judges accepts trusts makes refused_sign refused_verify refused_check asked lawful_groups obliging_groups group refused_lookup looked config a a' a'' h h' h'' g g' g'' la lh lg) trace in
-    let now = subst (λ c. AttacksEnd (tells_by lawful obliging offered client_makes server_makes agrees refusals calls lawful_hosts signs judges accepts trusts makes refused_sign refused_verify refused_check asked lawful_groups obliging_groups group refused_lookup looked c a' a'' h' h'' g' g'') side step answer mid new) same one in
-    let next = end_lifted _ u side step answer mid new (earlier_lifts lawful obliging offered client_makes server_makes agrees refusals calls lawful_hosts signs judges accepts trusts makes refused_sign refused_verify refused_check asked lawful_groups obliging_groups group refused_lookup looked config a a' a'' h h' h'' g g' g'' ka kh kg) now in
+    → AttacksSide (tells_by ma mh mg config a a' h h' g g') side steps answers old mid
+    → AttacksEnd (tells_by ma mh mg mid.transport.config a' a'' h' h'' g' g'') side step answer mid new
+    → AttacksSide (tells_by ma mh mg config a a'' h h'' g g'') side steps' answers' old new
+side_more ma mh mg config a a' a'' h h' h'' g g' g'' side steps steps' answers answers' step answer old mid new ka kh kg la lh lg same s b trace one =
+    let u : Tells = tells_by ma mh mg config a a'' h h'' g g'' in
+    let before = trace_lifted _ u side steps answers old mid (later_lifts ma mh mg config a a' a'' h h' h'' g g' g'' la lh lg) trace in
+    let now = subst (λ c. AttacksEnd (tells_by ma mh mg c a' a'' h' h'' g' g'') side step answer mid new) same one in
+    let next = end_lifted _ u side step answer mid new (earlier_lifts ma mh mg config a a' a'' h h' h'' g g' g'' ka kh kg) now in
     subst (λ q. AttacksSide u side q answers' old new) (sym s) (subst (λ q. AttacksSide u side (steps ++ step ∷ []) q old new) (sym b) (one_more u side steps answers step answer old mid new before next))

@@ -17,13 +17,9 @@ pub trait Attacked {
 }
 
 impl<A: Agreement, H: HostKeys, G: GroupLookup, R> Attacked for Parts<A, H, G, R> {
-    ghost tells = { λ config p q. tells_by A.lawful A.obliging A.offered A.client_makes A.server_makes A.agrees
-        A.refusals A.calls H.lawful H.signs H.judges H.accepts H.trusts H.makes H.refused_sign H.refused_verify
-        H.refused_check H.calls G.lawful G.obliging G.group G.refusals G.calls config
-        p.agreement q.agreement p.hosts q.hosts p.groups q.groups };
+    ghost tells = { λ config p q. tells_by A.Agreement H.HostKeys G.GroupLookup config p.agreement q.agreement
+        p.hosts q.hosts p.groups q.groups };
 
-    ghost does = { λ s p q. parts_of A.lawful A.obliging A.offered A.client_makes A.server_makes A.agrees A.refusals
-        A.calls H.lawful H.signs H.judges H.accepts H.trusts H.refused_sign H.refused_verify H.refused_check H.calls
-        G.lawful G.obliging G.group G.refusals G.calls s
-        p.agreement q.agreement p.hosts q.hosts p.groups q.groups };
+    ghost does = { λ s p q. parts_of A.Agreement H.HostKeys G.GroupLookup s p.agreement q.agreement
+        p.hosts q.hosts p.groups q.groups };
 }

@@ -43,7 +43,11 @@ impl Model for Channel {
 impl Channel {
     /// A channel that its side asks for.
     pub(crate) fn opened(alloc: Global, telling: &Telling) -> Channel
-        ensures { result ≡ record { started = true; peer = 0; end = fresh telling.now.window telling.now.most Talking } }
+        ensures { result ≡ record {
+          started = true;
+          peer = 0;
+          end = fresh telling.now.window telling.now.most Talking;
+        } }
     {
         Channel {
             started: true,
@@ -173,7 +177,8 @@ impl Channel {
         out: &mut Vec<Payload>,
     ) -> Result<Payload, MuxFault>
         ensures ok { OnOk result ((own : ℕ) → CallsOn own (Read n) self.old out.old.items self.new out.new.items) }
-        ensures bytes { IfOk result (λ p. p ≡ take (taken self.old.end n) (drop self.old.end.read self.old.end.received)) }
+        ensures bytes { IfOk result (λ p. p ≡ take (taken self.old.end n)
+            (drop self.old.end.read self.old.end.received)) }
         ensures refused { IfErr result (λ f. f ≡ Memory) }
     {
         let count = taken(&self.end, n);
@@ -219,7 +224,8 @@ impl Channel {
     ) -> Result<(), MuxFault>
         ensures ok { OnOk result (HearsOn own offer.now.sender (Confirmation offer.now.window offer.now.largest)
             self.old out.old.items self.new out.new.items) }
-        ensures refused { IfErr result (λ f. IsRefused (fault_unless (awaits_answer self.old.started self.old.end.heard) (Unexpected 91 own)) f
+        ensures refused { IfErr result (λ f. IsRefused (fault_unless (awaits_answer self.old.started
+            self.old.end.heard) (Unexpected 91 own)) f
             ((self.new ≡ self.old) × (out.new.items ≡ out.old.items))) }
     {
         if !awaits_answer(self.started, self.end.heard) {
@@ -235,7 +241,8 @@ impl Channel {
     #[tactic(auto, using(crate::proofs::Asking::failed))]
     fn fail(&mut self, own: u32, out: &mut Vec<Payload>) -> Result<(), MuxFault>
         ensures ok { OnOk result (HearsOn own 0 Failure self.old out.old.items self.new out.new.items) }
-        ensures refused { IfErr result (λ f. IsRefused (fault_unless (awaits_answer self.old.started self.old.end.heard) (Unexpected 92 own)) f
+        ensures refused { IfErr result (λ f. IsRefused (fault_unless (awaits_answer self.old.started
+            self.old.end.heard) (Unexpected 92 own)) f
             ((self.new ≡ self.old) × (out.new.items ≡ out.old.items))) }
     {
         let _made = out.len();
@@ -292,7 +299,8 @@ impl Channel {
     #[tactic(auto, using(crate::proofs::Asking::heard_eof))]
     fn take_eof(&mut self, own: u32, out: &mut Vec<Payload>) -> Result<(), MuxFault>
         ensures ok { OnOk result (HearsOn own 0 Eof self.old out.old.items self.new out.new.items) }
-        ensures refused { IfErr result (λ f. IsRefused (fault_unless (may_send self.old.end.heard) (Unexpected 96 own)) f
+        ensures refused { IfErr result (λ f. IsRefused (fault_unless (may_send self.old.end.heard)
+            (Unexpected 96 own)) f
             ((self.new ≡ self.old) × (out.new.items ≡ out.old.items))) }
     {
         let _made = out.len();
@@ -334,7 +342,9 @@ fn answer_close(
 ) -> Result<(), MuxFault>
     requires { IsSound end.old }
     ensures sound { IsSound end.new }
-    ensures end { OnOk result (end.new ≡ record end.old { said = if is_live end.old.said then Shut else end.old.said }) }
+    ensures end { OnOk result (end.new ≡ record end.old {
+      said = if is_live end.old.said then Shut else end.old.said;
+    }) }
     ensures out { OnOk result (out.new.items ≡ out.old.items
         ++ (if is_live end.old.said then text 0 peer Close ∷ [] else [])) }
     ensures err { IfErr result (λ f. f ≡ Memory) }

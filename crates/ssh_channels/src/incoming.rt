@@ -83,7 +83,8 @@ fn incoming_of<'p>(message_type: u8, fields: &'p [u8]) -> Result<Incoming<'p>, M
 
 /// The message, or Encoding with the fault.
 fn encoded<'p>(read: Result<Incoming<'p>, EncodingFault>) -> Result<Incoming<'p>, MuxFault>
-    ensures { (packet : Result Packet EncodingFault) → FindsPacket packet read.entry → IsPacketRead (read_so packet) result }
+    ensures { (packet : Result Packet EncodingFault) → FindsPacket packet read.entry
+        → IsPacketRead (read_so packet) result }
 {
     match read {
         Ok(incoming) => Ok(incoming),

@@ -190,7 +190,8 @@ impl Mux {
 
     /// Takes a message for a channel.
     fn hear(&mut self, channel: u32, said: Said<'_>) -> Result<(), MuxFault>
-        ensures ok { OnOk result (TakesPacket (packet_on channel (sender_in said.entry) (message_in said.entry)) self.old self.new) }
+        ensures ok { OnOk result (TakesPacket (packet_on channel (sender_in said.entry)
+            (message_in said.entry)) self.old self.new) }
         ensures refused { IfErr result (λ f. IsRefused (message_fault_at (message_in said.entry) channel
             (slice_get self.old.side.channels channel)) f (self.new ≡ self.old)) }
     {

@@ -19,8 +19,9 @@ ghost use Rattle.ssh_client_kex.specs.declared.client_kex.ClientState.TheVariant
 ghost use Rattle.ssh_kex.specs.declared.progress.KexProgress.TheVariants.{NeedsReply};
 ghost use Rattle.ssh_kex.specs.Drawing.{DrawnByClient, StartsFrom, ValueDrawn};
 ghost use Rattle.ssh_kex.specs.Messages.{is_gex, request_message};
-ghost use Rattle.ssh_kex.specs.Parts.{HasItsGroup, IsSmall, KeepsAgreement, Setup};
+ghost use Rattle.ssh_kex.specs.Parts.{HasItsGroup, IsSmall, Setup};
 ghost use Rattle.ssh_kex.specs.Fields.{IsInside, IsOutside};
+ghost use Rattle.ssh_kex.specs.Members.{AgreementKept};
 ghost use Rattle.ssh_kex.specs.Setting.{offers_of};
 ghost use Rattle.ssh_kex.specs.Stages.{Created as created, has_ignored, names_in_stage, is_strict};
 ghost use Rattle.ssh_kex.specs.Stepping.{at_kexinit, asks_agreement, asks_hosts, asks_groups, next_of, Progresses, RefusesStep, Puts};
@@ -304,7 +305,7 @@ fn send_value<A: Agreement, R: Rng>(
     output: &mut PacketWriter,
 ) -> Result<(), Error>
     requires { (shape_of algorithm.old.name).skip ≡ false }
-    ensures keeps { KeepsAgreement A.lawful A.obliging A.offered A.refusals A.calls agreement.old agreement.new }
+    ensures keeps { AgreementKept A.Agreement agreement.old agreement.new }
     ensures calls { A.calls agreement.new ≤ A.calls agreement.old + 1 }
     ensures ok { OnOk result (SendsValue (λ l v. (s : Setup) → A.lawful agreement.old s
         → A.client_makes algorithm.old.name algorithm.old.group l v) algorithm.old algorithm.new client_ephemeral.new
@@ -313,7 +314,8 @@ fn send_value<A: Agreement, R: Rng>(
         → A.client_makes algorithm.old.name algorithm.old.group l v) (λ v. (s : Setup) → A.lawful agreement.old s
         → IsSmall v) (Rose (A.refusals agreement.old) (A.refusals agreement.new)
         × ((s : Setup) → A.obliging agreement.old agreement.new s algorithm.old.group
-        → HasItsGroup algorithm.old.name algorithm.old.group → A.offered agreement.old algorithm.old.name ≡ true → ⊥))) }
+        → HasItsGroup algorithm.old.name algorithm.old.group → A.offered agreement.old algorithm.old.name ≡ true
+        → ⊥))) }
     ensures drawn { OnOk result (ValueDrawn (A.client_draws algorithm.old.name algorithm.old.group) (R.stream rng.old)
         algorithm.new.local client_ephemeral.new) }
     ensures unchanged { OnErr result (SameButRoom output.old output.new) }
@@ -376,7 +378,7 @@ fn open_with_value<'c, A: Agreement, R: Rng>(
     requires none { HasNoValues base.exchange }
     requires exchanges { (shape_of names.kex).skip ≡ false }
     requires gex { is_gex names.kex ≡ false }
-    ensures keeps { KeepsAgreement A.lawful A.obliging A.offered A.refusals A.calls agreement.old agreement.new }
+    ensures keeps { AgreementKept A.Agreement agreement.old agreement.new }
     ensures calls { A.calls agreement.new ≤ A.calls agreement.old + 1 }
     ensures ok { IfOk result (λ p. OpensWithValue (λ l v. (s : Setup) → A.lawful agreement.old s
         → A.client_makes names.kex None l v) base.entry.config.now base.entry.cause base.entry.exchange names p
@@ -422,7 +424,7 @@ fn take_kexinit<'c, A: Agreement, R: Rng>(
     requires short { length incoming.payload.now < 2 ^ 31 }
     requires sides { HasShortSides base.exchange }
     requires none { HasNoValues base.exchange }
-    ensures keeps { KeepsAgreement A.lawful A.obliging A.offered A.refusals A.calls agreement.old agreement.new }
+    ensures keeps { AgreementKept A.Agreement agreement.old agreement.new }
     ensures calls { A.calls agreement.new ≤ A.calls agreement.old + at_kexinit client_side (next_of result) }
     ensures ok { IfOk result (λ p. AnswersKexinit (λ n. A.offered agreement.old n ≡ true) (λ n l v. (s : Setup)
         → A.lawful agreement.old s → A.client_makes n None l v) base.entry.config.now base.entry.cause
@@ -485,7 +487,7 @@ fn answer_group<'c, A: Agreement, R: Rng>(
     requires generator { length group.generator < 2 ^ 31 }
     requires exchanges { (shape_of names.kex).skip ≡ false }
     requires gex { is_gex names.kex ≡ true }
-    ensures keeps { KeepsAgreement A.lawful A.obliging A.offered A.refusals A.calls agreement.old agreement.new }
+    ensures keeps { AgreementKept A.Agreement agreement.old agreement.new }
     ensures calls { A.calls agreement.new ≤ A.calls agreement.old + 1 }
     ensures ok { IfOk result (λ p. SendsOfGroup (λ l v. (s : Setup) → A.lawful agreement.old s
         → A.client_makes names.kex (Some group) l v) base.entry.config.now base.entry.cause base.entry.exchange names
@@ -538,7 +540,7 @@ fn take_group<'c, A: Agreement, R: Rng>(
     requires sides { HasShortSides base.exchange }
     requires exchanges { (shape_of names.kex).skip ≡ false }
     requires gex { is_gex names.kex ≡ true }
-    ensures keeps { KeepsAgreement A.lawful A.obliging A.offered A.refusals A.calls agreement.old agreement.new }
+    ensures keeps { AgreementKept A.Agreement agreement.old agreement.new }
     ensures calls { A.calls agreement.new ≤ A.calls agreement.old + 1 }
     ensures ok { IfOk result (λ p. AnswersGroup (λ g l v. (s : Setup) → A.lawful agreement.old s
         → A.client_makes names.kex (Some g) l v) base.entry.config.now base.entry.cause base.entry.exchange names

@@ -11,9 +11,10 @@ ghost use Rattle.ssh_client_kex.specs.ClientRows.{AcceptsReply, AgreesOnReply, A
 ghost use Rattle.ssh_client_kex.specs.ClientViews.{local_of, HasValue};
 ghost use Rattle.ssh_kex.specs.Agreeing.{IsWhole};
 ghost use Rattle.ssh_kex.specs.Fields.{fields, reply_front};
+ghost use Rattle.ssh_kex.specs.Members.{AgreementKept, HostsKept};
 ghost use Rattle.ssh_kex.specs.Signature.{judged, or_same};
 ghost use Rattle.ssh_kex.specs.Messages.{host_with, is_gex, reply_message};
-ghost use Rattle.ssh_kex.specs.Parts.{HasItsGroup, KeepsAgreement, KeepsHosts, Setup};
+ghost use Rattle.ssh_kex.specs.Parts.{HasItsGroup, Setup};
 ghost use Rattle.ssh_kex.specs.Unasked.{asks_nobody, is_early};
 ghost use Rattle.ssh_kex.specs.Views.{HasShortSides};
 
@@ -60,7 +61,7 @@ fn agree_on_reply<'a, A: Agreement>(
 ) -> Result<Reply<'a>, Error>
     requires exchanges { (shape_of algorithm.old.name).skip ≡ false }
     requires local { algorithm.old.local ≡ Some (local_of algorithm.old.local) }
-    ensures keeps { KeepsAgreement A.lawful A.obliging A.offered A.refusals A.calls agreement.old agreement.new }
+    ensures keeps { AgreementKept A.Agreement agreement.old agreement.new }
     ensures calls { A.calls agreement.new ≤ A.calls agreement.old + 1 }
     ensures ok { IfOk result (λ r. AgreesOnReply (λ l v x. (s : Setup) (public : List ℕ) → A.lawful agreement.old s
         → A.client_makes algorithm.old.name algorithm.old.group l public
@@ -119,9 +120,7 @@ fn verify_signature<H: HostKeys>(
     signature: &[u8],
 ) -> Result<(), Error>
     requires { length signature.now < 2 ^ 31 }
-    ensures keeps { KeepsHosts H.lawful H.signs H.judges H.accepts H.trusts H.refused_sign H.refused_verify
-        H.refused_check
-        H.calls hosts.old hosts.new }
+    ensures keeps { HostsKept H.HostKeys hosts.old hosts.new }
     ensures calls { H.calls hosts.new ≤ H.calls hosts.old + 1 }
     ensures ok { OnOk result (H.accepts hosts.old host.now hash.now (judged signature.now) ≡ true) }
     ensures err { IfErr result (λ e. (e ≡ Memory) ⊎ ((e ≡ WrongServerSig)
@@ -156,9 +155,7 @@ fn accept_reply<'c, H: HostKeys, R: Rng>(
     requires whole { IsWhole algorithm.name reply.host.now (record base.exchange
         { server_ephemeral = reply.value.now }) }
     requires signature { length reply.signature.now < 2 ^ 31 }
-    ensures keeps { KeepsHosts H.lawful H.signs H.judges H.accepts H.trusts H.refused_sign H.refused_verify
-        H.refused_check
-        H.calls hosts.old hosts.new }
+    ensures keeps { HostsKept H.HostKeys hosts.old hosts.new }
     ensures calls { H.calls hosts.new ≤ H.calls hosts.old + 1 }
     ensures ok { IfOk result (λ p. AcceptsReply (λ h d g. H.accepts hosts.old h d g ≡ true) base.entry.config.now
         base.entry.cause base.entry.exchange
@@ -209,12 +206,9 @@ pub(crate) fn take_reply<'c, A: Agreement, H: HostKeys, G, R: Rng>(
     requires short { length payload.now < 2 ^ 31 }
     requires sides { HasShortSides base.exchange }
     requires value { HasValue base.exchange names algorithm }
-    ensures agreement { KeepsAgreement A.lawful A.obliging A.offered A.refusals A.calls parts.old.agreement
-        parts.new.agreement }
+    ensures agreement { AgreementKept A.Agreement parts.old.agreement parts.new.agreement }
     ensures agreement_calls { A.calls parts.new.agreement ≤ A.calls parts.old.agreement + 1 }
-    ensures hosts { KeepsHosts H.lawful H.signs H.judges H.accepts H.trusts H.refused_sign H.refused_verify
-        H.refused_check
-        H.calls parts.old.hosts parts.new.hosts }
+    ensures hosts { HostsKept H.HostKeys parts.old.hosts parts.new.hosts }
     ensures groups { parts.new.groups ≡ parts.old.groups }
     ensures hosts_calls { H.calls parts.new.hosts ≤ H.calls parts.old.hosts + 1 }
     ensures ok { IfOk result (λ p. AnswersReply (λ l v x. (s : Setup) (public : List ℕ)
@@ -226,7 +220,8 @@ pub(crate) fn take_reply<'c, A: Agreement, H: HostKeys, G, R: Rng>(
     ensures err { IfErr result (RefusesReply (λ l v. Rose (A.refusals parts.old.agreement)
         (A.refusals parts.new.agreement) × ((s : Setup) (public : List ℕ) → A.obliging parts.old.agreement
         parts.new.agreement s algorithm.group
-        → HasItsGroup algorithm.name algorithm.group → A.offered parts.old.agreement algorithm.name ≡ true → A.client_makes algorithm.name algorithm.group l public
+        → HasItsGroup algorithm.name algorithm.group → A.offered parts.old.agreement algorithm.name ≡ true
+        → A.client_makes algorithm.name algorithm.group l public
         → A.server_makes algorithm.name algorithm.group public v → ⊥)) (λ l v x. (s : Setup) (public : List ℕ)
         → A.lawful parts.old.agreement s → A.client_makes algorithm.name algorithm.group l public
         → A.agrees algorithm.name algorithm.group public v x) (λ h d g. Rose (H.refused_verify parts.old.hosts)

@@ -1,5 +1,5 @@
 -- Room for two packets, made before the first is written.
-use Rattle.std.proofs.Common.{◌≡◌, ℕ, ◌+◌, ◌*◌, ◌-◌, ◌^◌, ◌<◌, ◌≤◌, Bool, true, false, List, [], ◌∷◌, ◌++◌, length, take, drop, refl, sym, ◌∙◌, ap, subst, arith, length-append, length-drop, Result, Ok, Err}
+use Rattle.std.proofs.Common.{◌≡◌, ℕ, ◌+◌, ◌<◌, ◌≤◌, Bool, true, false, List, [], ◌∷◌, ◌++◌, length, take, drop, refl, ◌∙◌, ap, arith, length-append, length-drop, Result, Ok, Err}
 use Rattle.std.specs.Prelude.{IsOk, OnErr}
 use Rattle.ssh_aes.specs.Gcm.{gcm_text, gcm_tag}
 use Rattle.ssh_aes.specs.Modes.{Running, masked_text}

@@ -19,10 +19,11 @@ use Rattle.ssh_kex.specs.Messages.{Presented, presented}
 use Rattle.ssh_kex.specs.Parts.{IsSmall, Setup}
 use Rattle.ssh_kex.specs.Refusals.{Denies, IsTooLong, PartDenies, SignatureDenied, SigningDenied}
 use Rattle.ssh_kex.specs.Fields.{fields, sizes_in}
+use Rattle.ssh_kex.specs.Members.{AgreementMembers, GroupLookupMembers, HostKeysMembers}
 use Rattle.ssh_kex.specs.Setting.{Says, Setting}
 use Rattle.ssh_kex.specs.Signature.{canonical_form}
 use Rattle.ssh_kex.specs.Stages.{Machine, Stage, Created, AwaitsGroup, AwaitsReply, AwaitsRequest, AwaitsValue, AwaitsNewkeys}
-use Rattle.ssh_kex.specs.Stepping.{Progresses, RefusesStep}
+use Rattle.ssh_kex.specs.Stepping.{Progresses, RefusesStep, denies_of, says_of}
 use Rattle.ssh_kex.specs.declared.config.Config.{Config}
 use Rattle.ssh_kex.specs.declared.exchange.Keys.{Keys}
 use Rattle.ssh_kex.specs.declared.group.DhGroup.{DhGroup}
@@ -92,20 +93,20 @@ PartsAnswer says denies s stage seqn payload errors.Memory = Unit {0}
 
 -- A row that takes a message and one that refuses it exclude each other, by message and stage alone, for each cause but
 -- those that the parts decide.
-abbrev pub RowsExclude : {A H G : Type 0} → (Config → A → H → G → Says) → (A → A → H → H → G → G → Denies) → Type 0
-RowsExclude {A} {H} {G} says denies = (config : Config) (a a' : A) (h h' : H) (g g' : G) (m : Machine) (i : Incoming)
+abbrev pub RowsExclude : {A H G : Type 0} → AgreementMembers A → HostKeysMembers H → GroupLookupMembers G → Type 0
+RowsExclude {A} {H} {G} ma mh mg = (config : Config) (a a' : A) (h h' : H) (g g' : G) (m : Machine) (i : Incoming)
     (old new : Writer) (p : KexProgress Machine) (error : Error)
-    → Progresses (says config a h g) m (Some i) old p new
-    → RefusesStep (says config a h g) (denies a a' h h' g g') m (Some i) error
-    → PartsAnswer (says config a h g) (denies a a' h h' g g') m.setting m.stage i.seqn i.payload.now error
+    → Progresses (says_of ma mh mg config a h g) m (Some i) old p new
+    → RefusesStep (says_of ma mh mg config a h g) (denies_of ma mh mg a a' h h' g g') m (Some i) error
+    → PartsAnswer (says_of ma mh mg config a h g) (denies_of ma mh mg a a' h h' g g') m.setting m.stage i.seqn i.payload.now error
 
 -- between these states no part counted a refusal
-pub record NoneCounted {A H G : Type 0} (refusals : A → ℕ) (refused_sign refused_verify : H → ℕ)
-    (refused_lookup : G → ℕ) (a a' : A) (h h' : H) (g g' : G) : Type 0 where
-  pub agreement : Rose (refusals a) (refusals a') → ⊥
-  pub sign : Rose (refused_sign h) (refused_sign h') → ⊥
-  pub verify : Rose (refused_verify h) (refused_verify h') → ⊥
-  pub lookup : Rose (refused_lookup g) (refused_lookup g') → ⊥
+pub record NoneCounted {A H G : Type 0} (ma : AgreementMembers A) (mh : HostKeysMembers H) (mg : GroupLookupMembers G)
+    (a a' : A) (h h' : H) (g g' : G) : Type 0 where
+  pub agreement : Rose (ma.refusals a) (ma.refusals a') → ⊥
+  pub sign : Rose (mh.refused_sign h) (mh.refused_sign h') → ⊥
+  pub verify : Rose (mh.refused_verify h) (mh.refused_verify h') → ⊥
+  pub lookup : Rose (mg.refusals g) (mg.refusals g') → ⊥
 
 -- what a server's answer carries of its lookup and its configuration is small: a group, or the host's blob
 abbrev pub CarriesSmall : Says → Setting → Stage → List ℕ → Type 0
@@ -120,13 +121,12 @@ CarriesSmall says s (AwaitsNewkeys exchange made host) payload = Unit {0}
 
 -- Where agreement and host keys are lawful, no part counted a refusal, and what the answer carries is small, a message
 -- that a row takes could be refused for want of memory alone.
-abbrev pub MemoryAlone : {A H G : Type 0} → (A → Setup → Type 0) → (H → Setup → Type 0)
-    → (A → A → H → H → G → G → Type 0) → (Config → A → H → G → Says) → (A → A → H → H → G → G → Denies) → Type 0
-MemoryAlone {A} {H} {G} lawful lawful_hosts none_counted says denies =
+abbrev pub MemoryAlone : {A H G : Type 0} → AgreementMembers A → HostKeysMembers H → GroupLookupMembers G → Type 0
+MemoryAlone {A} {H} {G} ma mh mg =
     (setup : Setup) (config : Config) (a a' : A) (h h' : H) (g g' : G) (m : Machine) (i : Incoming)
     (old new : Writer) (p : KexProgress Machine) (error : Error)
-    → lawful a setup → lawful_hosts h setup → none_counted a a' h h' g g'
-    → CarriesSmall (says config a h g) m.setting m.stage i.payload.now
-    → Progresses (says config a h g) m (Some i) old p new
-    → RefusesStep (says config a h g) (denies a a' h h' g g') m (Some i) error
+    → ma.lawful a setup → mh.lawful h setup → NoneCounted ma mh mg a a' h h' g g'
+    → CarriesSmall (says_of ma mh mg config a h g) m.setting m.stage i.payload.now
+    → Progresses (says_of ma mh mg config a h g) m (Some i) old p new
+    → RefusesStep (says_of ma mh mg config a h g) (denies_of ma mh mg a a' h h' g g') m (Some i) error
     → error ≡ errors.Memory

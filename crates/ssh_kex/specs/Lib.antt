@@ -16,3 +16,4 @@ pub mod Laws
 pub mod Drawing
 pub mod Shown
 pub mod Unasked
+pub mod Members

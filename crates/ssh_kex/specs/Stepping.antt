@@ -1,7 +1,6 @@
 -- What a step of a machine answers, writes and asks.
 use Rattle.std.specs.Prelude.{◌≡◌, ℕ, if◌then◌else◌, Bool, true, false, List, [], ◌∷◌, length, Option, Some, None, Result, Ok, Err, ◌⊎◌}
 use Rattle.rand_core.specs.Stream.{Stream}
-use Rattle.ssh_negotiate.specs.declared.kex.Name as kexes
 use Rattle.ssh_packet.specs.Keys.{sealing_of, opening_of}
 use Rattle.ssh_packet.specs.Sealing.{IsAdmissible, item_of, padding_length}
 use Rattle.ssh_packet.specs.Writing.{Writer, Sends, SameButRoom}
@@ -13,71 +12,57 @@ use Rattle.ssh_wire.specs.declared.error.Error.TheVariants as errors
 use Rattle.ssh_wire.specs.declared.side.Side.{Side}
 use Rattle.ssh_wire.specs.declared.side.Side.TheVariants.{Client, Server}
 use Rattle.ssh_kex.specs.Exchange.{sealing_after}
-use Rattle.ssh_kex.specs.Messages.{IsCanonical, is_gex, reply_message}
+use Rattle.ssh_kex.specs.Members.{AgreementMembers, GroupLookupMembers, HostKeysMembers}
+use Rattle.ssh_kex.specs.Messages.{IsCanonical}
 use Rattle.ssh_kex.specs.Parts.{HasItsGroup, IsSmall, Setup}
 use Rattle.ssh_kex.specs.Refusals.{Denies, RefusesMessage}
-use Rattle.ssh_kex.specs.Setting.{Says, Opened}
+use Rattle.ssh_kex.specs.Setting.{Says}
 use Rattle.ssh_kex.specs.Stages.{Stage, Created, AwaitsGroup, AwaitsReply, AwaitsRequest, AwaitsValue, AwaitsNewkeys, Machine, Takes, Finishes, Skips, drops_guess, guess_dropped, resets}
 use Rattle.ssh_kex.specs.declared.config.Config.{Config}
 use Rattle.ssh_kex.specs.declared.exchange.Exchange.{Exchange}
 use Rattle.ssh_kex.specs.declared.exchange.FinishedExchange.{FinishedExchange}
-use Rattle.ssh_kex.specs.declared.exchange.GexChosen.{GexChosen}
 use Rattle.ssh_kex.specs.declared.exchange.NewKeys.{NewKeys}
 use Rattle.ssh_kex.specs.declared.exchange.ServerHost.{ServerHost}
-use Rattle.ssh_kex.specs.declared.group.DhGroup.{DhGroup}
-use Rattle.ssh_kex.specs.declared.group.GexParams.{GexParams}
 use Rattle.ssh_kex.specs.declared.progress.KexProgress.{KexProgress}
 use Rattle.ssh_kex.specs.declared.progress.KexProgress.TheVariants.{NeedsReply, Done}
 
 -- ---- what the parts say
 
 -- What parts say, from the members of their traits: what is lawful says so under any setup that it is lawful under.
-abbrev pub says_of : {A H G : Type 0} (lawful : A → Setup → Type 0) (offered : A → kexes.Name → Bool)
-    (client_makes : kexes.Name → Option DhGroup → List ℕ → List ℕ → Type 0) (server_makes : kexes.Name
-    → Option DhGroup → List ℕ → List ℕ → Type 0) (agrees : kexes.Name → Option DhGroup → List ℕ → List ℕ → List ℕ → Type 0)
-    (lawful_hosts : H → Setup → Type 0) (signs judges : H → H → Setup → Type 0)
-    (accepts : H → ServerHost → List ℕ → List ℕ → Bool) (trusts : H → ServerHost → Bool) (makes : Config → ServerHost → List ℕ → List ℕ → Type 0)
-    (lawful_groups : G → Setup → Type 0) (group : G → GexParams → DhGroup)
+abbrev pub says_of : {A H G : Type 0} (ma : AgreementMembers A) (mh : HostKeysMembers H) (mg : GroupLookupMembers G)
     → Config → A → H → G → Says
-says_of {A} {H} {G} lawful offered client_makes server_makes agrees lawful_hosts signs judges accepts trusts makes
-    lawful_groups group config a h g = record {
-      agrees = λ name q c v x. (s : Setup) → lawful a s → agrees name q c v x;
-      client_makes = λ name q l c. (s : Setup) → lawful a s → client_makes name q l c;
-      server_makes = λ name q c v. (s : Setup) → lawful a s → server_makes name q c v;
-      finds = λ sizes q. (s : Setup) → lawful_groups g s → (q ≡ group g sizes) × IsCanonical q;
-      signs = λ host hash signature. (later : H) (s : Setup) → s.server ≡ config → signs h later s
-          → makes config host hash signature;
-      accepts = λ host hash signature. accepts h host hash signature ≡ true;
-      trusts = λ host. trusts h host ≡ true;
-      offers = λ name. offered a name ≡ true;
-      value_small = λ v. (s : Setup) → lawful a s → IsSmall v;
-      signature_small = λ v. (s : Setup) → lawful_hosts h s → IsSmall v;
-    }
+says_of {A} {H} {G} ma mh mg config a h g = record {
+  agrees = λ name q c v x. (s : Setup) → ma.lawful a s → ma.agrees name q c v x;
+  client_makes = λ name q l c. (s : Setup) → ma.lawful a s → ma.client_makes name q l c;
+  server_makes = λ name q c v. (s : Setup) → ma.lawful a s → ma.server_makes name q c v;
+  finds = λ sizes q. (s : Setup) → mg.lawful g s → (q ≡ mg.group g sizes) × IsCanonical q;
+  signs = λ host hash signature. (later : H) (s : Setup) → s.server ≡ config → mh.signs h later s
+      → mh.makes config host hash signature;
+  accepts = λ host hash signature. mh.accepts h host hash signature ≡ true;
+  trusts = λ host. mh.trusts h host ≡ true;
+  offers = λ name. ma.offered a name ≡ true;
+  value_small = λ v. (s : Setup) → ma.lawful a s → IsSmall v;
+  signature_small = λ v. (s : Setup) → mh.lawful h s → IsSmall v;
+}
 
 -- What it means that a part refused between two states.
-abbrev pub denies_of : {A H G : Type 0} (obliging : A → A → Setup → Option DhGroup → Type 0) (offered : A → kexes.Name → Bool)
-    (client_makes : kexes.Name → Option DhGroup → List ℕ → List ℕ → Type 0) (server_makes : kexes.Name
-    → Option DhGroup → List ℕ → List ℕ → Type 0) (refusals : A → ℕ)
-    (signs judges : H → H → Setup → Type 0) (accepts : H → ServerHost → List ℕ → List ℕ
-    → Bool) (refused_sign refused_verify : H → ℕ)
-    (obliging_groups : G → G → Setup → Type 0) (refused_lookup : G → ℕ)
+abbrev pub denies_of : {A H G : Type 0} (ma : AgreementMembers A) (mh : HostKeysMembers H) (mg : GroupLookupMembers G)
     → A → A → H → H → G → G → Denies
-denies_of obliging offered client_makes server_makes refusals signs judges accepts refused_sign refused_verify
-    obliging_groups refused_lookup a a' h h' g g' = record {
-      start = λ name q. Rose (refusals a) (refusals a') × ((s : Setup) → obliging a a' s q → HasItsGroup name q
-          → offered a name ≡ true → ⊥);
-      value = λ name q c. Rose (refusals a) (refusals a')
-          × ((s : Setup) (l : List ℕ) → obliging a a' s q → HasItsGroup name q → offered a name ≡ true
-          → client_makes name q l c → ⊥);
-      reply = λ name q l v. Rose (refusals a) (refusals a')
-          × ((s : Setup) (c : List ℕ) → obliging a a' s q → HasItsGroup name q → offered a name ≡ true
-          → client_makes name q l c
-          → server_makes name q c v → ⊥);
-      lookup = λ sizes. Rose (refused_lookup g) (refused_lookup g') × ((s : Setup) → obliging_groups g g' s → ⊥);
-      sign = λ config. Rose (refused_sign h) (refused_sign h') × ((s : Setup) → s.server ≡ config → signs h h' s → ⊥);
-      verify = λ host hash signature. Rose (refused_verify h) (refused_verify h')
-          × ((s : Setup) → judges h h' s → accepts h host hash signature ≡ true → ⊥);
-    }
+denies_of ma mh mg a a' h h' g g' = record {
+  start = λ name q. Rose (ma.refusals a) (ma.refusals a') × ((s : Setup) → ma.obliging a a' s q → HasItsGroup name q
+      → ma.offered a name ≡ true → ⊥);
+  value = λ name q c. Rose (ma.refusals a) (ma.refusals a')
+      × ((s : Setup) (l : List ℕ) → ma.obliging a a' s q → HasItsGroup name q → ma.offered a name ≡ true
+      → ma.client_makes name q l c → ⊥);
+  reply = λ name q l v. Rose (ma.refusals a) (ma.refusals a')
+      × ((s : Setup) (c : List ℕ) → ma.obliging a a' s q → HasItsGroup name q → ma.offered a name ≡ true
+      → ma.client_makes name q l c
+      → ma.server_makes name q c v → ⊥);
+  lookup = λ sizes. Rose (mg.refusals g) (mg.refusals g') × ((s : Setup) → mg.obliging g g' s → ⊥);
+  sign = λ config. Rose (mh.refused_sign h) (mh.refused_sign h') × ((s : Setup) → s.server ≡ config → mh.signs h h' s → ⊥);
+  verify = λ host hash signature. Rose (mh.refused_verify h) (mh.refused_verify h')
+      × ((s : Setup) → mh.judges h h' s → mh.accepts h host hash signature ≡ true → ⊥);
+}
 
 -- ---- how often they are asked
 

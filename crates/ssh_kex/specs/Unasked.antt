@@ -1,5 +1,5 @@
 -- Messages of which no part is asked.
-use Rattle.std.specs.Prelude.{ℕ, Bool, true, false, not, is_ok, List, Option, Some, None, Result, Ok, Err}
+use Rattle.std.specs.Prelude.{Bool, true, false, not, is_ok, Option, Some, None, Result, Ok, Err}
 use Rattle.ssh_packet.specs.declared.reader.Incoming.{Incoming}
 use Rattle.ssh_wire.specs.declared.error.Error.{Error}
 use Rattle.ssh_wire.specs.declared.error.Error.TheVariants as errors

@@ -10,8 +10,9 @@ ghost use Rattle.ssh_negotiate.specs.Tables.{kex_text, shape_of};
 ghost use Rattle.ssh_kex.specs.Agreeing.{Agreeing, ClientAgrees, ClientStarts, IsGexOrMemory, HoldsOne, IsWhole, ServerAgrees, lent_bytes, agreement_error};
 ghost use Rattle.ssh_kex.specs.Drawing.{DrawsLocal, DrawsSecret};
 ghost use Rattle.ssh_kex.specs.Exchange.{exchange_hash, keys_of, sealing_after, secret_of, secret_text, side_if};
+ghost use Rattle.ssh_kex.specs.Members.{AgreementKept};
 ghost use Rattle.ssh_kex.specs.Messages.{is_gex, request_message, value_message};
-ghost use Rattle.ssh_kex.specs.Parts.{HasItsGroup, IsSmall, KeepsAgreement, Setup};
+ghost use Rattle.ssh_kex.specs.Parts.{HasItsGroup, IsSmall, Setup};
 
 use crate::exchange::{Exchange, NewCiphers, SharedSecret};
 use crate::group::{DhGroup, GexParams};
@@ -146,7 +147,7 @@ impl KexAlgorithm {
         rng: &mut R,
         exchange: &mut Exchange,
     ) -> Result<(), Error>
-        ensures keeps { KeepsAgreement A.lawful A.obliging A.offered A.refusals A.calls agreement.old agreement.new }
+        ensures keeps { AgreementKept A.Agreement agreement.old agreement.new }
         ensures calls { A.calls agreement.new ≤ A.calls agreement.old
             + (if (shape_of self.old.name).skip then 0 else 1) }
         ensures agrees { OnOk result (ServerAgrees (shape_of self.old.name).skip (λ v x. (s : Setup)
@@ -159,7 +160,8 @@ impl KexAlgorithm {
         ensures unchanged { OnErr result ((self.new ≡ self.old) × (exchange.new ≡ exchange.old)) }
         ensures causes { IfErr result (λ e. (e ≡ Kex) ⊎ (e ≡ Memory)) }
         ensures rose { result ≡ Err Kex → Rose (A.refusals agreement.old) (A.refusals agreement.new) }
-        ensures owed { result ≡ Err Kex → (s : Setup) (local : List ℕ) → A.obliging agreement.old agreement.new s self.old.group
+        ensures owed { result ≡ Err Kex → (s : Setup) (local : List ℕ)
+            → A.obliging agreement.old agreement.new s self.old.group
             → HasItsGroup self.old.name self.old.group → A.offered agreement.old self.old.name ≡ true
             → A.client_makes self.old.name self.old.group local exchange.old.client_ephemeral → ⊥ }
         ensures none { (shape_of self.old.name).skip ≡ true → (result ≡ Ok tt) × (agreement.new ≡ agreement.old)
@@ -193,7 +195,7 @@ impl KexAlgorithm {
         client_ephemeral: &mut Blob,
         out: &mut Vec<u8>,
     ) -> Result<(), Error>
-        ensures keeps { KeepsAgreement A.lawful A.obliging A.offered A.refusals A.calls agreement.old agreement.new }
+        ensures keeps { AgreementKept A.Agreement agreement.old agreement.new }
         ensures calls { A.calls agreement.new ≤ A.calls agreement.old
             + (if (shape_of self.old.name).skip then 0 else 1) }
         ensures starts { OnOk result (ClientStarts (shape_of self.old.name).skip (λ l v. (s : Setup)
@@ -239,7 +241,7 @@ impl KexAlgorithm {
         agreement: &mut A,
         server_public: &[u8],
     ) -> Result<(), Error>
-        ensures keeps { KeepsAgreement A.lawful A.obliging A.offered A.refusals A.calls agreement.old agreement.new }
+        ensures keeps { AgreementKept A.Agreement agreement.old agreement.new }
         ensures calls { A.calls agreement.new ≤ A.calls agreement.old
             + (if (shape_of self.old.name).skip then 0 else 1) }
         ensures agrees { OnOk result (ClientAgrees (shape_of self.old.name).skip (λ l x. (s : Setup) (public : List ℕ)

@@ -3,7 +3,6 @@
 ghost use Rattle.ssh_kex.specs.Laws.{CanonicalOnce, CiphersMeet, KeysAreWell, MemoryAlone, NoneCounted, RowsExclude};
 
 use crate::parts::{Agreement, GroupLookup, HostKeys};
-use crate::spoken::Spoken;
 
 /// Under the same names and keys each side opens with what the other seals under.
 #[tactic(auto, using(crate::proofs::Lemmas::ciphers_meet))]
@@ -25,14 +24,12 @@ pub fn canonical_once()
 /// A row that takes a message and one that refuses it exclude each other, whatever the parts are, but where the parts
 /// decide or memory is wanting. That one of both holds is what the `step` of each machine answers.
 pub fn rows_exclude<A: Agreement, H: HostKeys, G: GroupLookup>()
-    ensures { RowsExclude ⟦<(A, H, G) as Spoken>⟧.says ⟦<(A, H, G) as Spoken>⟧.denies }
+    ensures { RowsExclude A.Agreement H.HostKeys G.GroupLookup }
 {}
 
 /// Where agreement and host keys are lawful, no part counted a refusal, and the group or the host's blob that the
 /// answer carries has at most 65536 bytes a number, want of memory is all that could refuse a message which a row
 /// takes.
 pub fn memory_alone<A: Agreement, H: HostKeys, G: GroupLookup>()
-    ensures { MemoryAlone A.lawful H.lawful
-        (NoneCounted A.refusals H.refused_sign H.refused_verify G.refusals)
-        ⟦<(A, H, G) as Spoken>⟧.says ⟦<(A, H, G) as Spoken>⟧.denies }
+    ensures { MemoryAlone A.Agreement H.HostKeys G.GroupLookup }
 {}

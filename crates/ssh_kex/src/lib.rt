@@ -20,7 +20,6 @@ mod parts;
 mod progress;
 mod session_state;
 mod signature;
-mod spoken;
 
 pub use crate::algorithm::KexAlgorithm;
 pub use crate::base::KexBase;
@@ -36,4 +35,3 @@ pub use crate::parts::{Agreed, Agreement, GroupLookup, HostKeys, Parts, Refusal,
 pub use crate::progress::KexProgress;
 pub use crate::session_state::SessionKexState;
 pub use crate::signature::canonicalize_ecdsa_signature;
-pub use crate::spoken::Spoken;

@@ -1,18 +1,13 @@
 -- Steps of a link one after the other, by what the parts of both sides say.
-use Rattle.std.proofs.Common.{◌≡◌, ℕ, ◌<◌, ◌^◌, length, Bool, true, false, List, [], ◌∷◌, ◌++◌, Option, None, Result, Ok, Err, IfOk, refl, sym, ap, ◌∙◌, subst}
+use Rattle.std.proofs.Common.{◌≡◌, ℕ, ◌<◌, ◌^◌, length, Bool, true, false, List, [], ◌∷◌, ◌++◌, None, Result, Ok, Err, IfOk, refl, sym, ap, ◌∙◌, subst}
 use Rattle.std.specs.Str.{is_utf8}
 use Rattle.ssh_wire.specs.declared.side.Side.{Side}
 use Rattle.ssh_wire.specs.declared.side.Side.TheVariants.{Client, Server}
 use Rattle.ssh_wire.specs.declared.error.Error.{Error}
 use Rattle.ssh_wire.specs.declared.error.Error.TheVariants.{Disconnect}
-use Rattle.ssh_negotiate.specs.declared.kex.Name as kexes
-use Rattle.ssh_kex.specs.Parts.{KeepsAgreement, KeepsGroups, KeepsHosts, KeepsParts, Setup}
+use Rattle.ssh_kex.specs.Parts.{KeepsParts}
 use Rattle.ssh_kex.specs.Setting.{Says}
-use Rattle.ssh_kex.specs.Stepping.{says_of}
 use Rattle.ssh_kex.specs.declared.config.Config.{Config}
-use Rattle.ssh_kex.specs.declared.exchange.ServerHost.{ServerHost}
-use Rattle.ssh_kex.specs.declared.group.DhGroup.{DhGroup}
-use Rattle.ssh_kex.specs.declared.group.GexParams.{GexParams}
 use Rattle.ssh_rules.specs.Headline.{IsLink}
 use Rattle.ssh_rules.specs.Laws.{FindsCanonical, OneSecret}
 use Rattle.ssh_rules.specs.Parts.{ClientPairs, Secrets, ServerValues}
@@ -29,6 +24,8 @@ use Rattle.ssh_mux.specs.Running.{PairOnLink, TellsRun}
 use Rattle.ssh_mux.specs.declared.fault.RunFault.{RunFault}
 use Rattle.ssh_mux.specs.declared.report.MuxEnd.{MuxEnd}
 use Rattle.ssh_mux.specs.declared.report.MuxReport.{MuxReport}
+use Rattle.ssh_kex.specs.Members.{AgreementKept, AgreementMembers, GroupLookupMembers, GroupsKept, HostKeysMembers, HostsKept}
+use Rattle.ssh_kex.specs.Stepping.{says_of}
 
 -- ---- one step
 
@@ -102,37 +99,31 @@ taken_then c c' s s' old mid new h v w k = (h.0 ++ k.0, each_then c s h.0 k.0 ol
 
 -- ---- what the parts keep
 
-pub parts_after : {A H G : Type 0} {lawful : A → Setup → Type 0} {obliging : A → A → Setup → Option DhGroup → Type 0} {offered : A → kexes.Name → Bool} {refusals calls : A → ℕ}
-    {lawful_hosts : H → Setup → Type 0} {signs judges : H → H → Setup → Type 0} {accepts : H → ServerHost → List ℕ → List ℕ → Bool} {trusts : H → ServerHost → Bool} {refused_sign refused_verify refused_check calls_hosts : H → ℕ}
-    {lawful_groups : G → Setup → Type 0} {obliging_groups : G → G → Setup → Type 0} {group : G → GexParams → DhGroup} {refusals_groups calls_groups : G → ℕ} {a a' a'' : A} {h h' h'' : H} {g g' g'' : G}
-    → KeepsParts (KeepsAgreement lawful obliging offered refusals calls a a') (KeepsHosts lawful_hosts signs judges accepts trusts refused_sign refused_verify refused_check calls_hosts h h') (KeepsGroups lawful_groups obliging_groups group refusals_groups calls_groups g g')
-    → KeepsParts (KeepsAgreement lawful obliging offered refusals calls a' a'') (KeepsHosts lawful_hosts signs judges accepts trusts refused_sign refused_verify refused_check calls_hosts h' h'') (KeepsGroups lawful_groups obliging_groups group refusals_groups calls_groups g' g'')
-    → KeepsParts (KeepsAgreement lawful obliging offered refusals calls a a'') (KeepsHosts lawful_hosts signs judges accepts trusts refused_sign refused_verify refused_check calls_hosts h h'') (KeepsGroups lawful_groups obliging_groups group refusals_groups calls_groups g g'')
-parts_after k m = record {
+pub parts_after : {A H G : Type 0} (ma : AgreementMembers A) (mh : HostKeysMembers H) (mg : GroupLookupMembers G) {a a' a'' : A} {h h' h'' : H} {g g' g'' : G}
+    → KeepsParts (AgreementKept ma a a') (HostsKept mh h h') (GroupsKept mg g g')
+    → KeepsParts (AgreementKept ma a' a'') (HostsKept mh h' h'') (GroupsKept mg g' g'')
+    → KeepsParts (AgreementKept ma a a'') (HostsKept mh h h'') (GroupsKept mg g g'')
+parts_after ma mh mg k m = record {
   agreement = agreement_after _ _ _ _ _ _ _ _ k.agreement m.agreement;
   hosts = hosts_after _ _ _ _ _ _ _ _ _ _ _ _ k.hosts m.hosts;
   groups = groups_after _ _ _ _ _ _ _ _ k.groups m.groups;
 }
 
 -- steps behind others, with the parts as the first left them
-pub goes_then : {A H G : Type 0} {lawful : A → Setup → Type 0} {obliging : A → A → Setup → Option DhGroup → Type 0} {offered : A → kexes.Name → Bool} {refusals calls : A → ℕ}
-    {lawful_hosts : H → Setup → Type 0} {signs judges : H → H → Setup → Type 0} {accepts : H → ServerHost → List ℕ → List ℕ → Bool} {trusts : H → ServerHost → Bool} {refused_sign refused_verify refused_check calls_hosts : H → ℕ}
-    {lawful_groups : G → Setup → Type 0} {obliging_groups : G → G → Setup → Type 0} {group : G → GexParams → DhGroup} {refusals_groups calls_groups : G → ℕ} {a a' b b' : A} {h h' i i' : H} {g g' j j' : G}
-    (client_makes : kexes.Name → Option DhGroup → List ℕ → List ℕ → Type 0) (server_makes : kexes.Name → Option DhGroup → List ℕ → List ℕ → Type 0)
-    (agrees : kexes.Name → Option DhGroup → List ℕ → List ℕ → List ℕ → Type 0) (makes : Config → ServerHost → List ℕ → List ℕ → Type 0) (old mid new : LinkState)
-    → KeepsParts (KeepsAgreement lawful obliging offered refusals calls a a') (KeepsHosts lawful_hosts signs judges accepts trusts refused_sign refused_verify refused_check calls_hosts h h') (KeepsGroups lawful_groups obliging_groups group refusals_groups calls_groups g g')
-    → KeepsParts (KeepsAgreement lawful obliging offered refusals calls b b') (KeepsHosts lawful_hosts signs judges accepts trusts refused_sign refused_verify refused_check calls_hosts i i') (KeepsGroups lawful_groups obliging_groups group refusals_groups calls_groups j j')
-    → TakesSteps (says_of lawful offered client_makes server_makes agrees lawful_hosts signs judges accepts trusts makes lawful_groups group old.carried.client.transport.config a h g)
-    (says_of lawful offered client_makes server_makes agrees lawful_hosts signs judges accepts trusts makes lawful_groups group old.carried.server.transport.config b i j) old mid
-    → TakesSteps (says_of lawful offered client_makes server_makes agrees lawful_hosts signs judges accepts trusts makes lawful_groups group mid.carried.client.transport.config a' h' g')
-    (says_of lawful offered client_makes server_makes agrees lawful_hosts signs judges accepts trusts makes lawful_groups group mid.carried.server.transport.config b' i' j') mid new
-    → TakesSteps (says_of lawful offered client_makes server_makes agrees lawful_hosts signs judges accepts trusts makes lawful_groups group old.carried.client.transport.config a h g)
-    (says_of lawful offered client_makes server_makes agrees lawful_hosts signs judges accepts trusts makes lawful_groups group old.carried.server.transport.config b i j) old new
-goes_then client_makes server_makes agrees makes old mid new k m t u =
+pub goes_then : {A H G : Type 0} (ma : AgreementMembers A) (mh : HostKeysMembers H) (mg : GroupLookupMembers G) {a a' b b' : A} {h h' i i' : H} {g g' j j' : G} (old mid new : LinkState)
+    → KeepsParts (AgreementKept ma a a') (HostsKept mh h h') (GroupsKept mg g g')
+    → KeepsParts (AgreementKept ma b b') (HostsKept mh i i') (GroupsKept mg j j')
+    → TakesSteps (says_of ma mh mg old.carried.client.transport.config a h g)
+    (says_of ma mh mg old.carried.server.transport.config b i j) old mid
+    → TakesSteps (says_of ma mh mg mid.carried.client.transport.config a' h' g')
+    (says_of ma mh mg mid.carried.server.transport.config b' i' j') mid new
+    → TakesSteps (says_of ma mh mg old.carried.client.transport.config a h g)
+    (says_of ma mh mg old.carried.server.transport.config b i j) old new
+goes_then ma mh mg old mid new k m t u =
     let q = each_configs _ _ t.0 old mid t.1 in
     taken_then _ _ _ _ old mid new t
-    (later_weaker _ _ client_makes server_makes agrees _ _ _ _ _ makes _ _ old.carried.client.transport.config mid.carried.client.transport.config _ _ _ _ _ _ _ _ _ _ _ _ _ _ _ _ q.of_client k.agreement k.hosts k.groups)
-    (later_weaker _ _ client_makes server_makes agrees _ _ _ _ _ makes _ _ old.carried.server.transport.config mid.carried.server.transport.config _ _ _ _ _ _ _ _ _ _ _ _ _ _ _ _ q.of_server m.agreement m.hosts m.groups) u
+    (later_weaker ma mh mg old.carried.client.transport.config mid.carried.client.transport.config _ _ _ _ _ _ q.of_client k.agreement k.hosts k.groups)
+    (later_weaker ma mh mg old.carried.server.transport.config mid.carried.server.transport.config _ _ _ _ _ _ q.of_server m.agreement m.hosts m.groups) u
 
 -- ---- the link of a report
 

@@ -1,17 +1,14 @@
 -- Where the parts of a run are lawful, each refusal of its link has its cause, and none is Disconnect.
-use Rattle.std.proofs.Common.{◌≡◌, ◌⊎◌, inl, inr, ℕ, ◌<◌, ◌≤◌, ◌^◌, Bool, true, false, List, [], ◌∷◌, ◌++◌, length, Option, None, Result, Ok, Err, IfErr, not, ◌&&◌, refl, sym, ap, ◌∙◌, subst, length-append, arith}
+use Rattle.std.proofs.Common.{◌≡◌, ◌⊎◌, inl, inr, ℕ, ◌<◌, ◌≤◌, ◌^◌, Bool, true, false, List, [], ◌∷◌, ◌++◌, length, None, Result, Ok, Err, IfErr, not, ◌&&◌, refl, sym, ap, ◌∙◌, subst, length-append, arith}
 use Rattle.ssh_wire.specs.declared.error.Error.{Error}
 use Rattle.ssh_wire.specs.declared.error.Error.TheVariants as errors
 use Rattle.ssh_wire.specs.declared.side.Side.{Side}
 use Rattle.ssh_wire.specs.declared.side.Side.TheVariants.{Client, Server}
 use Rattle.ssh_negotiate.specs.declared.kex.Name as kexes
-use Rattle.ssh_kex.specs.Parts.{KeepsAgreement, KeepsGroups, KeepsHosts, KeepsParts, Setup}
-use Rattle.ssh_kex.specs.Stepping.{says_of}
+use Rattle.ssh_kex.specs.Parts.{KeepsParts}
 use Rattle.ssh_kex.specs.Setting.{Says}
 use Rattle.ssh_kex.specs.declared.config.Config.{Config}
-use Rattle.ssh_kex.specs.declared.exchange.ServerHost.{ServerHost}
 use Rattle.ssh_kex.specs.declared.group.DhGroup.{DhGroup}
-use Rattle.ssh_kex.specs.declared.group.GexParams.{GexParams}
 use Rattle.ssh_kex.specs.declared.parts.Parts.{Parts}
 use Rattle.ssh_rules.specs.Headline.{bound_of}
 use Rattle.ssh_rules.specs.LinkCauses.{Rises}
@@ -34,6 +31,8 @@ use Rattle.ssh_mux.specs.declared.fault.RunFault.{RunFault}
 use Rattle.ssh_mux.specs.declared.fault.RunFault.TheVariants.{Link, Mux}
 use Rattle.ssh_mux.specs.declared.fault.RunFault.TheVariants as faults
 use Rattle.ssh_channels.specs.declared.fault.MuxFault.{MuxFault}
+use Rattle.ssh_kex.specs.Members.{AgreementKept, AgreementMembers, GroupLookupMembers, GroupsKept, HostKeysMembers, HostsKept}
+use Rattle.ssh_kex.specs.Stepping.{says_of}
 use Rattle.ssh_mux.specs.declared.pair.Pair.{Pair}
 use Rattle.ssh_mux.specs.declared.pair.PairConfig.{PairConfig}
 use Rattle.ssh_mux.specs.declared.report.MuxEnd.{MuxEnd}
@@ -101,40 +100,31 @@ refused_now keeps tells old p p' q q' step fault error is kp kq few h e d good =
     on false e = inr (subst (λ x. WhereLive old (RefusesLinkStep (tells old.carried.client.transport.config p p') (tells old.carried.server.transport.config q q') old.bound step old.carried x)) same (h e))
 
 -- what the parts keep, and what they tell
-abbrev pub keeps_of : {A H G R : Type 0} (lawful : A → Setup → Type 0) (obliging : A → A → Setup → Option DhGroup → Type 0) (offered : A → kexes.Name → Bool) (refusals calls : A → ℕ)
-    (lawful_hosts : H → Setup → Type 0) (signs judges : H → H → Setup → Type 0) (accepts : H → ServerHost → List ℕ → List ℕ → Bool) (trusts : H → ServerHost → Bool) (refused_sign refused_verify refused_check calls_hosts : H → ℕ)
-    (lawful_groups : G → Setup → Type 0) (obliging_groups : G → G → Setup → Type 0) (group : G → GexParams → DhGroup) (refusals_groups calls_groups : G → ℕ) → Parts A H G R → Parts A H G R → Type 0
-keeps_of lawful obliging offered refusals calls lh sg jd accepts trusts rs rv rc ch lg og group rg cg a b = KeepsParts (KeepsAgreement lawful obliging offered refusals calls a.agreement b.agreement) (KeepsHosts lh sg jd accepts trusts rs rv rc ch a.hosts b.hosts) (KeepsGroups lg og group rg cg a.groups b.groups)
+abbrev pub keeps_of : {A H G R : Type 0} (ma : AgreementMembers A) (mh : HostKeysMembers H) (mg : GroupLookupMembers G)
+    → Parts A H G R → Parts A H G R → Type 0
+keeps_of ma mh mg a b = KeepsParts (AgreementKept ma a.agreement b.agreement) (HostsKept mh a.hosts b.hosts) (GroupsKept mg a.groups b.groups)
 
-abbrev pub tells_of : {A H G R : Type 0} (lawful : A → Setup → Type 0) (obliging : A → A → Setup → Option DhGroup → Type 0) (offered : A → kexes.Name → Bool)
-    (client_makes : kexes.Name → Option DhGroup → List ℕ → List ℕ → Type 0) (server_makes : kexes.Name → Option DhGroup → List ℕ → List ℕ → Type 0)
-    (agrees : kexes.Name → Option DhGroup → List ℕ → List ℕ → List ℕ → Type 0) (refusals : A → ℕ)
-    (lawful_hosts : H → Setup → Type 0) (signs judges : H → H → Setup → Type 0) (accepts : H → ServerHost → List ℕ → List ℕ → Bool) (trusts : H → ServerHost → Bool)
-    (makes : Config → ServerHost → List ℕ → List ℕ → Type 0) (refused_sign refused_verify refused_check : H → ℕ)
-    (lawful_groups : G → Setup → Type 0) (obliging_groups : G → G → Setup → Type 0) (group : G → GexParams → DhGroup) (refused_lookup : G → ℕ) → Config → Parts A H G R → Parts A H G R → Telling
-tells_of lawful obliging offered cm sm ag refusals lh sg jd accepts trusts makes rs rv rc lg og group rl config a b = telling_of lawful obliging offered cm sm ag refusals lh sg jd accepts trusts makes rs rv rc lg og group rl config a.agreement b.agreement a.hosts b.hosts a.groups b.groups
+abbrev pub tells_of : {A H G R : Type 0} (ma : AgreementMembers A) (mh : HostKeysMembers H) (mg : GroupLookupMembers G)
+    → Config → Parts A H G R → Parts A H G R → Telling
+tells_of ma mh mg config a b = telling_of ma mh mg config a.agreement b.agreement a.hosts b.hosts a.groups b.groups
 
 -- behind some steps
-pub refused_then : {A H G R : Type 0} {lawful : A → Setup → Type 0} {obliging : A → A → Setup → Option DhGroup → Type 0} {offered : A → kexes.Name → Bool} {refusals calls : A → ℕ}
-    {lawful_hosts : H → Setup → Type 0} {signs judges : H → H → Setup → Type 0} {accepts : H → ServerHost → List ℕ → List ℕ → Bool} {trusts : H → ServerHost → Bool} {refused_sign refused_verify refused_check calls_hosts : H → ℕ}
-    {lawful_groups : G → Setup → Type 0} {obliging_groups : G → G → Setup → Type 0} {group : G → GexParams → DhGroup} {refusals_groups calls_groups : G → ℕ}
-    (client_makes : kexes.Name → Option DhGroup → List ℕ → List ℕ → Type 0) (server_makes : kexes.Name → Option DhGroup → List ℕ → List ℕ → Type 0)
-    (agrees : kexes.Name → Option DhGroup → List ℕ → List ℕ → List ℕ → Type 0) (makes : Config → ServerHost → List ℕ → List ℕ → Type 0) (old mid : LinkState) (p p' p'' q q' q'' : Parts A H G R) (error : Error)
-    → KeepsParts (KeepsAgreement lawful obliging offered refusals calls p.agreement p'.agreement) (KeepsHosts lawful_hosts signs judges accepts trusts refused_sign refused_verify refused_check calls_hosts p.hosts p'.hosts) (KeepsGroups lawful_groups obliging_groups group refusals_groups calls_groups p.groups p'.groups)
-    → KeepsParts (KeepsAgreement lawful obliging offered refusals calls q.agreement q'.agreement) (KeepsHosts lawful_hosts signs judges accepts trusts refused_sign refused_verify refused_check calls_hosts q.hosts q'.hosts) (KeepsGroups lawful_groups obliging_groups group refusals_groups calls_groups q.groups q'.groups)
-    → TakesSteps (says_of lawful offered client_makes server_makes agrees lawful_hosts signs judges accepts trusts makes lawful_groups group old.carried.client.transport.config p.agreement p.hosts p.groups)
-    (says_of lawful offered client_makes server_makes agrees lawful_hosts signs judges accepts trusts makes lawful_groups group old.carried.server.transport.config q.agreement q.hosts q.groups) old mid
-    → RefusesOn (keeps_of {A = A} {H = H} {G = G} {R = R} lawful obliging offered refusals calls lawful_hosts signs judges accepts trusts refused_sign refused_verify refused_check calls_hosts lawful_groups obliging_groups group refusals_groups calls_groups)
-    (tells_of {A = A} {H = H} {G = G} {R = R} lawful obliging offered client_makes server_makes agrees refusals lawful_hosts signs judges accepts trusts makes refused_sign refused_verify refused_check lawful_groups obliging_groups group refusals_groups) mid p' p'' q' q'' error
-    → RefusesOn (keeps_of {A = A} {H = H} {G = G} {R = R} lawful obliging offered refusals calls lawful_hosts signs judges accepts trusts refused_sign refused_verify refused_check calls_hosts lawful_groups obliging_groups group refusals_groups calls_groups)
-    (tells_of {A = A} {H = H} {G = G} {R = R} lawful obliging offered client_makes server_makes agrees refusals lawful_hosts signs judges accepts trusts makes refused_sign refused_verify refused_check lawful_groups obliging_groups group refusals_groups) old p p'' q q'' error
-refused_then client_makes server_makes agrees makes old mid p p' p'' q q' q'' error k m t r = record {
+pub refused_then : {A H G R : Type 0} (ma : AgreementMembers A) (mh : HostKeysMembers H) (mg : GroupLookupMembers G) (old mid : LinkState) (p p' p'' q q' q'' : Parts A H G R) (error : Error)
+    → KeepsParts (AgreementKept ma p.agreement p'.agreement) (HostsKept mh p.hosts p'.hosts) (GroupsKept mg p.groups p'.groups)
+    → KeepsParts (AgreementKept ma q.agreement q'.agreement) (HostsKept mh q.hosts q'.hosts) (GroupsKept mg q.groups q'.groups)
+    → TakesSteps (says_of ma mh mg old.carried.client.transport.config p.agreement p.hosts p.groups)
+    (says_of ma mh mg old.carried.server.transport.config q.agreement q.hosts q.groups) old mid
+    → RefusesOn (keeps_of {A = A} {H = H} {G = G} {R = R} ma mh mg)
+    (tells_of {A = A} {H = H} {G = G} {R = R} ma mh mg) mid p' p'' q' q'' error
+    → RefusesOn (keeps_of {A = A} {H = H} {G = G} {R = R} ma mh mg)
+    (tells_of {A = A} {H = H} {G = G} {R = R} ma mh mg) old p p'' q q'' error
+refused_then ma mh mg old mid p p' p'' q q' q'' error k m t r = record {
   client_now = r.client_now;
   server_now = r.server_now;
-  client_keeps = parts_after k r.client_keeps;
-  server_keeps = parts_after m r.server_keeps;
+  client_keeps = parts_after ma mh mg k r.client_keeps;
+  server_keeps = parts_after ma mh mg m r.server_keeps;
   mid = r.mid;
-  goes = goes_then client_makes server_makes agrees makes old mid r.mid k m t r.goes;
+  goes = goes_then ma mh mg old mid r.mid k m t r.goes;
   few = r.few;
   step = r.step;
   good = r.good;
@@ -184,16 +174,11 @@ refuses_link keeps tells client server first p p' q q' error later vc vs n is r 
     refl bound (later p r.client_now p' start.client.transport.config r.mid.carried.client.transport.config runs.configs.of_client r.client_keeps)
     (later q r.server_now q' start.server.transport.config r.mid.carried.server.transport.config runs.configs.of_server r.server_keeps) runs refused lc ls)
 
-pub parts_later : {A H G R : Type 0} (lawful : A → Setup → Type 0) (obliging : A → A → Setup → Option DhGroup → Type 0) (offered : A → kexes.Name → Bool)
-    (client_makes : kexes.Name → Option DhGroup → List ℕ → List ℕ → Type 0) (server_makes : kexes.Name → Option DhGroup → List ℕ → List ℕ → Type 0)
-    (agrees : kexes.Name → Option DhGroup → List ℕ → List ℕ → List ℕ → Type 0) (refusals calls : A → ℕ)
-    (lawful_hosts : H → Setup → Type 0) (signs judges : H → H → Setup → Type 0) (accepts : H → ServerHost → List ℕ → List ℕ → Bool) (trusts : H → ServerHost → Bool)
-    (makes : Config → ServerHost → List ℕ → List ℕ → Type 0) (refused_sign refused_verify refused_check calls_hosts : H → ℕ)
-    (lawful_groups : G → Setup → Type 0) (obliging_groups : G → G → Setup → Type 0) (group : G → GexParams → DhGroup) (refused_lookup calls_groups : G → ℕ)
-    → (a b c : Parts A H G R) (config now : Config) → now ≡ config → keeps_of {A = A} {H = H} {G = G} {R = R} lawful obliging offered refusals calls lawful_hosts signs judges accepts trusts refused_sign refused_verify refused_check calls_hosts lawful_groups obliging_groups group refused_lookup calls_groups a b
-    → TellsLater (tells_of {A = A} {H = H} {G = G} {R = R} lawful obliging offered client_makes server_makes agrees refusals lawful_hosts signs judges accepts trusts makes refused_sign refused_verify refused_check lawful_groups obliging_groups group refused_lookup now b c) (tells_of {A = A} {H = H} {G = G} {R = R} lawful obliging offered client_makes server_makes agrees refusals lawful_hosts signs judges accepts trusts makes refused_sign refused_verify refused_check lawful_groups obliging_groups group refused_lookup config a c)
-parts_later lawful obliging offered cm sm ag refusals ca lh sg jd accepts trusts makes rs rv rc ch lg og group rl cg a b c config now e k =
-    later_tells lawful obliging offered cm sm ag refusals lh sg jd accepts trusts makes rs rv rc lg og group rl config now a.agreement b.agreement c.agreement a.hosts b.hosts c.hosts a.groups b.groups c.groups ca ch cg e k.agreement k.hosts k.groups
+pub parts_later : {A H G R : Type 0} (ma : AgreementMembers A) (mh : HostKeysMembers H) (mg : GroupLookupMembers G) (a b c : Parts A H G R) (config now : Config)
+    → now ≡ config → keeps_of {A = A} {H = H} {G = G} {R = R} ma mh mg a b
+    → TellsLater (tells_of {A = A} {H = H} {G = G} {R = R} ma mh mg now b c) (tells_of {A = A} {H = H} {G = G} {R = R} ma mh mg config a c)
+parts_later ma mh mg a b c config now e k =
+    later_tells ma mh mg config now a.agreement b.agreement c.agreement a.hosts b.hosts c.hosts a.groups b.groups c.groups e k.agreement k.hosts k.groups
 
 -- ---- the causes
 

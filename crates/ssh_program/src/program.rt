@@ -198,7 +198,8 @@ fn read_answer<P: Program, S: Source>(
     command: P::Command,
     source: &mut S,
 ) -> Result<P::Answer, ReadError>
-    ensures answer { IfOk result (λ answer. AnswersLeft P.answers command (S.left source.old) (S.left source.new) answer) }
+    ensures answer { IfOk result (λ answer. AnswersLeft P.answers command (S.left source.old)
+        (S.left source.new) answer) }
     ensures failed { IfErr result (λ e. e ≡ Failed → Rose (S.faults source.old) (S.faults source.new)) }
     ensures unfailed { result ≢ Err Failed → S.faults source.new ≡ S.faults source.old }
     ensures bounded { TakesAtMost (longest_script + 1) (S.left source.old) (S.left source.new) }

@@ -8,6 +8,7 @@ use Rattle.ssh_rules.specs.Log.{handled}
 use Rattle.ssh_rules.specs.Machine.{Event, Inside, Outside, SideState, Silent, Where}
 use Rattle.ssh_rules.specs.MessageTypes.{is_kex_type, type_of}
 use Rattle.ssh_rules.specs.Standing.{Acts, OfFault, OfMemory, OfPacket, OfVersion, RefusalCause, RefusesInput, Standing}
+use Rattle.ssh_kex.specs.Members.{AgreementMembers, GroupLookupMembers, HostKeysMembers}
 
 -- how often each part of a side was asked
 pub record PartCalls : Type 0 where
@@ -16,8 +17,8 @@ pub record PartCalls : Type 0 where
   pub lookups : ℕ
 
 -- by the members of their traits
-abbrev pub counted_by : {A H G : Type 0} (agreement : A → ℕ) (hosts : H → ℕ) (lookups : G → ℕ) → A → H → G → PartCalls
-counted_by agreement hosts lookups a h g = record { agreement = agreement a; hosts = hosts h; lookups = lookups g }
+abbrev pub counted_by : {A H G : Type 0} → AgreementMembers A → HostKeysMembers H → GroupLookupMembers G → A → H → G → PartCalls
+counted_by ma mh mg a h g = record { agreement = ma.calls a; hosts = mh.calls h; lookups = mg.calls g }
 
 -- Between two states each part was asked no more often than was to come and than the exchanges that were begun ask it,
 -- and the lookup in group exchanges alone.

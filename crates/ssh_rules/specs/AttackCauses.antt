@@ -17,6 +17,7 @@ use Rattle.ssh_negotiate.specs.declared.negotiation.Names.{Names}
 use Rattle.ssh_kex.specs.Exchange.{exchange_hash, outgoing}
 use Rattle.ssh_kex.specs.Messages.{group_message, host_with, is_gex, newkeys, reply_message, request_message, value_message}
 use Rattle.ssh_kex.specs.Fields.{IsInside, IsOutside, ReplyFront, fields, group_in, reply_front, sizes_in, value_in}
+use Rattle.ssh_kex.specs.Members.{AgreementMembers, GroupLookupMembers, HostKeysMembers}
 use Rattle.ssh_kex.specs.Setting.{group_of, offers_of}
 use Rattle.ssh_kex.specs.Signature.{judged}
 use Rattle.ssh_kex.specs.declared.config.Config.{Config}
@@ -27,7 +28,6 @@ use Rattle.ssh_kex.specs.declared.group.GexParams.{GexParams}
 use Rattle.ssh_rules.specs.Attacked.{AreAnswers, IsAttackedLink, Judged, block_names, client_id_of, fed_to, kind_in, server_id_of, still_strict}
 use Rattle.ssh_rules.specs.Asking.{AsksAtMost, PartCalls, counted_by, kex_count}
 use Rattle.ssh_kex.specs.Parts.{Setup}
-use Rattle.ssh_kex.specs.declared.exchange.ServerHost.{ServerHost}
 use Rattle.ssh_rules.specs.Handled.{AllRead, AtFault, AtPacket, Ending, heard_in, id_text_in}
 use Rattle.ssh_rules.specs.declared.link.AttackStep.{AttackStep}
 use Rattle.ssh_rules.specs.declared.link.AttackReport.{AttackReport}
@@ -202,32 +202,27 @@ pub record PartsDo : Type 1 where
   pub after : PartCalls
 
 -- by the members of the parts' traits, of one side, between the states before the run and behind it
-abbrev pub parts_of : {A H G : Type 0} (lawful : A → Setup → Type 0) (obliging : A → A → Setup → Option DhGroup → Type 0) (offered : A → KexName → Bool)
-    (client_makes : ClientPairs) (server_makes : ServerValues) (agrees : Secrets) (refusals calls : A → ℕ)
-    (lawful_hosts : H → Setup → Type 0) (signs judges : H → H → Setup → Type 0) (accepts : H → ServerHost → List ℕ → List ℕ → Bool)
-    (trusts : H → ServerHost → Bool) (refused_sign refused_verify refused_check asked : H → ℕ)
-    (lawful_groups : G → Setup → Type 0) (obliging_groups : G → G → Setup → Type 0) (group : G → GexParams → DhGroup) (refused_lookup looked : G → ℕ)
+abbrev pub parts_of : {A H G : Type 0} (ma : AgreementMembers A) (mh : HostKeysMembers H) (mg : GroupLookupMembers G)
     → Setup → A → A → H → H → G → G → PartsDo
-parts_of lawful obliging offered client_makes server_makes agrees refusals calls lawful_hosts signs judges accepts trusts
-    refused_sign refused_verify refused_check asked lawful_groups obliging_groups group refused_lookup looked s a a' h h' g g' =
+parts_of ma mh mg s a a' h h' g g' =
     record {
-      lawful = lawful a s;
-      lawful_hosts = lawful_hosts h s;
-      lawful_lookup = lawful_groups g s;
-      obliging = obliging a a' s;
-      signs = signs h h' s;
-      judges = judges h h' s;
-      obliging_lookup = obliging_groups g g' s;
-      rises = rises_of refusals refused_sign refused_verify refused_check refused_lookup a a' h h' g g';
-      offers = λ n. offered a n ≡ true;
-      client_makes = client_makes;
-      server_makes = server_makes;
-      agrees = agrees;
-      group = group g;
-      accepts = accepts h;
-      trusts = trusts h;
-      before = counted_by calls asked looked a h g;
-      after = counted_by calls asked looked a' h' g';
+      lawful = ma.lawful a s;
+      lawful_hosts = mh.lawful h s;
+      lawful_lookup = mg.lawful g s;
+      obliging = ma.obliging a a' s;
+      signs = mh.signs h h' s;
+      judges = mh.judges h h' s;
+      obliging_lookup = mg.obliging g g' s;
+      rises = rises_of ma mh mg a a' h h' g g';
+      offers = λ n. ma.offered a n ≡ true;
+      client_makes = ma.client_makes;
+      server_makes = ma.server_makes;
+      agrees = ma.agrees;
+      group = mg.group g;
+      accepts = mh.accepts h;
+      trusts = mh.trusts h;
+      before = counted_by ma mh mg a h g;
+      after = counted_by ma mh mg a' h' g';
     }
 
 -- A part refuses: an agreement that obliges in the group, only a value that the other side doesn't make.

@@ -1,12 +1,8 @@
 -- What the calls of an attacked run do on one side.
-use Rattle.ssh_kex.specs.Parts.{Setup}
 use Rattle.ssh_kex.specs.Stepping.{denies_of, says_of}
 use Rattle.ssh_kex.specs.declared.config.Config.{Config}
-use Rattle.ssh_kex.specs.declared.group.DhGroup.{DhGroup}
-use Rattle.ssh_kex.specs.declared.group.GexParams.{GexParams}
-use Rattle.ssh_negotiate.specs.declared.kex.Name.{Name as KexName}
 use Rattle.ssh_rules.specs.Refusing.{untrusted_of}
-use Rattle.std.specs.Prelude.{Option, ◌≡◌, ℕ, ◌+◌, Bool, true, false, List, [], ◌∷◌, ◌++◌, length, Result, Ok, Err}
+use Rattle.std.specs.Prelude.{◌≡◌, ℕ, ◌+◌, Bool, true, false, List, [], ◌∷◌, ◌++◌, length, Result, Ok, Err}
 use Rattle.ssh_wire.specs.Forms.{AreBytes}
 use Rattle.ssh_wire.specs.Sides.{same_side}
 use Rattle.ssh_wire.specs.declared.error.Error.{Error}
@@ -24,6 +20,7 @@ use Rattle.ssh_rules.specs.Valid.{is_good_payload}
 use Rattle.ssh_rules.specs.declared.link.AttackStep.{AttackStep}
 use Rattle.ssh_rules.specs.declared.link.SideReport.{SideReport}
 use Rattle.ssh_rules.specs.declared.link.AttackStep.TheVariants.{Submit, Feed, Rekey}
+use Rattle.ssh_kex.specs.Members.{AgreementMembers, GroupLookupMembers, HostKeysMembers}
 
 -- One side: its transport, how many bytes it was fed, what it delivered, how often its parts were asked.
 pub record AttackedEnd : Type 0 where
@@ -40,15 +37,13 @@ pub record Tells : Type 1 where
   pub calls : PartCalls
 
 -- from the members of their traits, between the states before and behind
-abbrev pub tells_by : {A H G : Type 0} (lawful : A → Setup → Type 0) (obliging : A → A → Setup → Option DhGroup → Type 0) (offered : A → KexName → Bool) (client_makes : KexName → Option DhGroup → List ℕ → List ℕ → Type 0) (server_makes : KexName → Option DhGroup → List ℕ → List ℕ → Type 0) (agrees : KexName → Option DhGroup → List ℕ → List ℕ → List ℕ → Type 0) (refusals calls : A → ℕ)
-    (lawful_hosts : H → Setup → Type 0) (signs judges : H → H → Setup → Type 0) (accepts : H → ServerHost → List ℕ → List ℕ → Bool) (trusts : H → ServerHost → Bool) (makes : Config → ServerHost → List ℕ → List ℕ → Type 0) (refused_sign refused_verify refused_check asked : H → ℕ)
-    (lawful_groups : G → Setup → Type 0) (obliging_groups : G → G → Setup → Type 0) (group : G → GexParams → DhGroup) (refused_lookup looked : G → ℕ)
+abbrev pub tells_by : {A H G : Type 0} (ma : AgreementMembers A) (mh : HostKeysMembers H) (mg : GroupLookupMembers G)
     → Config → A → A → H → H → G → G → Tells
-tells_by lawful obliging offered cm sm ag refusals calls lh sg jd accepts trusts makes rs rv rc asked lg og group rl looked config a a' h h' g g' = record {
-  says = says_of lawful offered cm sm ag lh sg jd accepts trusts makes lg group config a h g;
-  denies = denies_of obliging offered cm sm refusals sg jd accepts rs rv og rl a a' h h' g g';
-  untrusted = untrusted_of jd trusts rc h h';
-  calls = counted_by calls asked looked a h g;
+tells_by ma mh mg config a a' h h' g g' = record {
+  says = says_of ma mh mg config a h g;
+  denies = denies_of ma mh mg a a' h h' g g';
+  untrusted = untrusted_of mh h h';
+  calls = counted_by ma mh mg a h g;
 }
 
 -- what was delivered was taken over

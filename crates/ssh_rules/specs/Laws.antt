@@ -6,13 +6,14 @@ use Rattle.ssh_wire.specs.declared.side.Side.TheVariants.{Client, Server}
 use Rattle.ssh_kex.specs.Messages.{IsCanonical}
 use Rattle.ssh_kex.specs.Parts.{Setup}
 use Rattle.ssh_kex.specs.Setting.{Says, Setting, offers_of}
-use Rattle.ssh_kex.specs.declared.config.Config.{Config}
 use Rattle.ssh_kex.specs.declared.exchange.Exchange.{Exchange}
 use Rattle.ssh_kex.specs.declared.exchange.FinishedExchange.{FinishedExchange}
 use Rattle.ssh_kex.specs.declared.exchange.ServerHost.{ServerHost}
 use Rattle.ssh_kex.specs.declared.group.DhGroup.{DhGroup}
 use Rattle.ssh_kex.specs.declared.group.GexParams.{GexParams}
 use Rattle.ssh_rules.specs.Made.{MadeClient, MadeServer}
+use Rattle.ssh_kex.specs.Members.{AgreementMembers, GroupLookupMembers, HostKeysMembers}
+use Rattle.ssh_kex.specs.Stepping.{says_of}
 
 -- what both sides made leaves one secret
 abbrev pub OneSecret : Says → Says → Type 0
@@ -38,12 +39,11 @@ MakesOneRecord client server = OneSecret client server → FindsCanonical server
     → MadeClient client c a b d x g → MadeServer server s b a e y h → (x ≡ y) × (d ≡ e)
 
 -- The same of parts that are lawful under both sides' configurations; `says` is what parts say, by their side's.
-abbrev pub RecordsAgree : {A H G : Type 0} → (A → Setup → Type 0) → (G → Setup → Type 0)
-    → (Config → A → H → G → Says) → Type 0
-RecordsAgree {A} {H} {G} lawful lawful_groups says =
-    (setup : Setup) (a b : A) (h i : H) (g j : G) → lawful a setup → lawful b setup → lawful_groups j setup
+abbrev pub RecordsAgree : {A H G : Type 0} → AgreementMembers A → HostKeysMembers H → GroupLookupMembers G → Type 0
+RecordsAgree {A} {H} {G} ma mh mg =
+    (setup : Setup) (a b : A) (h i : H) (g j : G) → ma.lawful a setup → ma.lawful b setup → mg.lawful j setup
     → (c s : Setting) → c.config ≡ setup.client → s.config ≡ setup.server
     → (own theirs : List (List ℕ)) (d e : Exchange) (x y : FinishedExchange) (k l : Option ServerHost)
     → IsWithin (offers_of Client c.config) → IsWithin (offers_of Server s.config) → OneLink c s
-    → MadeClient (says c.config a h g) c own theirs d x k → MadeServer (says s.config b i j) s theirs own e y l
+    → MadeClient (says_of ma mh mg c.config a h g) c own theirs d x k → MadeServer (says_of ma mh mg s.config b i j) s theirs own e y l
     → (x ≡ y) × (d ≡ e)

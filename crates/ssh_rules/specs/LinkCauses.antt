@@ -1,5 +1,5 @@
 -- The causes of what a link refuses, by what the handed-in parts of both sides are.
-use Rattle.std.specs.Prelude.{◌≡◌, ◌⊎◌, ◌++◌, ℕ, Bool, true, false, List, Ok, Err, Option, None}
+use Rattle.std.specs.Prelude.{◌≡◌, ◌⊎◌, ◌++◌, ℕ, Bool, true, false, List, Ok, Err, None}
 use Rattle.ssh_wire.specs.Lines.{id_line}
 use Rattle.ssh_wire.specs.Outside.{Rose}
 use Rattle.ssh_wire.specs.Sides.{other_side}
@@ -14,16 +14,17 @@ use Rattle.ssh_negotiate.specs.declared.negotiation.Names.{Names}
 use Rattle.ssh_kex.specs.Parts.{Setup}
 use Rattle.ssh_kex.specs.Refusals.{Denies}
 use Rattle.ssh_kex.specs.Fields.{IsOutside}
-use Rattle.ssh_kex.specs.Setting.{Says, offers_of}
+use Rattle.ssh_kex.specs.Members.{AgreementKept, AgreementMembers, GroupLookupMembers, GroupsKept, HostKeysMembers, HostsKept}
+use Rattle.ssh_kex.specs.Setting.{offers_of}
+use Rattle.ssh_kex.specs.Stepping.{denies_of, says_of}
 use Rattle.ssh_kex.specs.declared.config.Config.{Config}
 use Rattle.ssh_kex.specs.declared.exchange.ServerHost.{ServerHost}
 use Rattle.ssh_kex.specs.declared.group.DhGroup.{DhGroup}
-use Rattle.ssh_kex.specs.declared.group.GexParams.{GexParams}
 use Rattle.ssh_rules.specs.Headline.{chosen_by, kind_by}
 use Rattle.ssh_rules.specs.Machine.{Event}
 use Rattle.ssh_rules.specs.Refused.{AreValid, group_due, one_of}
 use Rattle.ssh_rules.specs.RefusedTurn.{RefusesInLink}
-use Rattle.ssh_rules.specs.Refusing.{RefusesPiece}
+use Rattle.ssh_rules.specs.Refusing.{RefusesPiece, untrusted_of}
 use Rattle.ssh_rules.specs.RunLaws.{config_of, says_by}
 use Rattle.ssh_rules.specs.Snapshots.{HasRun, IsWholeId, StandsAs}
 use Rattle.ssh_rules.specs.Standing.{Standing}
@@ -40,34 +41,31 @@ pub record Rises : Type 1 where
   pub checking : Type 0
 
 -- between two states of them
-abbrev pub rises_of : {A H G : Type 0} (refusals : A → ℕ) (refused_sign refused_verify refused_check : H → ℕ)
-    (refused_lookup : G → ℕ) → A → A → H → H → G → G → Rises
-rises_of refusals refused_sign refused_verify refused_check refused_lookup a a' h h' g g' = record {
-  agreement = Rose (refusals a) (refusals a');
-  lookup = Rose (refused_lookup g) (refused_lookup g');
-  signing = Rose (refused_sign h) (refused_sign h');
-  verifying = Rose (refused_verify h) (refused_verify h');
-  checking = Rose (refused_check h) (refused_check h');
+abbrev pub rises_of : {A H G : Type 0} (ma : AgreementMembers A) (mh : HostKeysMembers H) (mg : GroupLookupMembers G)
+    → A → A → H → H → G → G → Rises
+rises_of ma mh mg a a' h h' g g' = record {
+  agreement = Rose (ma.refusals a) (ma.refusals a');
+  lookup = Rose (mg.refusals g) (mg.refusals g');
+  signing = Rose (mh.refused_sign h) (mh.refused_sign h');
+  verifying = Rose (mh.refused_verify h) (mh.refused_verify h');
+  checking = Rose (mh.refused_check h) (mh.refused_check h');
 }
 
 -- And which rose of parts that don't oblige between these states, under both configurations: an agreement in the group
 -- that is due, a lookup where both configurations give a group exchange. That a client's host keys refuse a signature may lie with the server's, which are `signer`. The server's
 -- lookup is `finder`.
-abbrev pub unobliged_of : {A H G : Type 0} (obliging : A → A → Setup → Option DhGroup → Type 0) (refusals : A → ℕ)
-    (signs judges : H → H → Setup → Type 0) (refused_sign refused_verify refused_check : H → ℕ)
-    (obliging_groups : G → G → Setup → Type 0) (group : G → GexParams → DhGroup) (refused_lookup : G → ℕ)
+abbrev pub unobliged_of : {A H G : Type 0} (ma : AgreementMembers A) (mh : HostKeysMembers H) (mg : GroupLookupMembers G)
     → Setup → H → G → A → A → H → H → G → G → Rises
-unobliged_of {A} {H} {G} obliging refusals signs judges refused_sign refused_verify refused_check obliging_groups group
-    refused_lookup setup signer finder a a' h h' g g' = record {
-      agreement = Rose (refusals a) (refusals a')
-          × (obliging a a' setup (group_due setup (group finder setup.client.gex)) → ⊥);
-      lookup = Rose (refused_lookup g) (refused_lookup g') × (kind_by (chosen_by setup.client setup.server) ≡ true)
-          × (obliging_groups g g' setup → ⊥);
-      signing = Rose (refused_sign h) (refused_sign h') × (signs h h' setup → ⊥);
-      verifying = Rose (refused_verify h) (refused_verify h')
-          × ((later : H) → judges h h' setup → signs signer later setup → ⊥);
-      checking = Rose (refused_check h) (refused_check h') × (judges h h' setup → ⊥);
-    }
+unobliged_of {A} {H} {G} ma mh mg setup signer finder a a' h h' g g' = record {
+  agreement = Rose (ma.refusals a) (ma.refusals a')
+      × (ma.obliging a a' setup (group_due setup (mg.group finder setup.client.gex)) → ⊥);
+  lookup = Rose (mg.refusals g) (mg.refusals g') × (kind_by (chosen_by setup.client setup.server) ≡ true)
+      × (mg.obliging g g' setup → ⊥);
+  signing = Rose (mh.refused_sign h) (mh.refused_sign h') × (mh.signs h h' setup → ⊥);
+  verifying = Rose (mh.refused_verify h) (mh.refused_verify h')
+      × ((later : H) → mh.judges h h' setup → mh.signs signer later setup → ⊥);
+  checking = Rose (mh.refused_check h) (mh.refused_check h') × (mh.judges h h' setup → ⊥);
+}
 
 -- of a kind the lists of both configurations leave nothing to choose
 pub record NoneInCommon (side : Side) (config : Side → Config) (kind : AlgorithmKind) (ours theirs : List (List ℕ))
@@ -154,51 +152,43 @@ IsCauseOfAny r side (errors.SshEncoding fault) = Unit {0}
 IsCauseOfAny r side errors.Memory = Unit {0}
 
 -- so each refusal of a piece of an honest peer's wire
-abbrev pub AnyRefusals : {A H G : Type 0} → (Config → A → H → G → Says) → (A → A → H → H → G → G → Denies)
-    → (H → H → ServerHost → Type 0) → (A → A → H → H → G → G → Rises) → Type 0
-AnyRefusals {A} {H} {G} says denies untrusted rises =
+abbrev pub AnyRefusals : {A H G : Type 0} → AgreementMembers A → HostKeysMembers H → GroupLookupMembers G → Type 0
+AnyRefusals {A} {H} {G} ma mh mg =
     (setup : Setup) (a b : A) (h i : H) (g j : G) (w : World) (cl sl : List Event) (side : Side) (took piece : List ℕ)
     (old new : Standing) (v v' : A) (x x' : H) (y y' : G) (error : Error)
     → ((s : Side) → config_fault s (config_of setup s) ≡ None) → ((s : Side) → HasSizes (config_of setup s))
-    → RefusesPlayed (talkers (says_by says setup a b h i g j) (config_of setup)) (denies v v' x x' y y')
-    (untrusted x x') w cl sl side took piece old error new
-    → IsCauseOfAny (rises v v' x x' y y') side error
+    → RefusesPlayed (talkers (says_by (says_of ma mh mg) setup a b h i g j) (config_of setup)) (denies_of ma mh mg v v' x x' y y')
+    (untrusted_of mh x x') w cl sl side took piece old error new
+    → IsCauseOfAny (rises_of ma mh mg v v' x x' y y') side error
 
 -- ---- lawful and obliging parts
 
 -- Where the parts of both sides are lawful, each refusal of a piece of an honest peer's wire has its cause. The
 -- agreement that is asked is the one at the start, after some calls.
-abbrev pub RefusalsHaveCauses : {A H G : Type 0} → (A → Setup → Type 0) → (H → Setup → Type 0) → (G → Setup → Type 0)
-    → (A → KexName → Bool) → (A → A → Type 0) → (G → GexParams → DhGroup) → (Config → A → H → G → Says)
-    → (A → A → H → H → G → G → Denies) → (H → H → ServerHost → Type 0)
-    → (Setup → H → G → A → A → H → H → G → G → Rises) → Type 0
-RefusalsHaveCauses {A} {H} {G} lawful lawful_hosts lawful_groups offered keeps group says denies untrusted unobliged =
+abbrev pub RefusalsHaveCauses : {A H G : Type 0} → AgreementMembers A → HostKeysMembers H → GroupLookupMembers G → Type 0
+RefusalsHaveCauses {A} {H} {G} ma mh mg =
     (setup : Setup) (a b : A) (h i : H) (g j : G) (w : World) (cl sl : List Event) (side : Side) (took piece : List ℕ)
     (old new : Standing) (v v' : A) (x x' : H) (y y' : G) (error : Error)
-    → lawful a setup → lawful b setup → lawful_hosts h setup → lawful_hosts i setup → lawful_groups j setup
-    → keeps (one_of side a b) v
+    → ma.lawful a setup → ma.lawful b setup → mh.lawful h setup → mh.lawful i setup → mg.lawful j setup
+    → AgreementKept ma (one_of side a b) v
     → ((s : Side) → config_fault s (config_of setup s) ≡ None) → ((s : Side) → HasSizes (config_of setup s))
-    → RefusesInLink (talkers (says_by says setup a b h i g j) (config_of setup)) (denies v v' x x' y y') (untrusted x x')
+    → RefusesInLink (talkers (says_by (says_of ma mh mg) setup a b h i g j) (config_of setup)) (denies_of ma mh mg v v' x x' y y') (untrusted_of mh x x')
     w cl sl side took piece old error new
-    → IsCauseOf (unobliged setup i j v v' x x' y y') side (config_of setup) (offered (one_of side a b))
-    (group j setup.client.gex) error
+    → IsCauseOf (unobliged_of ma mh mg setup i j v v' x x' y y') side (config_of setup) (ma.offered (one_of side a b))
+    (mg.group j setup.client.gex) error
 
 -- Where they are obliging, from the start to the answer, the configurations valid, and the chosen key exchange offered
 -- by the side's agreement, memory was wanting. The parts that are asked are those at the start, after some calls.
-abbrev pub NoneRefusedInLink : {A H G : Type 0} → (A → A → Setup → Option DhGroup → Type 0)
-    → (signs judges : H → H → Setup → Type 0) → (G → G → Setup → Type 0) → (G → GexParams → DhGroup)
-    → (A → KexName → Bool) → (A → A → Type 0) → (H → H → Type 0) → (G → G → Type 0) → (Config → A → H → G → Says)
-    → (A → A → H → H → G → G → Denies) → (H → H → ServerHost → Type 0) → Type 0
-NoneRefusedInLink {A} {H} {G} obliging signs judges obliging_groups group offered keeps keeps_hosts keeps_groups says
-    denies untrusted =
+abbrev pub NoneRefusedInLink : {A H G : Type 0} → AgreementMembers A → HostKeysMembers H → GroupLookupMembers G → Type 0
+NoneRefusedInLink {A} {H} {G} ma mh mg =
     (setup : Setup) (a a' b b' : A) (h h' i i' : H) (g g' j j' : G) (names : Names) (w : World) (cl sl : List Event)
     (side : Side) (took piece : List ℕ) (old new : Standing) (v : A) (x : H) (y : G) (error : Error)
-    → obliging a a' setup (group_due setup (group j setup.client.gex))
-    → obliging b b' setup (group_due setup (group j setup.client.gex)) → judges h h' setup → signs i i' setup
-    → obliging_groups j j' setup
-    → AreValid setup names → offered (one_of side a b) names.kex ≡ true
-    → keeps (one_of side a b) v → keeps_hosts (one_of side h i) x → keeps_groups (one_of side g j) y
-    → RefusesInLink (talkers (says_by says setup a b h i g j) (config_of setup))
-    (denies v (one_of side a' b') x (one_of side h' i') y (one_of side g' j')) (untrusted x (one_of side h' i'))
+    → ma.obliging a a' setup (group_due setup (mg.group j setup.client.gex))
+    → ma.obliging b b' setup (group_due setup (mg.group j setup.client.gex)) → mh.judges h h' setup → mh.signs i i' setup
+    → mg.obliging j j' setup
+    → AreValid setup names → ma.offered (one_of side a b) names.kex ≡ true
+    → AgreementKept ma (one_of side a b) v → HostsKept mh (one_of side h i) x → GroupsKept mg (one_of side g j) y
+    → RefusesInLink (talkers (says_by (says_of ma mh mg) setup a b h i g j) (config_of setup))
+    (denies_of ma mh mg v (one_of side a' b') x (one_of side h' i') y (one_of side g' j')) (untrusted_of mh x (one_of side h' i'))
     w cl sl side took piece old error new
     → error ≡ errors.Memory

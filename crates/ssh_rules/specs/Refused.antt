@@ -1,5 +1,5 @@
 -- What a link refuses of the messages of its exchanges, by what the handed-in parts of both sides are.
-use Rattle.std.specs.Prelude.{◌≡◌, ◌⊎◌, ℕ, true, Bool, if◌then◌else◌, List, [], Option, Some, None, Ok}
+use Rattle.std.specs.Prelude.{◌≡◌, ◌⊎◌, ℕ, true, if◌then◌else◌, List, [], Option, Some, None, Ok}
 use Rattle.ssh_packet.specs.Front.{Whole, front_of}
 use Rattle.ssh_packet.specs.Sealing.{Item, next_number}
 use Rattle.ssh_wire.specs.Lines.{id_text}
@@ -7,7 +7,6 @@ use Rattle.ssh_wire.specs.declared.error.Error.{Error}
 use Rattle.ssh_wire.specs.declared.error.Error.TheVariants as errors
 use Rattle.ssh_wire.specs.declared.side.Side.{Side}
 use Rattle.ssh_wire.specs.declared.side.Side.TheVariants.{Client, Server}
-use Rattle.ssh_negotiate.specs.declared.kex.Name.{Name as KexName}
 use Rattle.ssh_negotiate.specs.declared.negotiation.Names.{Names}
 use Rattle.ssh_negotiate.specs.declared.preferred.HostKey.{HostKey}
 use Rattle.ssh_kex.specs.Parts.{Presents, Setup}
@@ -19,7 +18,6 @@ use Rattle.ssh_kex.specs.declared.exchange.Exchange.{Exchange}
 use Rattle.ssh_kex.specs.declared.exchange.FinishedExchange.{FinishedExchange}
 use Rattle.ssh_kex.specs.declared.exchange.ServerHost.{ServerHost}
 use Rattle.ssh_kex.specs.declared.group.DhGroup.{DhGroup}
-use Rattle.ssh_kex.specs.declared.group.GexParams.{GexParams}
 use Rattle.ssh_rules.specs.Headline.{chosen_by, kind_by}
 use Rattle.ssh_rules.specs.Machine.{Event, Inside, Outside, Where, setting}
 use Rattle.ssh_rules.specs.MessageTypes.{is_kex_type, type_of}
@@ -27,6 +25,8 @@ use Rattle.ssh_rules.specs.RunLaws.{config_of, says_by}
 use Rattle.ssh_rules.specs.Snapshots.{IsReached}
 use Rattle.ssh_rules.specs.Turns.{LinkEnd, Talkers, World, talkers}
 use Rattle.ssh_rules.specs.Valid.{HasSizes, config_fault}
+use Rattle.ssh_kex.specs.Members.{AgreementKept, AgreementMembers, GroupLookupMembers, GroupsKept, HostKeysMembers, HostsKept}
+use Rattle.ssh_kex.specs.Stepping.{denies_of, says_of}
 
 -- of two things that both sides have, the one of this side
 abbrev pub one_of : {T : Type 0} → Side → T → T → T
@@ -95,51 +95,45 @@ group_due setup found = if kind_by (chosen_by setup.client setup.server) then So
 
 -- Where the parts of both sides are lawful, what they decide is all that is refused of an honest peer's message, and
 -- want of memory: nothing is too long, badly encoded, out of place or without a name in common.
-abbrev pub PartsRefuseAlone : {A H G : Type 0} → (A → Setup → Type 0) → (H → Setup → Type 0) → (G → Setup → Type 0)
-    → (Config → A → H → G → Says) → (A → A → H → H → G → G → Denies) → Type 0
-PartsRefuseAlone {A} {H} {G} lawful lawful_hosts lawful_groups says denies =
+abbrev pub PartsRefuseAlone : {A H G : Type 0} → AgreementMembers A → HostKeysMembers H → GroupLookupMembers G → Type 0
+PartsRefuseAlone {A} {H} {G} ma mh mg =
     (setup : Setup) (a b : A) (h i : H) (g j : G) (names : Names) (w : World) (cl sl : List Event) (side : Side)
     (stage : Stage) (item : Item) (v v' : A) (x x' : H) (y y' : G) (error : Error)
-    → lawful a setup → lawful b setup → lawful_hosts h setup → lawful_hosts i setup → lawful_groups j setup
+    → ma.lawful a setup → ma.lawful b setup → mh.lawful h setup → mh.lawful i setup → mg.lawful j setup
     → AreValid setup names
-    → AwaitsNext (talkers (says_by says setup a b h i g j) (config_of setup)) w cl sl side stage item
-    → RefusesNextMessage (says_by says setup a b h i g j side) (denies v v' x x' y y') (config_of setup side) side
+    → AwaitsNext (talkers (says_by (says_of ma mh mg) setup a b h i g j) (config_of setup)) w cl sl side stage item
+    → RefusesNextMessage (says_by (says_of ma mh mg) setup a b h i g j side) (denies_of ma mh mg v v' x x' y y') (config_of setup side) side
     (one_of side w.client w.server) stage item error
-    → PartsDecide (says_by says setup a b h i g j side) (denies v v' x x' y y')
+    → PartsDecide (says_by (says_of ma mh mg) setup a b h i g j side) (denies_of ma mh mg v v' x x' y y')
     (setting side (config_of setup side) (id_text (config_of setup side).id) (one_of side w.client w.server).state)
     stage (next_number (one_of side w.client w.server).state.reading.number) item.payload error
 
 -- Where the parts of both sides are obliging, from the start to the answer, agreements in the group that is due, which
 -- of host keys means that a client's judge and a server's sign, and the reader's agreement offers the chosen name,
 -- nothing of an honest peer's message is refused but for want of memory. The parts that are asked are those at the start, after some calls.
-abbrev pub NothingRefused : {A H G : Type 0} → (A → A → Setup → Option DhGroup → Type 0)
-    → (signs judges : H → H → Setup → Type 0) → (G → G → Setup → Type 0) → (G → GexParams → DhGroup)
-    → (A → KexName → Bool) → (A → A → Type 0) → (H → H → Type 0) → (G → G → Type 0)
-    → (Config → A → H → G → Says) → (A → A → H → H → G → G → Denies) → Type 0
-NothingRefused {A} {H} {G} obliging signs judges obliging_groups group offered keeps keeps_hosts keeps_groups says
-    denies =
+abbrev pub NothingRefused : {A H G : Type 0} → AgreementMembers A → HostKeysMembers H → GroupLookupMembers G → Type 0
+NothingRefused {A} {H} {G} ma mh mg =
     (setup : Setup) (a a' b b' : A) (h h' i i' : H) (g g' j j' : G) (names : Names) (w : World) (cl sl : List Event)
     (side : Side) (stage : Stage) (item : Item) (v : A) (x : H) (y : G) (error : Error)
-    → obliging a a' setup (group_due setup (group j setup.client.gex))
-    → obliging b b' setup (group_due setup (group j setup.client.gex)) → judges h h' setup → signs i i' setup
-    → obliging_groups j j' setup
-    → AreValid setup names → offered (one_of side a b) names.kex ≡ true
-    → keeps (one_of side a b) v → keeps_hosts (one_of side h i) x → keeps_groups (one_of side g j) y
-    → AwaitsNext (talkers (says_by says setup a b h i g j) (config_of setup)) w cl sl side stage item
-    → RefusesNextMessage (says_by says setup a b h i g j side)
-    (denies v (one_of side a' b') x (one_of side h' i') y (one_of side g' j')) (config_of setup side) side
+    → ma.obliging a a' setup (group_due setup (mg.group j setup.client.gex))
+    → ma.obliging b b' setup (group_due setup (mg.group j setup.client.gex)) → mh.judges h h' setup → mh.signs i i' setup
+    → mg.obliging j j' setup
+    → AreValid setup names → ma.offered (one_of side a b) names.kex ≡ true
+    → AgreementKept ma (one_of side a b) v → HostsKept mh (one_of side h i) x → GroupsKept mg (one_of side g j) y
+    → AwaitsNext (talkers (says_by (says_of ma mh mg) setup a b h i g j) (config_of setup)) w cl sl side stage item
+    → RefusesNextMessage (says_by (says_of ma mh mg) setup a b h i g j side)
+    (denies_of ma mh mg v (one_of side a' b') x (one_of side h' i') y (one_of side g' j')) (config_of setup side) side
     (one_of side w.client w.server) stage item error
     → error ≡ errors.Memory
 
 -- Where the agreements of both and the server's lookup are lawful, the host that a client has accepted, when the last
 -- message comes, is one that the server presents; so obliging host keys trust it.
-abbrev pub HostTrusted : {A H G : Type 0} → (A → Setup → Type 0) → (G → Setup → Type 0) → (H → H → Setup → Type 0)
-    → (H → ServerHost → Bool) → (Config → A → H → G → Says) → Type 0
-HostTrusted {A} {H} {G} lawful lawful_groups judges trusts says =
+abbrev pub HostTrusted : {A H G : Type 0} → AgreementMembers A → HostKeysMembers H → GroupLookupMembers G → Type 0
+HostTrusted {A} {H} {G} ma mh mg =
     (setup : Setup) (a b : A) (h i : H) (g j : G) (names : Names) (w : World) (cl sl : List Event) (item : Item)
     (exchange : Exchange) (made : FinishedExchange) (host : ServerHost)
-    → lawful a setup → lawful b setup → lawful_groups j setup → AreValid setup names
-    → AwaitsNext (talkers (says_by says setup a b h i g j) (config_of setup)) w cl sl Client
+    → ma.lawful a setup → ma.lawful b setup → mg.lawful j setup → AreValid setup names
+    → AwaitsNext (talkers (says_by (says_of ma mh mg) setup a b h i g j) (config_of setup)) w cl sl Client
     (AwaitsNewkeys exchange made (Some host)) item
     → ((key : HostKey) × Presents setup.server host key host.algorithm)
-    × ((later : H) → judges h later setup → trusts h host ≡ true)
+    × ((later : H) → mh.judges h later setup → mh.trusts h host ≡ true)

@@ -8,21 +8,21 @@ use Rattle.ssh_wire.specs.declared.error.Error.TheVariants as errors
 use Rattle.ssh_wire.specs.declared.side.Side.{Side}
 use Rattle.ssh_kex.specs.Parts.{Setup}
 use Rattle.ssh_kex.specs.Refusals.{Denies}
-use Rattle.ssh_kex.specs.Setting.{Says}
 use Rattle.ssh_kex.specs.Stages.{AwaitsNewkeys, Stage}
-use Rattle.ssh_kex.specs.declared.config.Config.{Config}
 use Rattle.ssh_kex.specs.declared.exchange.Exchange.{Exchange}
 use Rattle.ssh_kex.specs.declared.exchange.FinishedExchange.{FinishedExchange}
 use Rattle.ssh_kex.specs.declared.exchange.ServerHost.{ServerHost}
 use Rattle.ssh_rules.specs.Machine.{Event}
 use Rattle.ssh_rules.specs.Refused.{AwaitsNext, RefusesNextMessage, one_of}
-use Rattle.ssh_rules.specs.Refusing.{RefusesPiece}
+use Rattle.ssh_rules.specs.Refusing.{RefusesPiece, untrusted_of}
 use Rattle.ssh_rules.specs.RunLaws.{config_of, says_by}
 use Rattle.ssh_rules.specs.Snapshots.{IsReached, IsWholeId, StandsAs}
 use Rattle.ssh_rules.specs.Standing.{Standing}
 use Rattle.ssh_rules.specs.Turns.{PlaysTurn, Talkers, World, talkers}
 use Rattle.ssh_rules.specs.Valid.{HasSizes, config_fault}
 use Rattle.ssh_rules.specs.Wire.{HasFront}
+use Rattle.ssh_kex.specs.Members.{AgreementMembers, GroupLookupMembers, HostKeysMembers}
+use Rattle.ssh_kex.specs.Stepping.{denies_of, says_of}
 
 -- the next message of an exchange, which its stage refuses
 pub record MessageRefused (t : Talkers) (denies : Denies) (w : World) (cl sl : List Event) (side : Side) (error : Error)
@@ -73,14 +73,13 @@ pub record RefusesInLink (t : Talkers) (denies : Denies) (untrusted : ServerHost
 -- Where the agreements of both sides and the server's lookup are lawful, a message of an exchange is all that is
 -- refused of an honest peer's wire, and want of memory: each packet is opened, and none is out of order or out of
 -- place.
-abbrev pub OnlyMessagesRefused : {A H G : Type 0} → (A → Setup → Type 0) → (G → Setup → Type 0)
-    → (Config → A → H → G → Says) → (A → A → H → H → G → G → Denies) → (H → H → ServerHost → Type 0) → Type 0
-OnlyMessagesRefused {A} {H} {G} lawful lawful_groups says denies untrusted =
+abbrev pub OnlyMessagesRefused : {A H G : Type 0} → AgreementMembers A → HostKeysMembers H → GroupLookupMembers G → Type 0
+OnlyMessagesRefused {A} {H} {G} ma mh mg =
     (setup : Setup) (a b : A) (h i : H) (g j : G) (w : World) (cl sl : List Event) (side : Side) (took piece : List ℕ)
     (old new : Standing) (v v' : A) (x x' : H) (y y' : G) (error : Error)
-    → lawful a setup → lawful b setup → lawful_groups j setup
+    → ma.lawful a setup → ma.lawful b setup → mg.lawful j setup
     → ((s : Side) → config_fault s (config_of setup s) ≡ None) → ((s : Side) → HasSizes (config_of setup s))
-    → RefusesInLink (talkers (says_by says setup a b h i g j) (config_of setup)) (denies v v' x x' y y') (untrusted x x')
+    → RefusesInLink (talkers (says_by (says_of ma mh mg) setup a b h i g j) (config_of setup)) (denies_of ma mh mg v v' x x' y y') (untrusted_of mh x x')
     w cl sl side took piece old error new
-    → RefusesInTurn (talkers (says_by says setup a b h i g j) (config_of setup)) (denies v v' x x' y y') (untrusted x x')
+    → RefusesInTurn (talkers (says_by (says_of ma mh mg) setup a b h i g j) (config_of setup)) (denies_of ma mh mg v v' x x' y y') (untrusted_of mh x x')
     w side error

@@ -1,5 +1,5 @@
 -- Why one side refuses a packet that stands next.
-use Rattle.std.specs.Prelude.{◌++◌, ◌≡◌, ℕ, ◌-◌, ◌&&◌, nat_le, Bool, true, false, List, [], Some, ◌⊎◌}
+use Rattle.std.specs.Prelude.{◌++◌, ◌≡◌, ℕ, ◌-◌, ◌&&◌, nat_le, true, false, List, [], Some, ◌⊎◌}
 use Rattle.ssh_packet.specs.Errors.{error_of, open_error}
 use Rattle.ssh_packet.specs.Sealing.{Item, next_number}
 use Rattle.ssh_wire.specs.Lines.{id_text}
@@ -24,13 +24,14 @@ use Rattle.ssh_rules.specs.Refused.{LooksIn}
 use Rattle.ssh_rules.specs.Asking.{AsksAtMost, PartCalls, kex_count, refused_packet}
 use Rattle.ssh_rules.specs.Log.{handled}
 use Rattle.ssh_rules.specs.Standing.{OfFault, OfMemory, OfPacket, OfVersion, RefusalCause, RefusesInput, Standing}
+use Rattle.ssh_kex.specs.Members.{HostKeysMembers}
 
 -- What it means that host keys don't trust a host: their count of refusals rose, and they don't judge, or the host is
 -- none that they trust.
-abbrev pub untrusted_of : {H : Type 0} → (judges : H → H → Setup → Type 0) → (trusts : H → ServerHost → Bool)
-    → (refused_check : H → ℕ) → H → H → ServerHost → Type 0
-untrusted_of {H} judges trusts refused_check h h' host = Rose (refused_check h) (refused_check h')
-    × ((s : Setup) → judges h h' s → trusts h host ≡ true → ⊥)
+abbrev pub untrusted_of : {H : Type 0} (mh : HostKeysMembers H)
+    → H → H → ServerHost → Type 0
+untrusted_of mh h h' host = Rose (mh.refused_check h) (mh.refused_check h')
+    × ((s : Setup) → mh.judges h h' s → mh.trusts h host ≡ true → ⊥)
 
 -- DISCONNECT (RFC 4253 section 11.1)
 pub record IsDisconnect (i : Item) (error : Error) : Type 0 where

@@ -10,7 +10,6 @@ use Rattle.ssh_kex.specs.Parts.{Setup}
 use Rattle.ssh_kex.specs.Setting.{Says, offers_of}
 use Rattle.ssh_kex.specs.declared.config.Config.{Config}
 use Rattle.ssh_kex.specs.declared.exchange.FinishedExchange.{FinishedExchange}
-use Rattle.ssh_kex.specs.declared.exchange.ServerHost.{ServerHost}
 use Rattle.ssh_rules.specs.AnyParts.{IsSigned}
 use Rattle.ssh_rules.specs.Attacked.{IsKeyed, IsNamed, IsOrdered, IsPrompt, block_names, host_in, kind_in, still_strict}
 use Rattle.ssh_rules.specs.Fresh.{packets_at}
@@ -19,7 +18,6 @@ use Rattle.ssh_rules.specs.Handled.{AllRead, Handled}
 use Rattle.ssh_rules.specs.Headline.{IsLink, NeverRepeats}
 use Rattle.ssh_rules.specs.Log.{delivered_in, handled, read_bytes, recorded, sent_bytes, submitted_in, wrote}
 use Rattle.ssh_rules.specs.Machine.{Event, IsQuiet, SideState, Steps, first_state, InOrder, Inside}
-use Rattle.ssh_rules.specs.Parts.{ClientPairs, Secrets, ServerValues}
 use Rattle.ssh_rules.specs.Snapshots.{DoesSteps, Snapshot, TurnsLeadOn, first_snapshot, kind_chosen, report_of}
 use Rattle.ssh_rules.specs.Marks.{kexinits}
 use Rattle.ssh_rules.specs.Standing.{WaitsInPart, is_outside}
@@ -29,6 +27,8 @@ use Rattle.ssh_rules.specs.Wire.{IsWire, carried_payloads, epochs_ended, exchang
 use Rattle.ssh_rules.specs.declared.link.Step.{Step}
 use Rattle.ssh_wire.specs.Sides.{other_side}
 use Rattle.ssh_negotiate.specs.Laws.{IsWithin}
+use Rattle.ssh_kex.specs.Members.{AgreementMembers, GroupLookupMembers, HostKeysMembers}
+use Rattle.ssh_kex.specs.Stepping.{says_of}
 
 -- the packets that a side handled, without dropped guesses
 abbrev pub read_without_guesses : Side → Config → List Event → List Item
@@ -54,11 +54,11 @@ pub record RunSays (side : Side) (config : Config) (log : List Event) : Type 0 w
   pub fresh : NeverRepeats side (recorded log) (wrote log)
 
 -- each run of a side says so, whatever the side is fed and whatever its parts are
-abbrev pub EachRun : {A H G : Type 0} → (Config → A → H → G → Says) → Type 0
-EachRun {A} {H} {G} says =
+abbrev pub EachRun : {A H G : Type 0} → AgreementMembers A → HostKeysMembers H → GroupLookupMembers G → Type 0
+EachRun {A} {H} {G} ma mh mg =
     (side : Side) (config : Config) (a : A) (h : H) (g : G) (own_id : List ℕ) (log : List Event) (st : SideState)
     → config_fault side config ≡ None → HasSizes config
-    → Steps (says config a h g) side config own_id first_state log st → RunSays side config log
+    → Steps (says_of ma mh mg config a h g) side config own_id first_state log st → RunSays side config log
 
 -- What a run says that leaves nothing to do and nothing whole to read, of all bytes behind the id line: it handled all
 -- that can be opened, and it is prompt. `asked` is whether its last call was a rekey.
@@ -71,31 +71,30 @@ pub record RestSays (side : Side) (config : Config) (log : List Event) (st : Sid
       (submitted_in log) (wrote log) (read_without_guesses side config log) (is_some st.heard) asked
 
 -- each run that is at rest says so, whatever the side is fed and whatever its parts are
-abbrev pub RestedRun : {A H G : Type 0} → (Config → A → H → G → Says) → Type 0
-RestedRun {A} {H} {G} says =
+abbrev pub RestedRun : {A H G : Type 0} → AgreementMembers A → HostKeysMembers H → GroupLookupMembers G → Type 0
+RestedRun {A} {H} {G} ma mh mg =
     (side : Side) (config : Config) (a : A) (h : H) (g : G) (own_id : List ℕ) (log : List Event) (st : SideState)
     (bytes rest : List ℕ) (asked : Bool) → config_fault side config ≡ None
-    → Steps (says config a h g) side config own_id first_state log st → IsQuiet config st
+    → Steps (says_of ma mh mg config a h g) side config own_id first_state log st → IsQuiet config st
     → bytes ≡ read_bytes side first_state.reading log ++ rest → WaitsInPart st.reading rest
     → (asked ≡ true → is_outside st.stands ≡ false) → RestSays side config log st bytes asked
 
 -- where its agreement is lawful, hash and keys are those of one secret that is agreed
-abbrev pub KeyedRun : {A H G : Type 0} → (A → Setup → Type 0) → Secrets → (Config → A → H → G → Says) → Type 0
-KeyedRun {A} {H} {G} lawful agrees says =
+abbrev pub KeyedRun : {A H G : Type 0} → AgreementMembers A → HostKeysMembers H → GroupLookupMembers G → Type 0
+KeyedRun {A} {H} {G} ma mh mg =
     (side : Side) (config : Config) (a : A) (h : H) (g : G) (setup : Setup) (heard : List ℕ) (log : List Event)
-    (st : SideState) → lawful a setup → st.heard ≡ Some heard
-    → Steps (says config a h g) side config (id_text config.id) first_state log st
+    (st : SideState) → ma.lawful a setup → st.heard ≡ Some heard
+    → Steps (says_of ma mh mg config a h g) side config (id_text config.id) first_state log st
     → (k : ℕ) (x : FinishedExchange) → slice_get (recorded log) k ≡ Some x
-    → IsKeyed agrees side config heard (exchange_block k (wrote log)) (exchange_block k (read_without_guesses side config log)) x
+    → IsKeyed ma.agrees side config heard (exchange_block k (wrote log)) (exchange_block k (read_without_guesses side config log)) x
 
 -- what a client recorded was signed by a host that it trusts, whatever the parts are
-abbrev pub SignedRun : {A H G : Type 0} → (H → ServerHost → List ℕ → List ℕ → Bool) → (H → ServerHost → Bool)
-    → (Config → A → H → G → Says) → Type 0
-SignedRun {A} {H} {G} accepts trusts says =
+abbrev pub SignedRun : {A H G : Type 0} → AgreementMembers A → HostKeysMembers H → GroupLookupMembers G → Type 0
+SignedRun {A} {H} {G} ma mh mg =
     (config : Config) (a : A) (h : H) (g : G) (own_id : List ℕ) (log : List Event) (st : SideState)
-    → Steps (says config a h g) Client config own_id first_state log st
+    → Steps (says_of ma mh mg config a h g) Client config own_id first_state log st
     → (k : ℕ) (x : FinishedExchange) → slice_get (recorded log) k ≡ Some x
-    → IsSigned (accepts h) (trusts h) (exchange_block k (read_without_guesses Client config log)) x
+    → IsSigned (mh.accepts h) (mh.trusts h) (exchange_block k (read_without_guesses Client config log)) x
 
 -- ---- a link
 
@@ -111,20 +110,19 @@ says_by says setup a b h i g j Server = says setup.server b i j
 
 -- Where the agreements of both and the server's lookup are lawful: a loop that begins at the start, whose steps do what
 -- such steps do, and whose turns lead on, has made a report of a link.
-abbrev pub HonestLink : {A H G : Type 0} → (A → Setup → Type 0) → (G → Setup → Type 0) → ClientPairs → ServerValues
-    → Secrets → (Config → A → H → G → Says) → Type 0
-HonestLink {A} {H} {G} lawful lawful_groups client_makes server_makes agrees says =
+abbrev pub HonestLink : {A H G : Type 0} → AgreementMembers A → HostKeysMembers H → GroupLookupMembers G → Type 0
+HonestLink {A} {H} {G} ma mh mg =
     (setup : Setup) (a b : A) (h i : H) (g j : G) (steps : List Step) (snapshots : List Snapshot)
-    → lawful a setup → lawful b setup → lawful_groups j setup
+    → ma.lawful a setup → ma.lawful b setup → mg.lawful j setup
     → ((side : Side) → config_fault side (config_of setup side) ≡ None)
     → ((side : Side) → HasSizes (config_of setup side))
-    → DoesSteps (talkers (says_by says setup a b h i g j) (config_of setup)) (kind_chosen (config_of setup)) steps
-    (first_snapshot (talkers (says_by says setup a b h i g j) (config_of setup))) snapshots
-    → TurnsLeadOn (talkers (says_by says setup a b h i g j) (config_of setup)) steps
-    (first_snapshot (talkers (says_by says setup a b h i g j) (config_of setup))) snapshots
-    → IsLink client_makes server_makes agrees setup.client setup.server steps
-    (report_of (talkers (says_by says setup a b h i g j) (config_of setup))
-    (first_snapshot (talkers (says_by says setup a b h i g j) (config_of setup))) snapshots)
+    → DoesSteps (talkers (says_by (says_of ma mh mg) setup a b h i g j) (config_of setup)) (kind_chosen (config_of setup)) steps
+    (first_snapshot (talkers (says_by (says_of ma mh mg) setup a b h i g j) (config_of setup))) snapshots
+    → TurnsLeadOn (talkers (says_by (says_of ma mh mg) setup a b h i g j) (config_of setup)) steps
+    (first_snapshot (talkers (says_by (says_of ma mh mg) setup a b h i g j) (config_of setup))) snapshots
+    → IsLink ma.client_makes ma.server_makes ma.agrees setup.client setup.server steps
+    (report_of (talkers (says_by (says_of ma mh mg) setup a b h i g j) (config_of setup))
+    (first_snapshot (talkers (says_by (says_of ma mh mg) setup a b h i g j) (config_of setup))) snapshots)
 
 -- A reader without a record and the other's run: what each handled stands at the front of what the other sent.
 pub record IsEarlyLink (says : Side → Says) (config : Side → Config) (side : Side) (log plog : List Event) (st pst : SideState) : Type 0 where
@@ -140,10 +138,10 @@ pub record IsEarlyLink (says : Side → Says) (config : Side → Config) (side :
 -- Over an honest carrier a reader without a record, which awaits a message and owes none, never meets a violation of
 -- the strict order, whatever the parts of both sides are: what comes next is in order, and an awaited KEXINIT is the
 -- first packet.
-abbrev pub NoViolation : {A H G : Type 0} → (Config → A → H → G → Says) → Type 0
-NoViolation {A} {H} {G} says =
+abbrev pub NoViolation : {A H G : Type 0} → AgreementMembers A → HostKeysMembers H → GroupLookupMembers G → Type 0
+NoViolation {A} {H} {G} ma mh mg =
     (setup : Setup) (a b : A) (h i : H) (g j : G) (side : Side) (log theirs : List Event) (st peer : SideState)
     (stage : Stage) (item : Item) (more : List Item)
-    → IsEarlyLink (says_by says setup a b h i g j) (config_of setup) side log theirs st peer → st.owed ≡ []
+    → IsEarlyLink (says_by (says_of ma mh mg) setup a b h i g j) (config_of setup) side log theirs st peer → st.owed ≡ []
     → st.stands ≡ Inside stage → wrote theirs ≡ handled log ++ item ∷ more
     → InOrder side st item × ((own : List ℕ) → stage ≡ Created own → next_number st.reading.number ≡ 1)

@@ -24,14 +24,13 @@ pub trait Asked {
 }
 
 impl<A: Agreement, H: HostKeys, G: GroupLookup, R> Asked for Parts<A, H, G, R> {
-    ghost calls = { λ p. counted_by A.calls H.calls G.calls p.agreement p.hosts p.groups };
+    ghost calls = { λ p. counted_by A.Agreement H.HostKeys G.GroupLookup p.agreement p.hosts p.groups };
 
-    ghost distrusts = { λ p q. untrusted_of H.judges H.trusts H.refused_check p.hosts q.hosts };
+    ghost distrusts = { λ p q. untrusted_of H.HostKeys p.hosts q.hosts };
 
-    ghost rises = { λ p q. rises_of A.refusals H.refused_sign H.refused_verify H.refused_check G.refusals
+    ghost rises = { λ p q. rises_of A.Agreement H.HostKeys G.GroupLookup
         p.agreement q.agreement p.hosts q.hosts p.groups q.groups };
 
-    ghost unobliged = { λ setup server p q. unobliged_of A.obliging A.refusals H.signs H.judges H.refused_sign
-        H.refused_verify H.refused_check G.obliging G.group G.refusals setup server.hosts server.groups
-        p.agreement q.agreement p.hosts q.hosts p.groups q.groups };
+    ghost unobliged = { λ setup server p q. unobliged_of A.Agreement H.HostKeys G.GroupLookup setup server.hosts
+        server.groups p.agreement q.agreement p.hosts q.hosts p.groups q.groups };
 }

@@ -2,12 +2,10 @@
 #![tactic(auto)]
 
 mod asked;
-mod blamed;
 mod laws;
 pub mod link;
 
 pub use crate::asked::Asked;
-pub use crate::blamed::Blamed;
 pub use crate::laws::{
     any_refusals, each_run, honest_link, host_trusted, keyed_run, no_violation,
     none_refused_in_link, nothing_refused, only_messages_refused, parts_refuse_alone,

@@ -4,7 +4,7 @@ use Rattle.ssh_wire.specs.Lines.{id_text}
 use Rattle.ssh_wire.specs.Reading.{Failed}
 use Rattle.ssh_wire.specs.declared.side.Side.{Side}
 use Rattle.ssh_kex.specs.Setting.{Says}
-use Rattle.ssh_rules.specs.Asking.{AsksUntil, AsksWithin, PartCalls, RefusesAsking, counted_by}
+use Rattle.ssh_rules.specs.Asking.{AsksUntil, AsksWithin, PartCalls, RefusesAsking}
 use Rattle.ssh_rules.specs.Machine.{Asked, Event, ExchangeBegun}
 use Rattle.ssh_rules.specs.Standing.{Acts, OfMemory, Rekeyed, RekeyedFrom, Standing, Submitted, TakesInput, is_outside}
 use Rattle.ssh_rules.specs.declared.link.Mark.{Mark}
@@ -16,8 +16,11 @@ use Rattle.ssh_run.specs.Carrying.{CarriedEnd, CarriedLink, CarriesTo, all_bytes
 use Rattle.ssh_run.proofs.LinkSoFar.{BothLive, RunsSoFar, TurnsSoFar, carries_weaker, repeats_live, repeats_weaker, steps_live}
 
 -- the calls that were counted where no part changed
-pub counted_same : {A H G : Type 0} (agreement : A → ℕ) (hosts : H → ℕ) (lookups : G → ℕ) (a a' : A) (h h' : H) (g g' : G) → a' ≡ a → h' ≡ h → g' ≡ g → counted_by agreement hosts lookups a' h' g' ≡ counted_by agreement hosts lookups a h g
-counted_same agreement hosts lookups a a' h h' g g' e f k = ap (λ x. counted_by agreement hosts lookups x h' g') e ∙ ap (λ x. counted_by agreement hosts lookups a x g') f ∙ ap (λ x. counted_by agreement hosts lookups a h x) k
+abbrev tally : {A H G : Type 0} (agreement : A → ℕ) (hosts : H → ℕ) (lookups : G → ℕ) → A → H → G → PartCalls
+tally agreement hosts lookups a h g = record { agreement = agreement a; hosts = hosts h; lookups = lookups g }
+
+pub counted_same : {A H G : Type 0} (agreement : A → ℕ) (hosts : H → ℕ) (lookups : G → ℕ) (a a' : A) (h h' : H) (g g' : G) → a' ≡ a → h' ≡ h → g' ≡ g → tally agreement hosts lookups a' h' g' ≡ tally agreement hosts lookups a h g
+counted_same agreement hosts lookups a a' h h' g g' e f k = ap (λ x. tally agreement hosts lookups x h' g') e ∙ ap (λ x. tally agreement hosts lookups a x g') f ∙ ap (λ x. tally agreement hosts lookups a h x) k
 
 -- ---- one side
 

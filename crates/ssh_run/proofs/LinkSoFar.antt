@@ -1,18 +1,13 @@
 -- What the calls of a link leave: the same configurations, and parts that say of themselves as they were what they say
 -- now.
-use Rattle.std.proofs.Common.{◌≡◌, ℕ, zero, suc, ◌+◌, ◌*◌, ◌<◌, ◌≤◌, ◌^◌, Bool, true, false, Option, List, [], ◌∷◌, ◌++◌, length, map, take, drop, append_assoc, Some, None, Result, Ok, Err, IfOk, OnOk, inl, inr, refl, sym, ap, ◌∙◌, subst, arith}
+use Rattle.std.proofs.Common.{◌≡◌, ℕ, zero, suc, ◌+◌, ◌*◌, ◌<◌, ◌≤◌, ◌^◌, Bool, true, false, List, [], ◌∷◌, ◌++◌, length, map, take, drop, append_assoc, Some, None, Result, Ok, Err, IfOk, OnOk, inl, inr, refl, sym, ap, ◌∙◌, subst, arith}
 use Rattle.std.proofs.lemmas.List.{take-append-drop}
 use Rattle.ssh_wire.specs.Lines.{id_text}
 use Rattle.ssh_wire.specs.declared.side.Side.{Side}
 use Rattle.ssh_wire.specs.declared.side.Side.TheVariants.{Client, Server}
-use Rattle.ssh_negotiate.specs.declared.kex.Name as kexes
-use Rattle.ssh_kex.specs.Parts.{KeepsAgreement, KeepsGroups, KeepsHosts, Setup}
 use Rattle.ssh_kex.specs.Setting.{Says}
-use Rattle.ssh_kex.specs.Stepping.{says_of}
 use Rattle.ssh_kex.specs.declared.config.Config.{Config}
 use Rattle.ssh_kex.specs.declared.exchange.ServerHost.{ServerHost}
-use Rattle.ssh_kex.specs.declared.group.DhGroup.{DhGroup}
-use Rattle.ssh_kex.specs.declared.group.GexParams.{GexParams}
 use Rattle.ssh_rules.specs.Headline.{bound_of}
 use Rattle.ssh_rules.specs.Machine.{Event}
 use Rattle.ssh_rules.specs.Standing.{Acts, RekeyedFrom, Standing, is_outside}
@@ -22,29 +17,24 @@ use Rattle.ssh_rules.specs.declared.link.Step.{Step}
 use Rattle.ssh_rules.specs.declared.link.Step.TheVariants.{Submit, Deliver, Rekey, Settle}
 use Rattle.ssh_transport.proofs.Lemmas.{Denying, Weaker, kept_denying, kept_untrusting, kept_weaker, piece_still, steps_weaker}
 use Rattle.ssh_run.specs.Carrying.{AsksKeys, CarriedEnd, CarriedLink, CarriesTo, FewBegun, FewBehind, HasWaiting, IsCarried, IsNewLink, RepeatsTurns, Rests, RunsOn, SettlesAll, StepsLink, StepsLinks, SubmitsOne, TakesTurns, begun_by, both_marks, bound_after, bound_behind, last_link, reported_link}
-use Rattle.ssh_run.specs.RefusedCarrying.{BeginTooMany, IsConfigFault, IsRestless, HasNoEnd, RefusesCarrying, RefusesLink, RefusesRun, RefusesSettle, RefusesLinkStep, RefusesTurn, Telling, settle_turns, telling_of}
+use Rattle.ssh_run.specs.RefusedCarrying.{BeginTooMany, HasNoEnd, IsConfigFault, IsRestless, RefusesCarrying, RefusesLink, RefusesLinkStep, RefusesRun, RefusesSettle, RefusesTurn, Telling, settle_turns, telling_of}
 use Rattle.ssh_wire.specs.declared.error.ConfigFault.{ConfigFault}
 use Rattle.ssh_wire.specs.declared.error.Error.{Error}
 use Rattle.ssh_rules.specs.Valid.{config_fault, first_config_fault}
 use Rattle.ssh_wire.specs.declared.error.Error.TheVariants as errors
+use Rattle.ssh_kex.specs.Members.{AgreementKept, AgreementMembers, GroupLookupMembers, GroupsKept, HostKeysMembers, HostsKept}
+use Rattle.ssh_kex.specs.Stepping.{says_of}
 
-pub later_weaker : {A H G : Type 0} (lawful : A → Setup → Type 0) (offered : A → kexes.Name → Bool)
-    (client_makes : kexes.Name → Option DhGroup → List ℕ → List ℕ → Type 0) (server_makes : kexes.Name → Option DhGroup → List ℕ → List ℕ → Type 0)
-    (agrees : kexes.Name → Option DhGroup → List ℕ → List ℕ → List ℕ → Type 0)
-    (lawful_hosts : H → Setup → Type 0) (signs judges : H → H → Setup → Type 0) (accepts : H → ServerHost → List ℕ → List ℕ → Bool) (trusts : H → ServerHost → Bool)
-    (makes : Config → ServerHost → List ℕ → List ℕ → Type 0) (lawful_groups : G → Setup → Type 0) (group : G → GexParams → DhGroup)
-    (config config' : Config) (a a' : A) (h h' : H) (g g' : G)
-    (obliging_agreement : A → A → Setup → Option DhGroup → Type 0) (refusals calls : A → ℕ) (refused_sign refused_verify refused_check calls_hosts : H → ℕ)
-    (obliging_groups : G → G → Setup → Type 0) (refusals_groups calls_groups : G → ℕ)
+pub later_weaker : {A H G : Type 0} (ma : AgreementMembers A) (mh : HostKeysMembers H) (mg : GroupLookupMembers G) (config config' : Config) (a a' : A) (h h' : H) (g g' : G)
     → config' ≡ config
-    → KeepsAgreement lawful obliging_agreement offered refusals calls a a'
-    → KeepsHosts lawful_hosts signs judges accepts trusts refused_sign refused_verify refused_check calls_hosts h h'
-    → KeepsGroups lawful_groups obliging_groups group refusals_groups calls_groups g g'
-    → Weaker (says_of lawful offered client_makes server_makes agrees lawful_hosts signs judges accepts trusts makes lawful_groups group config' a' h' g')
-    (says_of lawful offered client_makes server_makes agrees lawful_hosts signs judges accepts trusts makes lawful_groups group config a h g)
-later_weaker lawful offered client_makes server_makes agrees lawful_hosts signs judges accepts trusts makes lawful_groups group config config' a a' h h' g g' oa r c rs rv rc ch og rg cg e ka kh kg =
-    subst (λ q. Weaker (says_of lawful offered client_makes server_makes agrees lawful_hosts signs judges accepts trusts makes lawful_groups group q a' h' g') (says_of lawful offered client_makes server_makes agrees lawful_hosts signs judges accepts trusts makes lawful_groups group config a h g)) (sym e)
-    (kept_weaker lawful offered client_makes server_makes agrees lawful_hosts signs judges accepts trusts makes lawful_groups group config a a' h h' g g' oa r c rs rv rc ch og rg cg ka kh kg)
+    → AgreementKept ma a a'
+    → HostsKept mh h h'
+    → GroupsKept mg g g'
+    → Weaker (says_of ma mh mg config' a' h' g')
+    (says_of ma mh mg config a h g)
+later_weaker ma mh mg config config' a a' h h' g g' e ka kh kg =
+    subst (λ q. Weaker (says_of ma mh mg q a' h' g') (says_of ma mh mg config a h g)) (sym e)
+    (kept_weaker ma mh mg config a a' h h' g g' ka kh kg)
 
 acts_weaker : (a b : Says) → Weaker a b → (old : Standing) (events : List Event) (new : Standing) → Acts a old events new → Acts b old events new
 acts_weaker a b w old events new h = record { side = h.side; config = h.config; steps = steps_weaker a b w old.side old.config (id_text old.config.id) events old.state new.state h.steps; output = h.output; delivered = h.delivered; quiet = h.quiet; live = h.live }
@@ -239,23 +229,17 @@ pub record TellsLater (a b : Telling) : Type 0 where
   pub denying : Denying a.says b.says a.denies b.denies
   pub trusting : (host : ServerHost) → a.untrusted host → b.untrusted host
 
-pub later_tells : {A H G : Type 0} (lawful : A → Setup → Type 0) (obliging : A → A → Setup → Option DhGroup → Type 0) (offered : A → kexes.Name → Bool)
-    (client_makes : kexes.Name → Option DhGroup → List ℕ → List ℕ → Type 0) (server_makes : kexes.Name → Option DhGroup → List ℕ → List ℕ → Type 0)
-    (agrees : kexes.Name → Option DhGroup → List ℕ → List ℕ → List ℕ → Type 0) (refusals : A → ℕ)
-    (lawful_hosts : H → Setup → Type 0) (signs judges : H → H → Setup → Type 0) (accepts : H → ServerHost → List ℕ → List ℕ → Bool) (trusts : H → ServerHost → Bool)
-    (makes : Config → ServerHost → List ℕ → List ℕ → Type 0) (refused_sign refused_verify refused_check : H → ℕ)
-    (lawful_groups : G → Setup → Type 0) (obliging_groups : G → G → Setup → Type 0) (group : G → GexParams → DhGroup) (refused_lookup : G → ℕ)
-    (config config' : Config) (a a' a'' : A) (h h' h'' : H) (g g' g'' : G) (calls : A → ℕ) (calls_hosts : H → ℕ) (calls_groups : G → ℕ)
+pub later_tells : {A H G : Type 0} (ma : AgreementMembers A) (mh : HostKeysMembers H) (mg : GroupLookupMembers G) (config config' : Config) (a a' a'' : A) (h h' h'' : H) (g g' g'' : G)
     → config' ≡ config
-    → KeepsAgreement lawful obliging offered refusals calls a a'
-    → KeepsHosts lawful_hosts signs judges accepts trusts refused_sign refused_verify refused_check calls_hosts h h'
-    → KeepsGroups lawful_groups obliging_groups group refused_lookup calls_groups g g'
-    → TellsLater (telling_of lawful obliging offered client_makes server_makes agrees refusals lawful_hosts signs judges accepts trusts makes refused_sign refused_verify refused_check lawful_groups obliging_groups group refused_lookup config' a' a'' h' h'' g' g'')
-    (telling_of lawful obliging offered client_makes server_makes agrees refusals lawful_hosts signs judges accepts trusts makes refused_sign refused_verify refused_check lawful_groups obliging_groups group refused_lookup config a a'' h h'' g g'')
-later_tells lawful obliging offered cm sm ag refusals lh sg jd accepts trusts makes rs rv rc lg og group rl config config' a a' a'' h h' h'' g g' g'' ca ch cg e ka kh kg =
-    subst (λ q. TellsLater (telling_of lawful obliging offered cm sm ag refusals lh sg jd accepts trusts makes rs rv rc lg og group rl q a' a'' h' h'' g' g'') (telling_of lawful obliging offered cm sm ag refusals lh sg jd accepts trusts makes rs rv rc lg og group rl config a a'' h h'' g g'')) (sym e) (record {
-      denying = kept_denying lawful offered cm sm ag lh sg jd accepts trusts makes lg group config a a' a'' h h' h'' g g' g'' obliging refusals ca rs rv rc ch og rl cg ka kh kg;
-      trusting = λ host u. kept_untrusting lh sg jd accepts trusts rs rv rc ch h h' h'' host kh u;
+    → AgreementKept ma a a'
+    → HostsKept mh h h'
+    → GroupsKept mg g g'
+    → TellsLater (telling_of ma mh mg config' a' a'' h' h'' g' g'')
+    (telling_of ma mh mg config a a'' h h'' g g'')
+later_tells ma mh mg config config' a a' a'' h h' h'' g g' g'' e ka kh kg =
+    subst (λ q. TellsLater (telling_of ma mh mg q a' a'' h' h'' g' g'') (telling_of ma mh mg config a a'' h h'' g g'')) (sym e) (record {
+      denying = kept_denying ma mh mg config a a' a'' h h' h'' g g' g'' ka kh kg;
+      trusting = λ host u. kept_untrusting mh h h' h'' host kh u;
     })
 
 carrying_later : (a b : Telling) → TellsLater a b → (old : CarriedEnd) (wire : List ℕ) (n : ℕ) (e : Error) → RefusesCarrying a old wire n e → RefusesCarrying b old wire n e

@@ -15,7 +15,6 @@ use Rattle.ssh_kex.specs.Messages.{is_gex}
 use Rattle.ssh_kex.specs.Parts.{IsSmall, Presents, Setup}
 use Rattle.ssh_kex.specs.Setting.{Says}
 use Rattle.ssh_kex.specs.declared.exchange.ServerHost.{ServerHost}
-use Rattle.ssh_kex.specs.declared.group.GexParams.{GexParams}
 use Rattle.ssh_rules.specs.RunLaws.{config_of}
 use Rattle.ssh_kex.specs.declared.config.Config.{Config}
 use Rattle.ssh_kex.specs.declared.group.DhGroup.{DhGroup}
@@ -44,6 +43,7 @@ use Rattle.ssh_run.proofs.GoodSubmits.{none_bad, steps_good}
 use Rattle.ssh_run.proofs.LinkTurns.{IsTied, follows, repeated, server_carry}
 use Rattle.ssh_run.proofs.SettleEnds.{always_settles}
 use Rattle.ssh_run.proofs.SideTurns.{next_front, wire_by}
+use Rattle.ssh_kex.specs.Members.{AgreementMembers, GroupLookupMembers, HostKeysMembers}
 
 abbrev pub says_in : (Side → Telling) → Side → Says
 says_in tell side = (tell side).says
@@ -309,32 +309,30 @@ abbrev pub tells_by : Telling → Telling → Side → Telling
 tells_by client server Client = client
 tells_by client server Server = server
 
-pub lawful_causes : {A H G : Type 0} (lawful : A → Setup → Type 0) (obliging : A → A → Setup → Option DhGroup → Type 0) (offered : A → KexName → Bool) (client_makes : KexName → Option DhGroup → List ℕ → List ℕ → Type 0) (server_makes : KexName → Option DhGroup → List ℕ → List ℕ → Type 0) (agrees : KexName → Option DhGroup → List ℕ → List ℕ → List ℕ → Type 0) (refusals : A → ℕ)
-    (lawful_hosts : H → Setup → Type 0) (signs judges : H → H → Setup → Type 0) (accepts : H → ServerHost → List ℕ → List ℕ → Bool) (trusts : H → ServerHost → Bool) (makes : Config → ServerHost → List ℕ → List ℕ → Type 0) (refused_sign refused_verify refused_check : H → ℕ)
-    (lawful_groups : G → Setup → Type 0) (obliging_groups : G → G → Setup → Type 0) (group : G → GexParams → DhGroup) (refused_lookup : G → ℕ)
-    → PartLaws lawful obliging signs judges accepts trusts makes lawful_groups obliging_groups group
-    → ((v : G) (s : Setup) → lawful_groups v s → IsSmall (group v s.client.gex).prime × IsSmall (group v s.client.gex).generator)
-    → (t : Setup) (a a' b b' : A) (h h' i i' : H) (g g' j j' : G) → lawful a t → lawful b t → lawful_hosts h t → lawful_hosts i t → lawful_groups j t
-    → AreLawful (says_in (tells_by (telling_of lawful obliging offered client_makes server_makes agrees refusals lawful_hosts signs judges accepts trusts makes refused_sign refused_verify refused_check lawful_groups obliging_groups group refused_lookup t.client a a' h h' g g') (telling_of lawful obliging offered client_makes server_makes agrees refusals lawful_hosts signs judges accepts trusts makes refused_sign refused_verify refused_check lawful_groups obliging_groups group refused_lookup t.server b b' i i' j j'))) (config_of t)
-    → (side : Side) → Causes (says_in (tells_by (telling_of lawful obliging offered client_makes server_makes agrees refusals lawful_hosts signs judges accepts trusts makes refused_sign refused_verify refused_check lawful_groups obliging_groups group refused_lookup t.client a a' h h' g g') (telling_of lawful obliging offered client_makes server_makes agrees refusals lawful_hosts signs judges accepts trusts makes refused_sign refused_verify refused_check lawful_groups obliging_groups group refused_lookup t.server b b' i i' j j'))) (config_of t) side
-    (tells_by (telling_of lawful obliging offered client_makes server_makes agrees refusals lawful_hosts signs judges accepts trusts makes refused_sign refused_verify refused_check lawful_groups obliging_groups group refused_lookup t.client a a' h h' g g') (telling_of lawful obliging offered client_makes server_makes agrees refusals lawful_hosts signs judges accepts trusts makes refused_sign refused_verify refused_check lawful_groups obliging_groups group refused_lookup t.server b b' i i' j j') side).denies
-    (tells_by (telling_of lawful obliging offered client_makes server_makes agrees refusals lawful_hosts signs judges accepts trusts makes refused_sign refused_verify refused_check lawful_groups obliging_groups group refused_lookup t.client a a' h h' g g') (telling_of lawful obliging offered client_makes server_makes agrees refusals lawful_hosts signs judges accepts trusts makes refused_sign refused_verify refused_check lawful_groups obliging_groups group refused_lookup t.server b b' i i' j j') side).untrusted
-    (rises_by (unobliged_of obliging refusals signs judges refused_sign refused_verify refused_check obliging_groups group refused_lookup t i j a a' h h' g g') (unobliged_of obliging refusals signs judges refused_sign refused_verify refused_check obliging_groups group refused_lookup t i j b b' i i' j j') side) (offered_on (offered a) (offered b) side) (group j t.client.gex)
-lawful_causes lawful obliging offered cm sm ag refusals lh sg jd accepts trusts makes rs rv rc lg og group rl laws small t a a' b b' h h' i i' g g' j j' la lb lhh li lj m Client = record {
+pub lawful_causes : {A H G : Type 0} (ma : AgreementMembers A) (mh : HostKeysMembers H) (mg : GroupLookupMembers G)
+    → PartLaws ma mh mg
+    → ((v : G) (s : Setup) → mg.lawful v s → IsSmall (mg.group v s.client.gex).prime × IsSmall (mg.group v s.client.gex).generator)
+    → (t : Setup) (a a' b b' : A) (h h' i i' : H) (g g' j j' : G) → ma.lawful a t → ma.lawful b t → mh.lawful h t → mh.lawful i t → mg.lawful j t
+    → AreLawful (says_in (tells_by (telling_of ma mh mg t.client a a' h h' g g') (telling_of ma mh mg t.server b b' i i' j j'))) (config_of t)
+    → (side : Side) → Causes (says_in (tells_by (telling_of ma mh mg t.client a a' h h' g g') (telling_of ma mh mg t.server b b' i i' j j'))) (config_of t) side
+    (tells_by (telling_of ma mh mg t.client a a' h h' g g') (telling_of ma mh mg t.server b b' i i' j j') side).denies
+    (tells_by (telling_of ma mh mg t.client a a' h h' g g') (telling_of ma mh mg t.server b b' i i' j j') side).untrusted
+    (rises_by (unobliged_of ma mh mg t i j a a' h h' g g') (unobliged_of ma mh mg t i j b b' i i' j j') side) (offered_on (ma.offered a) (ma.offered b) side) (mg.group j t.client.gex)
+lawful_causes ma mh mg laws small t a a' b b' h h' i i' g g' j j' la lb lhh li lj m Client = record {
   lawful = m;
-  small = small_of lawful offered cm sm ag lh sg jd accepts trusts makes lg group small t a b h i g j Client la lb lhh li lj;
+  small = small_of ma mh mg small t a b h i g j Client la lb lhh li lj;
   owes = λ kex kind. (
-      let d = owes_of lawful obliging offered cm sm ag refusals lh sg jd accepts trusts makes rs rv rc lg og group rl laws t a b h i g j kex Client a a' h h' g g' la lb lj kind refl in
+      let d = owes_of ma mh mg laws t a b h i g j kex Client a a' h h' g g' la lb lj kind refl in
       record { start = d.start; value = d.value; reply = d.reply; lookup = d.lookup; sign = d.sign; verify = d.verify });
   checks = λ host key e p d. (d.0, λ o. d.1 t o (laws.trusted h h' t host key o p));
   offers = λ name o. o;
   finds = λ q f. (f t lj).0;
 }
-lawful_causes lawful obliging offered cm sm ag refusals lh sg jd accepts trusts makes rs rv rc lg og group rl laws small t a a' b b' h h' i i' g g' j j' la lb lhh li lj m Server = record {
+lawful_causes ma mh mg laws small t a a' b b' h h' i i' g g' j j' la lb lhh li lj m Server = record {
   lawful = m;
-  small = small_of lawful offered cm sm ag lh sg jd accepts trusts makes lg group small t a b h i g j Server la lb lhh li lj;
+  small = small_of ma mh mg small t a b h i g j Server la lb lhh li lj;
   owes = λ kex kind. (
-      let d = owes_of lawful obliging offered cm sm ag refusals lh sg jd accepts trusts makes rs rv rc lg og group rl laws t a b h i g j kex Server b b' i i' j j' la lb lj kind refl in
+      let d = owes_of ma mh mg laws t a b h i g j kex Server b b' i i' j j' la lb lj kind refl in
       record { start = d.start; value = d.value; reply = d.reply; lookup = d.lookup; sign = d.sign; verify = d.verify });
   checks = λ host key e p d. (d.0, λ o. d.1 t o (laws.trusted i i' t host key o p));
   offers = λ name o. o;
@@ -343,26 +341,24 @@ lawful_causes lawful obliging offered cm sm ag refusals lh sg jd accepts trusts 
 
 -- Where both sides' parts oblige, the lookup at least where it is asked, their configurations pass, their agreements
 -- offer what is chosen, and each payload is good.
-pub obliging_complete : {A H G : Type 0} (lawful : A → Setup → Type 0) (obliging : A → A → Setup → Option DhGroup → Type 0) (offered : A → KexName → Bool) (client_makes : KexName → Option DhGroup → List ℕ → List ℕ → Type 0) (server_makes : KexName → Option DhGroup → List ℕ → List ℕ → Type 0) (agrees : KexName → Option DhGroup → List ℕ → List ℕ → List ℕ → Type 0) (refusals : A → ℕ)
-    (lawful_hosts : H → Setup → Type 0) (signs judges : H → H → Setup → Type 0) (accepts : H → ServerHost → List ℕ → List ℕ → Bool) (trusts : H → ServerHost → Bool) (makes : Config → ServerHost → List ℕ → List ℕ → Type 0) (refused_sign refused_verify refused_check : H → ℕ)
-    (lawful_groups : G → Setup → Type 0) (obliging_groups : G → G → Setup → Type 0) (group : G → GexParams → DhGroup) (refused_lookup : G → ℕ)
-    → ((v : A) (s : Setup) (name : KexName) (group : Option DhGroup) (local client server x y : List ℕ) → lawful v s → client_makes name group local client → server_makes name group client server → agrees name group client server x → agrees name group client server y → x ≡ y)
-    → PartLaws lawful obliging signs judges accepts trusts makes lawful_groups obliging_groups group
-    → ((v w : H) (s : Setup) → judges v w s → lawful_hosts v s) → ((v w : H) (s : Setup) → signs v w s → lawful_hosts v s)
-    → ((v : G) (s : Setup) → lawful_groups v s → IsSmall (group v s.client.gex).prime × IsSmall (group v s.client.gex).generator)
-    → (t : Setup) (a a' b b' : A) (h h' i i' : H) (g g' j j' : G) (steps : List Step) (e : Error) → IsValidRun (config_of t) (offered_on (offered a) (offered b)) steps → ((side : Side) → HasSizes (config_of t side)) → obliging a a' t (group_due t (group j t.client.gex)) → obliging b b' t (group_due t (group j t.client.gex)) → judges h h' t → signs i i' t → lawful_groups j t → (kind_by (chosen_by t.client t.server) ≡ true → obliging_groups j j' t) → ((side : Side) → IsWholeId (config_of t side))
-    → RefusesLink (telling_of lawful obliging offered client_makes server_makes agrees refusals lawful_hosts signs judges accepts trusts makes refused_sign refused_verify refused_check lawful_groups obliging_groups group refused_lookup t.client a a' h h' g g') (telling_of lawful obliging offered client_makes server_makes agrees refusals lawful_hosts signs judges accepts trusts makes refused_sign refused_verify refused_check lawful_groups obliging_groups group refused_lookup t.server b b' i i' j j') t.client t.server steps e → e ≡ errors.Memory
-obliging_complete lawful obliging offered cm sm ag refusals lh sg jd accepts trusts makes rs rv rc lg og group rl one laws judging_lawful signing_lawful small_group t a a' b b' h h' i i' g g' j j' steps e v sizes oa ob jh si lj oj whole r = run_complete tell (config_of t) v.names steps e met duties small known whole v.good r where
+pub obliging_complete : {A H G : Type 0} (ma : AgreementMembers A) (mh : HostKeysMembers H) (mg : GroupLookupMembers G)
+    → ((v : A) (s : Setup) (name : KexName) (group : Option DhGroup) (local client server x y : List ℕ) → ma.lawful v s → ma.client_makes name group local client → ma.server_makes name group client server → ma.agrees name group client server x → ma.agrees name group client server y → x ≡ y)
+    → PartLaws ma mh mg
+    → ((v w : H) (s : Setup) → mh.judges v w s → mh.lawful v s) → ((v w : H) (s : Setup) → mh.signs v w s → mh.lawful v s)
+    → ((v : G) (s : Setup) → mg.lawful v s → IsSmall (mg.group v s.client.gex).prime × IsSmall (mg.group v s.client.gex).generator)
+    → (t : Setup) (a a' b b' : A) (h h' i i' : H) (g g' j j' : G) (steps : List Step) (e : Error) → IsValidRun (config_of t) (offered_on (ma.offered a) (ma.offered b)) steps → ((side : Side) → HasSizes (config_of t side)) → ma.obliging a a' t (group_due t (mg.group j t.client.gex)) → ma.obliging b b' t (group_due t (mg.group j t.client.gex)) → mh.judges h h' t → mh.signs i i' t → mg.lawful j t → (kind_by (chosen_by t.client t.server) ≡ true → mg.obliging j j' t) → ((side : Side) → IsWholeId (config_of t side))
+    → RefusesLink (telling_of ma mh mg t.client a a' h h' g g') (telling_of ma mh mg t.server b b' i i' j j') t.client t.server steps e → e ≡ errors.Memory
+obliging_complete ma mh mg one laws judging_lawful signing_lawful small_group t a a' b b' h h' i i' g g' j j' steps e v sizes oa ob jh si lj oj whole r = run_complete tell (config_of t) v.names steps e met duties small known whole v.good r where
   tell : Side → Telling
-  tell = tells_by (telling_of lawful obliging offered cm sm ag refusals lh sg jd accepts trusts makes rs rv rc lg og group rl t.client a a' h h' g g') (telling_of lawful obliging offered cm sm ag refusals lh sg jd accepts trusts makes rs rv rc lg og group rl t.server b b' i i' j j')
+  tell = tells_by (telling_of ma mh mg t.client a a' h h' g g') (telling_of ma mh mg t.server b b' i i' j j')
 
-  la : lawful a t
+  la : ma.lawful a t
   la = laws.agreement a a' t _ oa
 
-  lb : lawful b t
+  lb : ma.lawful b t
   lb = laws.agreement b b' t _ ob
 
-  looks : is_gex v.names.kex ≡ true → og j j' t
+  looks : is_gex v.names.kex ≡ true → mg.obliging j j' t
   looks k = oj (ap kind_by v.chosen ∙ k)
 
   met : AreMet (says_in tell) (config_of t) v.names
@@ -376,15 +372,15 @@ obliging_complete lawful obliging offered cm sm ag refusals lh sg jd accepts tru
 
   duties : (side : Side) → Duties (says_in tell) (config_of t) side v.names.kex (tell side).denies
   duties Client = (
-      let d = duties_of lawful obliging offered cm sm ag refusals refusals lh sg jd accepts trusts makes rs rv rc rs lg og group rl rl laws t a a' b b' h h' i i' g g' j j' v.names.kex Client a h g oa ob jh si lj (ap kind_by v.chosen) looks (v.offers Client) (agreement_same lawful obliging offered refusals refusals a) (hosts_same lh sg jd accepts trusts rs rv rc rs h) (groups_same lg og group rl rl g) in
+      let d = duties_of ma mh mg laws t a a' b b' h h' i i' g g' j j' v.names.kex Client a h g oa ob jh si lj (ap kind_by v.chosen) looks (v.offers Client) (agreement_same ma.lawful ma.obliging ma.offered ma.refusals ma.calls a) (hosts_same mh.lawful mh.signs mh.judges mh.accepts mh.trusts mh.refused_sign mh.refused_verify mh.refused_check mh.calls h) (groups_same mg.lawful mg.obliging mg.group mg.refusals mg.calls g) in
       record { offered = d.offered; owes = record { start = d.owes.start; value = d.owes.value; reply = d.owes.reply; lookup = d.owes.lookup; sign = d.owes.sign; verify = d.owes.verify }; fits = d.fits })
   duties Server = (
-      let d = duties_of lawful obliging offered cm sm ag refusals refusals lh sg jd accepts trusts makes rs rv rc rs lg og group rl rl laws t a a' b b' h h' i i' g g' j j' v.names.kex Server b i j oa ob jh si lj (ap kind_by v.chosen) looks (v.offers Server) (agreement_same lawful obliging offered refusals refusals b) (hosts_same lh sg jd accepts trusts rs rv rc rs i) (groups_same lg og group rl rl j) in
+      let d = duties_of ma mh mg laws t a a' b b' h h' i i' g g' j j' v.names.kex Server b i j oa ob jh si lj (ap kind_by v.chosen) looks (v.offers Server) (agreement_same ma.lawful ma.obliging ma.offered ma.refusals ma.calls b) (hosts_same mh.lawful mh.signs mh.judges mh.accepts mh.trusts mh.refused_sign mh.refused_verify mh.refused_check mh.calls i) (groups_same mg.lawful mg.obliging mg.group mg.refusals mg.calls j) in
       record { offered = d.offered; owes = record { start = d.owes.start; value = d.owes.value; reply = d.owes.reply; lookup = d.owes.lookup; sign = d.owes.sign; verify = d.owes.verify }; fits = d.fits })
 
   small : (side : Side) → AreSmall (says_in tell side) side (config_of t (other_side side)).gex
-  small Client = small_of lawful offered cm sm ag lh sg jd accepts trusts makes lg group small_group t a b h i g j Client la lb (judging_lawful h h' t jh) (signing_lawful i i' t si) lj
-  small Server = small_of lawful offered cm sm ag lh sg jd accepts trusts makes lg group small_group t a b h i g j Server la lb (judging_lawful h h' t jh) (signing_lawful i i' t si) lj
+  small Client = small_of ma mh mg small_group t a b h i g j Client la lb (judging_lawful h h' t jh) (signing_lawful i i' t si) lj
+  small Server = small_of ma mh mg small_group t a b h i g j Server la lb (judging_lawful h h' t jh) (signing_lawful i i' t si) lj
 
   known : (side : Side) (host : ServerHost) (key : HostKey) → side ≡ Client → Presents (config_of t Server) host key host.algorithm → (tell side).untrusted host → ⊥
   known Client host key q p d = d.1 t jh (laws.trusted h h' t host key jh p)

@@ -1,5 +1,5 @@
 -- A run of a clear link: two id lines and clear packets, carried in pieces.
-use Rattle.std.specs.Prelude.{◌≡◌, ℕ, ◌+◌, ◌-◌, nat_lt, nat_le, ◌||◌, ◌==◌, Bool, if◌then◌else◌, List, [], ◌∷◌, ◌++◌, length, map, min, replicate, Option, Some, None, ◌⊎◌}
+use Rattle.std.specs.Prelude.{◌≡◌, ℕ, ◌+◌, ◌-◌, nat_le, if◌then◌else◌, List, [], ◌∷◌, ◌++◌, length, map, min, replicate, Option, Some, None, ◌⊎◌}
 use Rattle.ssh_wire.specs.Lines.{id_line, id_text, id_of, Id}
 use Rattle.ssh_wire.specs.Sides.{same_side, other_side}
 use Rattle.ssh_wire.specs.declared.error.Error.{Error}
@@ -7,7 +7,7 @@ use Rattle.ssh_wire.specs.declared.error.Error.TheVariants.{PacketSize, Memory}
 use Rattle.ssh_wire.specs.declared.side.Side.{Side}
 use Rattle.ssh_wire.specs.declared.side.Side.TheVariants.{Client, Server}
 use Rattle.ssh_wire.specs.declared.ssh_id.SshId.{SshId}
-use Rattle.ssh_packet.specs.Sealing.{Item, Clear, padding_length, longest_payload}
+use Rattle.ssh_packet.specs.Sealing.{Item, Clear, padding_length}
 use Rattle.ssh_packet.specs.Stream.{packets}
 use Rattle.ssh_rules.specs.Valid.{is_bad_size}
 use Rattle.ssh_script.specs.declared.report.ClearReport.{ClearReport}

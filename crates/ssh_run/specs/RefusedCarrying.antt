@@ -1,19 +1,15 @@
 -- What the calls on a link do that are refused: which call of which transport was refused, and what came before it.
-use Rattle.std.specs.Prelude.{◌≡◌, ◌⊎◌, ◌<◌, ◌≤◌, ◌-◌, ◌*◌, ◌^◌, ℕ, ◌++◌, Bool, List, ◌∷◌, length, min, take, drop, Option, Some, None, true, false}
+use Rattle.std.specs.Prelude.{◌≡◌, ◌⊎◌, ◌<◌, ◌≤◌, ◌-◌, ◌*◌, ◌^◌, ℕ, ◌++◌, List, ◌∷◌, length, min, take, drop, Some, None, true, false}
 use Rattle.ssh_packet.specs.Stream.{message_type}
 use Rattle.ssh_wire.specs.declared.error.Error.{Error}
 use Rattle.ssh_wire.specs.declared.error.Error.TheVariants as errors
 use Rattle.ssh_wire.specs.declared.side.Side.TheVariants.{Client, Server}
 use Rattle.ssh_wire.specs.declared.error.ConfigFault.{ConfigFault}
-use Rattle.ssh_negotiate.specs.declared.kex.Name.{Name as KexName}
-use Rattle.ssh_kex.specs.Parts.{Setup}
 use Rattle.ssh_kex.specs.Refusals.{Denies}
 use Rattle.ssh_kex.specs.Setting.{Says}
 use Rattle.ssh_kex.specs.Stepping.{denies_of, says_of}
 use Rattle.ssh_kex.specs.declared.config.Config.{Config}
 use Rattle.ssh_kex.specs.declared.exchange.ServerHost.{ServerHost}
-use Rattle.ssh_kex.specs.declared.group.DhGroup.{DhGroup}
-use Rattle.ssh_kex.specs.declared.group.GexParams.{GexParams}
 use Rattle.ssh_rules.specs.Headline.{bound_of}
 use Rattle.ssh_rules.specs.MessageTypes.{is_payload_type}
 use Rattle.ssh_rules.specs.Refusing.{RefusesPiece, untrusted_of}
@@ -22,6 +18,7 @@ use Rattle.ssh_rules.specs.Valid.{config_fault, first_config_fault, is_bad_size}
 use Rattle.ssh_rules.specs.declared.link.Step.{Step}
 use Rattle.ssh_rules.specs.declared.link.Step.TheVariants.{Deliver, Rekey, Settle, Submit}
 use Rattle.ssh_run.specs.Carrying.{CarriedEnd, CarriedLink, CarriesTo, HasWaiting, IsNewLink, RepeatsTurns, StepsLinks, all_bytes, begun_by, carried_count, last_link}
+use Rattle.ssh_kex.specs.Members.{AgreementMembers, GroupLookupMembers, HostKeysMembers}
 
 -- what a side's parts said before a call, and what a refusal in it means
 pub record Telling : Type 1 where
@@ -30,23 +27,13 @@ pub record Telling : Type 1 where
   pub untrusted : ServerHost → Type 0
 
 -- from the members of their traits
-abbrev pub telling_of : {A H G : Type 0} (lawful : A → Setup → Type 0) (obliging : A → A → Setup → Option DhGroup → Type 0) (offered : A → KexName → Bool)
-    (client_makes : KexName → Option DhGroup → List ℕ → List ℕ → Type 0) (server_makes : KexName → Option DhGroup
-    → List ℕ → List ℕ → Type 0) (agrees : KexName → Option DhGroup → List ℕ → List ℕ → List ℕ → Type 0) (refusals : A → ℕ)
-    (lawful_hosts : H → Setup → Type 0) (signs judges : H → H → Setup → Type 0) (accepts : H → ServerHost → List ℕ → List ℕ → Bool)
-    (trusts : H → ServerHost → Bool) (makes : Config → ServerHost → List ℕ → List ℕ → Type 0)
-    (refused_sign refused_verify refused_check : H → ℕ)
-    (lawful_groups : G → Setup → Type 0) (obliging_groups : G → G → Setup → Type 0) (group : G → GexParams → DhGroup) (refused_lookup : G → ℕ)
+abbrev pub telling_of : {A H G : Type 0} (ma : AgreementMembers A) (mh : HostKeysMembers H) (mg : GroupLookupMembers G)
     → Config → A → A → H → H → G → G → Telling
-telling_of lawful obliging offered client_makes server_makes agrees refusals lawful_hosts signs judges accepts trusts
-    makes refused_sign refused_verify refused_check lawful_groups obliging_groups group refused_lookup
-    config a a' h h' g g' = record {
-      says = says_of lawful offered client_makes server_makes agrees lawful_hosts signs judges accepts trusts makes
-          lawful_groups group config a h g;
-      denies = denies_of obliging offered client_makes server_makes refusals signs judges accepts refused_sign
-          refused_verify obliging_groups refused_lookup a a' h h' g g';
-      untrusted = untrusted_of judges trusts refused_check h h';
-    }
+telling_of ma mh mg config a a' h h' g g' = record {
+  says = says_of ma mh mg config a h g;
+  denies = denies_of ma mh mg a a' h h' g g';
+  untrusted = untrusted_of mh h h';
+}
 
 -- A payload is refused for its size, for its type, or for want of memory.
 abbrev pub RefusesSubmit : List ℕ → Error → Type 0

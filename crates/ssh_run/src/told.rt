@@ -40,10 +40,8 @@ pub trait Told {
 }
 
 impl<A: Agreement, H: HostKeys, G: GroupLookup, R> Told for Parts<A, H, G, R> {
-    ghost telling = { λ config p q. telling_of A.lawful A.obliging A.offered A.client_makes A.server_makes A.agrees
-        A.refusals H.lawful H.signs H.judges H.accepts H.trusts H.makes H.refused_sign H.refused_verify H.refused_check
-        G.lawful G.obliging G.group G.refusals config
-        p.agreement q.agreement p.hosts q.hosts p.groups q.groups };
+    ghost telling = { λ config p q. telling_of A.Agreement H.HostKeys G.GroupLookup config p.agreement q.agreement
+        p.hosts q.hosts p.groups q.groups };
 
     ghost submits = { λ e p payload e'. SubmitsOne (⟦<Parts<A, H, G, R> as Handed>⟧.says e.transport.config p)
         (carried_end e) payload (carried_end e') };
@@ -54,10 +52,9 @@ impl<A: Agreement, H: HostKeys, G: GroupLookup, R> Told for Parts<A, H, G, R> {
     ghost carries = { λ e p wire count e'. CarriesTo (⟦<Parts<A, H, G, R> as Handed>⟧.says e.transport.config p)
         (carried_end e) wire count (carried_end e') };
 
-    ghost refuses = { λ e p q wire count error. RefusesCarrying (telling_of A.lawful A.obliging A.offered A.client_makes
-        A.server_makes A.agrees A.refusals H.lawful H.signs H.judges H.accepts H.trusts H.makes H.refused_sign
-        H.refused_verify H.refused_check G.lawful G.obliging G.group G.refusals e.transport.config
-        p.agreement q.agreement p.hosts q.hosts p.groups q.groups) (carried_end e) wire count error };
+    ghost refuses = { λ e p q wire count error. RefusesCarrying
+        (telling_of A.Agreement H.HostKeys G.GroupLookup e.transport.config p.agreement q.agreement p.hosts q.hosts
+        p.groups q.groups) (carried_end e) wire count error };
 
     ghost unasked = { λ p q. (⟦<Parts<A, H, G, R> as Asked>⟧.calls q) ≡ (⟦<Parts<A, H, G, R> as Asked>⟧.calls p) };
 

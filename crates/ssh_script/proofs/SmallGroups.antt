@@ -1,5 +1,5 @@
 -- The sizes of groups that a script sets are at most 65536.
-use Rattle.std.proofs.Common.{◌≡◌, ℕ, ◌+◌, ◌≤◌, Bool, true, false, if◌then◌else◌, nat_lt, List, [], ◌∷◌, ◌++◌, codes, Option, Some, None, Result, Ok, Err, OnOk, refl, sym, subst, arith}
+use Rattle.std.proofs.Common.{◌≡◌, ℕ, ◌≤◌, Bool, true, false, if◌then◌else◌, nat_lt, List, [], ◌∷◌, ◌++◌, codes, Option, Some, None, Result, Ok, Err, OnOk, refl, sym, subst, arith}
 use Rattle.std.proofs.lemmas.Bool.Decides.{nat_tests}
 use Rattle.std.specs.Option.{option_map}
 use Rattle.std.specs.Str.{bytes_eq}
@@ -12,7 +12,6 @@ use Rattle.ssh_script.specs.Plans.{Plan, HasSmallGroups, HasSmallSizes}
 use Rattle.ssh_script.specs.RunScript.{attack_step, first_plan, link_form, part_of, run_step, set_before, set_by, set_server, set_side, set_words, setting_in, sizes, with_attack, with_default_key, with_limits, with_refusal, with_step}
 use Rattle.ssh_lines.specs.Fields.{all_three, both, form_makes, from_three, from_two, from_word, size_from, size_of}
 use Rattle.ssh_lines.specs.Fields.{number_of, side_of}
-use Rattle.ssh_lines.specs.Lines.{is_comment, pieces, words_of}
 use Rattle.ssh_lines.specs.declared.script.ScriptKind.{ScriptKind}
 use Rattle.ssh_script.specs.declared.setting.Part.{Part}
 use Rattle.ssh_script.specs.declared.setting.Part.TheVariants as part

@@ -10,10 +10,10 @@ use Rattle.ssh_packet.specs.declared.keys.CipherPair.{CipherPair}
 use Rattle.ssh_packet.specs.declared.reader.Incoming.{Incoming}
 use Rattle.ssh_wire.specs.declared.error.Error.{Error}
 use Rattle.ssh_wire.specs.declared.side.Side.TheVariants.{Server}
-use Rattle.ssh_kex.specs.Messages.{host_with, is_gex}
+use Rattle.ssh_kex.specs.Messages.{host_with}
 use Rattle.ssh_server_kex.specs.ServerAnswers.{AnswersClient, AnswersSizes}
 use Rattle.ssh_server_kex.specs.ServerRows.{AnswersRequest, AnswersValue}
-use Rattle.ssh_server_kex.specs.ServerViews.{ServerKeeps, server_behind_guess, server_drops_guess, server_machine, server_opened}
+use Rattle.ssh_server_kex.specs.ServerViews.{ServerKeeps, server_behind_guess, server_drops_guess, server_machine}
 use Rattle.ssh_kex.specs.Setting.{Says, Setting, group_of, made_of}
 use Rattle.ssh_kex.specs.Signature.{judged}
 use Rattle.ssh_kex.specs.Stages.{Machine, AwaitsNewkeys}

@@ -4,6 +4,7 @@ ghost use Rattle.std.specs.Prelude.{◌≡◌, ◌≤◌, ◌+◌, ◌<◌, ◌^
 ghost use Rattle.ssh_negotiate.specs.Causes.{was_strict};
 ghost use Rattle.ssh_negotiate.specs.Tables.{shape_of};
 ghost use Rattle.ssh_kex.specs.Drawing.{AnswersFrom, DrawnByServer};
+ghost use Rattle.ssh_kex.specs.Members.{AgreementKept, GroupsKept, HostsKept};
 ghost use Rattle.ssh_kex.specs.Messages.{IsCanonical, is_gex};
 ghost use Rattle.ssh_negotiate.specs.Laws.{AreShort};
 ghost use Rattle.ssh_negotiate.specs.Reading.{behind_cookie, cookie_from, kexinit_drawn};
@@ -14,7 +15,7 @@ ghost use Rattle.ssh_kex.specs.Refusals.{IsCreated};
 ghost use Rattle.ssh_wire.specs.Lines.{id_text};
 ghost use Rattle.ssh_wire.specs.declared.error.Error.TheVariants.{Memory};
 ghost use Rattle.ssh_wire.specs.declared.side.Side.TheVariants.{Server as server_side};
-ghost use Rattle.ssh_kex.specs.Parts.{HasItsGroup, IsSmall, KeepsAgreement, KeepsGroups, KeepsHosts, Setup};
+ghost use Rattle.ssh_kex.specs.Parts.{HasItsGroup, IsSmall, Setup};
 ghost use Rattle.ssh_server_kex.specs.ServerRows.{AreShortBlobs, CanAnswer, IsLongAnswer, RefusesRequest, ServerRefusesValue};
 ghost use Rattle.ssh_server_kex.specs.ServerAnswers.{AnswersClient, AnswersOpening, AnswersSizes, ServerRefusesKexinit};
 ghost use Rattle.ssh_wire.specs.Outside.{Rose};
@@ -327,7 +328,7 @@ fn take_request<'c, G: GroupLookup, R: Rng>(
     output: &mut PacketWriter,
 ) -> Result<KexProgress<ServerKex<'c>>, Error>
     requires { CanAsk base.config.now names base.exchange }
-    ensures keeps { KeepsGroups G.lawful G.obliging G.group G.refusals G.calls groups.old groups.new }
+    ensures keeps { GroupsKept G.GroupLookup groups.old groups.new }
     ensures calls { G.calls groups.new ≤ G.calls groups.old + 1 }
     ensures ok { IfOk result (λ p. AnswersSizes (λ sizes q. (s : Setup) → G.lawful groups.old s
         → (q ≡ G.group groups.old sizes) × IsCanonical q) base.entry.config.now base.entry.cause base.entry.exchange
@@ -359,11 +360,8 @@ fn take_value<'c, A: Agreement, H: HostKeys, G, R: Rng>(
 ) -> Result<KexProgress<ServerKex<'c>>, Error>
     requires can { CanAnswer base.config.now names base.exchange }
     requires short { length payload.now < 2 ^ 31 }
-    ensures agreement { KeepsAgreement A.lawful A.obliging A.offered A.refusals A.calls parts.old.agreement
-        parts.new.agreement }
-    ensures hosts { KeepsHosts H.lawful H.signs H.judges H.accepts H.trusts H.refused_sign H.refused_verify
-        H.refused_check
-        H.calls parts.old.hosts parts.new.hosts }
+    ensures agreement { AgreementKept A.Agreement parts.old.agreement parts.new.agreement }
+    ensures hosts { HostsKept H.HostKeys parts.old.hosts parts.new.hosts }
     ensures groups { parts.new.groups ≡ parts.old.groups }
     ensures agreement_calls { A.calls parts.new.agreement ≤ A.calls parts.old.agreement + 1 }
     ensures hosts_calls { H.calls parts.new.hosts ≤ H.calls parts.old.hosts + 1 }

@@ -9,8 +9,9 @@ ghost use Rattle.ssh_wire.specs.Outside.{Rose};
 ghost use Rattle.ssh_wire.specs.declared.error.Error.TheVariants.{Kex, Memory};
 ghost use Rattle.ssh_kex.specs.Drawing.{AnswerDrawn, SecretDrawn};
 ghost use Rattle.ssh_kex.specs.Messages.{is_gex, reply_message, value_message};
-ghost use Rattle.ssh_kex.specs.Parts.{HasItsGroup, IsSmall, KeepsAgreement, KeepsHosts, Setup};
+ghost use Rattle.ssh_kex.specs.Parts.{HasItsGroup, IsSmall, Setup};
 ghost use Rattle.ssh_kex.specs.Fields.{value_in};
+ghost use Rattle.ssh_kex.specs.Members.{AgreementKept, HostsKept};
 ghost use Rattle.ssh_server_kex.specs.ServerRows.{AgreesOn, AnswersValue, CanAnswer, IsLongAnswer, RefusesText, ServerRefusesValue};
 ghost use Rattle.ssh_kex.specs.Setting.{group_of};
 ghost use Rattle.ssh_kex.specs.Unasked.{is_early};
@@ -101,7 +102,7 @@ fn agree<A: Agreement, R: Rng>(
 ) -> Result<KexAlgorithm, Error>
     requires kind { is_some exchange.old.gex ≡ is_gex name }
     requires some { (shape_of name).skip ≡ false }
-    ensures keeps { KeepsAgreement A.lawful A.obliging A.offered A.refusals A.calls agreement.old agreement.new }
+    ensures keeps { AgreementKept A.Agreement agreement.old agreement.new }
     ensures calls { A.calls agreement.new ≤ A.calls agreement.old + 1 }
     ensures ok { IfOk result (AgreesOn (λ v x. (s : Setup) → A.lawful agreement.old s
         → A.server_makes name (group_of exchange.old.gex) exchange.old.client_ephemeral v
@@ -164,11 +165,8 @@ pub(crate) fn answer_value<A: Agreement, H: HostKeys, G, R: Rng>(
 ) -> Result<(FinishedExchange, Box<CipherPair>), Error>
     requires can { CanAnswer base.old.config.now names.now base.old.exchange }
     requires short { length payload.now < 2 ^ 31 }
-    ensures agreement { KeepsAgreement A.lawful A.obliging A.offered A.refusals A.calls parts.old.agreement
-        parts.new.agreement }
-    ensures hosts { KeepsHosts H.lawful H.signs H.judges H.accepts H.trusts H.refused_sign H.refused_verify
-        H.refused_check
-        H.calls parts.old.hosts parts.new.hosts }
+    ensures agreement { AgreementKept A.Agreement parts.old.agreement parts.new.agreement }
+    ensures hosts { HostsKept H.HostKeys parts.old.hosts parts.new.hosts }
     ensures groups { parts.new.groups ≡ parts.old.groups }
     ensures agreement_calls { A.calls parts.new.agreement ≤ A.calls parts.old.agreement + 1 }
     ensures hosts_calls { H.calls parts.new.hosts ≤ H.calls parts.old.hosts + 1 }
@@ -185,7 +183,8 @@ pub(crate) fn answer_value<A: Agreement, H: HostKeys, G, R: Rng>(
     ensures causes { IfErr result (ServerRefusesValue (is_gex names.now.kex)
         (λ c. Rose (A.refusals parts.old.agreement) (A.refusals parts.new.agreement) × ((s : Setup) (l : List ℕ)
         → A.obliging parts.old.agreement parts.new.agreement s (group_of base.old.exchange.gex)
-        → HasItsGroup names.now.kex (group_of base.old.exchange.gex) → A.offered parts.old.agreement names.now.kex ≡ true
+        → HasItsGroup names.now.kex (group_of base.old.exchange.gex)
+        → A.offered parts.old.agreement names.now.kex ≡ true
         → A.client_makes names.now.kex (group_of base.old.exchange.gex) l c → ⊥))
         (Rose (H.refused_sign parts.old.hosts) (H.refused_sign parts.new.hosts) × ((s : Setup)
         → s.server ≡ base.old.config.now → H.signs parts.old.hosts parts.new.hosts s → ⊥))

@@ -1,9 +1,7 @@
 -- Payloads that are submitted one after the other, and what their answers are.
-use Rattle.std.proofs.Common.{◌≡◌, ℕ, ◌+◌, ◌≤◌, ◌<◌, Bool, true, false, not, ◌&&◌, ◌||◌, nat_lt, ◌==◌, List, [], ◌∷◌, ◌++◌, length, take, get_or, refl, sym, ap, ◌∙◌, subst, append_assoc, append-nil, length-append, arith}
+use Rattle.std.proofs.Common.{◌≡◌, ℕ, ◌+◌, true, false, not, ◌&&◌, List, [], ◌∷◌, ◌++◌, length, take, sym, ap, ◌∙◌, subst, append_assoc, append-nil, arith}
 use Rattle.std.proofs.lemmas.Bool.Decides.{nat_tests}
-use Rattle.std.proofs.lemmas.List.{take_more}
 use Rattle.ssh_kex.specs.Setting.{Says}
-use Rattle.ssh_wire.specs.Forms.{string, u32be}
 use Rattle.ssh_rules.specs.Standing.{Standing, Submitted}
 use Rattle.ssh_rules.specs.Log.{delivered_in}
 use Rattle.ssh_rules.specs.Wire.{carried_payloads}

@@ -67,7 +67,8 @@ pub fn exit_code<S: Source, K: Sink>(
     ensures status { exit_status result ≤ want_of_memory }
     ensures answered { exit_status result ≢ source_failed → exit_status result ≢ want_of_memory
         → (words : List (List ℕ)) × AreWords arguments words
-        × ((answer : Option ScriptAnswer) × IsAnswer service_command_in needs_messages AnswersServiceCommand words (S.left source.old)
+        × ((answer : Option ScriptAnswer) × IsAnswer service_command_in needs_messages AnswersServiceCommand words
+        (S.left source.old)
         (S.left source.new) answer × IsWritten (text_told service_text answer) (status_told service_status answer)
         (exit_status result) (K.held sink.old) (K.held sink.new) (K.faults sink.old) (K.faults sink.new)) }
     ensures ends { exit_status result ≡ report_written → ReachesEnd (S.left source.old) (S.left source.new) }
@@ -81,7 +82,8 @@ pub fn exit_code<S: Source, K: Sink>(
         → IsReading service_command_in needs_messages words }
     ensures source_unfailed { exit_status result ≢ source_failed → S.faults source.new ≡ S.faults source.old }
     ensures sink_unfailed { exit_status result ≢ sink_failed → K.faults sink.new ≡ K.faults sink.old }
-    ensures unread { (words : List (List ℕ)) → AreWords arguments words → ¬ (IsReading service_command_in needs_messages words)
+    ensures unread { (words : List (List ℕ)) → AreWords arguments words
+        → ¬ (IsReading service_command_in needs_messages words)
         → S.left source.new ≡ S.left source.old }
     ensures bounded { TakesAtMost (longest_script + 1) (S.left source.old) (S.left source.new) }
     ensures served { (words : List (List ℕ)) → AreWords arguments words → IsAnswerable words (S.left source.old)
@@ -105,7 +107,8 @@ pub fn service_main<S: Source, K: Sink>(
 ) -> ServiceMain
     ensures status { result.status ≤ want_of_memory }
     ensures answered { result.status ≢ source_failed → result.status ≢ want_of_memory → (answer : Option ScriptAnswer)
-        × IsAnswer service_command_in needs_messages AnswersServiceCommand words.now (S.left source.old) (S.left source.new) answer
+        × IsAnswer service_command_in needs_messages AnswersServiceCommand words.now (S.left source.old)
+        (S.left source.new) answer
         × ShowsAnswers answer result × IsWritten (text_told service_text answer) (status_told service_status answer)
         result.status (K.held sink.old) (K.held sink.new) (K.faults sink.old) (K.faults sink.new) }
     ensures ends { (result.status ≡ report_written) ⊎ (result.answers.items ≢ [])
@@ -113,7 +116,8 @@ pub fn service_main<S: Source, K: Sink>(
     ensures source_failed { result.status ≡ source_failed → Rose (S.faults source.old) (S.faults source.new) }
     ensures silent { (result.status ≡ source_failed) ⊎ (result.status ≡ want_of_memory) → ShowsNoAnswers result
         × (K.held sink.new ≡ K.held sink.old) }
-    ensures usage { ¬ (IsCommand service_command_in words.now) → (result.status ≡ no_command) ⊎ (result.status ≡ sink_failed) }
+    ensures usage { ¬ (IsCommand service_command_in words.now) → (result.status ≡ no_command)
+        ⊎ (result.status ≡ sink_failed) }
     ensures read { result.status ≡ source_failed → IsReading service_command_in needs_messages words.now }
     ensures run { result.status ≡ want_of_memory → IsCommand service_command_in words.now }
     ensures source_unfailed { result.status ≢ source_failed → S.faults source.new ≡ S.faults source.old }

@@ -4,8 +4,6 @@ use Rattle.ssh_wire.specs.Lines.{id_text}
 use Rattle.ssh_wire.specs.Orders.{is_kex}
 use Rattle.ssh_wire.specs.declared.error.Error.{Error}
 use Rattle.ssh_wire.specs.declared.side.Side.{Side}
-use Rattle.ssh_wire.specs.declared.side.Side.TheVariants.{Client, Server}
-use Rattle.ssh_negotiate.specs.declared.kex.KexCause.{KexCause}
 use Rattle.ssh_negotiate.specs.declared.negotiation.Names.{Names}
 use Rattle.ssh_packet.specs.Sealing.{Item}
 use Rattle.ssh_packet.specs.Stream.{message_type}
@@ -14,7 +12,6 @@ use Rattle.ssh_packet.specs.declared.reader.Incoming.{Incoming}
 use Rattle.ssh_kex.specs.Setting.{Says, Setting}
 use Rattle.ssh_kex.specs.Stages.{Stage, Created, AwaitsGroup, AwaitsReply, AwaitsRequest, AwaitsValue, AwaitsNewkeys, Machine, Finishes, Skips, names_in_stage}
 use Rattle.ssh_kex.specs.Stepping.{asks_agreement, asks_hosts, asks_groups, next_of, DropsGuess, IsDone, Progresses, TakesOne}
-use Rattle.ssh_kex.specs.declared.config.Config.{Config}
 use Rattle.ssh_kex.specs.declared.exchange.Exchange.{Exchange}
 use Rattle.ssh_kex.specs.declared.exchange.FinishedExchange.{FinishedExchange}
 use Rattle.ssh_kex.specs.declared.exchange.NewKeys.{NewKeys}

@@ -7,11 +7,9 @@ use Rattle.ssh_wire.specs.declared.error.Error.{Error}
 use Rattle.ssh_wire.specs.declared.error.Error.TheVariants as errors
 use Rattle.ssh_packet.specs.Sealing.{Item}
 use Rattle.ssh_wire.specs.declared.side.Side.{Side}
-use Rattle.ssh_kex.specs.Parts.{KeepsAgreement, KeepsGroups, KeepsHosts, Setup}
 use Rattle.ssh_kex.specs.Refusals.{Denies, IsLongValue, IsTooLong, IsUnoffered, PartDenies, RefusesMessage, SignatureDenied, SigningDenied}
 use Rattle.ssh_kex.specs.Setting.{Opened, Says, Setting}
 use Rattle.ssh_kex.specs.Stages.{AwaitsGroup, AwaitsNewkeys, AwaitsReply, AwaitsRequest, AwaitsValue, Created, Stage}
-use Rattle.ssh_kex.specs.Stepping.{denies_of, says_of}
 use Rattle.ssh_kex.specs.declared.config.Config.{Config}
 use Rattle.ssh_kex.specs.declared.exchange.ServerHost.{ServerHost}
 use Rattle.ssh_kex.specs.declared.group.DhGroup.{DhGroup}
@@ -21,6 +19,8 @@ use Rattle.ssh_rules.specs.Refusing.{AnswersCause, RefusesPacket, RefusesPiece, 
 use Rattle.ssh_rules.specs.Asking.{PartCalls}
 use Rattle.ssh_rules.specs.Standing.{Acts, OfFault, OfMemory, OfPacket, OfVersion, RefusalCause, RefusesInput, Rekeyed, RekeyedFrom, Standing, Submitted, TakesInput, is_outside}
 use Rattle.ssh_transport.proofs.Weaker.{Weaker, kept_weaker, steps_weaker}
+use Rattle.ssh_kex.specs.Members.{AgreementKept, AgreementMembers, GroupLookupMembers, GroupsKept, HostKeysMembers, HostsKept}
+use Rattle.ssh_kex.specs.Stepping.{denies_of, says_of}
 
 -- what the first say and deny the second do too
 pub record Denying (a b : Says) (d e : Denies) : Type 0 where
@@ -38,40 +38,33 @@ pub record Denying (a b : Says) (d e : Denies) : Type 0 where
 rose_later : (a b c : ℕ) → a ≤ b → Rose b c → Rose a c
 rose_later a b c h r = omega (arith, h, r)
 
-pub kept_denying : {A H G : Type 0} (lawful : A → Setup → Type 0) (offered : A → kexes.Name → Bool)
-    (client_makes : kexes.Name → Option DhGroup → List ℕ → List ℕ → Type 0) (server_makes : kexes.Name → Option DhGroup → List ℕ → List ℕ → Type 0)
-    (agrees : kexes.Name → Option DhGroup → List ℕ → List ℕ → List ℕ → Type 0)
-    (lawful_hosts : H → Setup → Type 0) (signs judges : H → H → Setup → Type 0) (accepts : H → ServerHost → List ℕ → List ℕ → Bool) (trusts : H → ServerHost → Bool)
-    (makes : Config → ServerHost → List ℕ → List ℕ → Type 0) (lawful_groups : G → Setup → Type 0) (group : G → GexParams → DhGroup)
-    (config : Config) (a a' a'' : A) (h h' h'' : H) (g g' g'' : G)
-    (obliging_agreement : A → A → Setup → Option DhGroup → Type 0) (refusals calls : A → ℕ) (refused_sign refused_verify refused_check calls_hosts : H → ℕ)
-    (obliging_groups : G → G → Setup → Type 0) (refusals_groups calls_groups : G → ℕ)
-    → KeepsAgreement lawful obliging_agreement offered refusals calls a a'
-    → KeepsHosts lawful_hosts signs judges accepts trusts refused_sign refused_verify refused_check calls_hosts h h'
-    → KeepsGroups lawful_groups obliging_groups group refusals_groups calls_groups g g'
-    → Denying (says_of lawful offered client_makes server_makes agrees lawful_hosts signs judges accepts trusts makes lawful_groups group config a' h' g')
-    (says_of lawful offered client_makes server_makes agrees lawful_hosts signs judges accepts trusts makes lawful_groups group config a h g)
-    (denies_of obliging_agreement offered client_makes server_makes refusals signs judges accepts refused_sign refused_verify obliging_groups refusals_groups a' a'' h' h'' g' g'')
-    (denies_of obliging_agreement offered client_makes server_makes refusals signs judges accepts refused_sign refused_verify obliging_groups refusals_groups a a'' h h'' g g'')
-kept_denying lawful offered client_makes server_makes agrees lawful_hosts signs judges accepts trusts makes lawful_groups group config a a' a'' h h' h'' g g' g'' oa r c rs rv rc ch og rg cg ka kh kg = record {
-  weaker = kept_weaker lawful offered client_makes server_makes agrees lawful_hosts signs judges accepts trusts makes lawful_groups group config a a' h h' g g' oa r c rs rv rc ch og rg cg ka kh kg;
+pub kept_denying : {A H G : Type 0} (ma : AgreementMembers A) (mh : HostKeysMembers H) (mg : GroupLookupMembers G) (config : Config) (a a' a'' : A) (h h' h'' : H) (g g' g'' : G)
+    → AgreementKept ma a a'
+    → HostsKept mh h h'
+    → GroupsKept mg g g'
+    → Denying (says_of ma mh mg config a' h' g')
+    (says_of ma mh mg config a h g)
+    (denies_of ma mh mg a' a'' h' h'' g' g'')
+    (denies_of ma mh mg a a'' h h'' g g'')
+kept_denying ma mh mg config a a' a'' h h' h'' g g' g'' ka kh kg = record {
+  weaker = kept_weaker ma mh mg config a a' h h' g g' ka kh kg;
   offers = λ n k. offers_later n k;
   value_small = λ v k s w. k s (ka.lawful_kept s w);
   signature_small = λ v k s w. k s (kh.lawful_kept s w);
-  start = λ n q k. (rose_later (r a) (r a') (r a'') ka.refusals_later k.0, λ s o i e. k.1 s (ka.obliging_kept a'' s q o) i (offers_later n e));
-  value = λ n q v k. (rose_later (r a) (r a') (r a'') ka.refusals_later k.0, λ s l o i e m. k.1 s l (ka.obliging_kept a'' s q o) i (offers_later n e) m);
-  reply = λ n q l v k. (rose_later (r a) (r a') (r a'') ka.refusals_later k.0, λ s x o i e m w. k.1 s x (ka.obliging_kept a'' s q o) i (offers_later n e) m w);
-  lookup = λ sizes k. (rose_later (rg g) (rg g') (rg g'') kg.refusals_later k.0, λ s o. k.1 s (kg.obliging_kept g'' s o));
-  sign = λ config k. (rose_later (rs h) (rs h') (rs h'') kh.sign_later k.0, λ s e o. k.1 s e (kh.signs_kept h'' s o));
-  verify = λ host hash signature k. (rose_later (rv h) (rv h') (rv h'') kh.verify_later k.0, λ s o e. k.1 s (kh.judges_kept h'' s o) (ap (λ (f : ServerHost → List ℕ → List ℕ → Bool). f host hash signature) kh.accepts_kept ∙ e));
+  start = λ n q k. (rose_later (ma.refusals a) (ma.refusals a') (ma.refusals a'') ka.refusals_later k.0, λ s o i e. k.1 s (ka.obliging_kept a'' s q o) i (offers_later n e));
+  value = λ n q v k. (rose_later (ma.refusals a) (ma.refusals a') (ma.refusals a'') ka.refusals_later k.0, λ s l o i e m. k.1 s l (ka.obliging_kept a'' s q o) i (offers_later n e) m);
+  reply = λ n q l v k. (rose_later (ma.refusals a) (ma.refusals a') (ma.refusals a'') ka.refusals_later k.0, λ s x o i e m w. k.1 s x (ka.obliging_kept a'' s q o) i (offers_later n e) m w);
+  lookup = λ sizes k. (rose_later (mg.refusals g) (mg.refusals g') (mg.refusals g'') kg.refusals_later k.0, λ s o. k.1 s (kg.obliging_kept g'' s o));
+  sign = λ config k. (rose_later (mh.refused_sign h) (mh.refused_sign h') (mh.refused_sign h'') kh.sign_later k.0, λ s e o. k.1 s e (kh.signs_kept h'' s o));
+  verify = λ host hash signature k. (rose_later (mh.refused_verify h) (mh.refused_verify h') (mh.refused_verify h'') kh.verify_later k.0, λ s o e. k.1 s (kh.judges_kept h'' s o) (ap (λ (f : ServerHost → List ℕ → List ℕ → Bool). f host hash signature) kh.accepts_kept ∙ e));
 } where
-  offers_later : (n : kexes.Name) → offered a n ≡ true → offered a' n ≡ true
+  offers_later : (n : kexes.Name) → ma.offered a n ≡ true → ma.offered a' n ≡ true
   offers_later n e = ap (λ (f : kexes.Name → Bool). f n) ka.offered_kept ∙ e
 
-pub kept_untrusting : {H : Type 0} (lawful : H → Setup → Type 0) (signs judges : H → H → Setup → Type 0) (accepts : H → ServerHost → List ℕ → List ℕ → Bool) (trusts : H → ServerHost → Bool) (refused_sign refused_verify refused_check calls : H → ℕ) (h h' h'' : H) (host : ServerHost)
-    → KeepsHosts lawful signs judges accepts trusts refused_sign refused_verify refused_check calls h h'
-    → untrusted_of judges trusts refused_check h' h'' host → untrusted_of judges trusts refused_check h h'' host
-kept_untrusting lawful signs judges accepts trusts rs rv rc ch h h' h'' host k u = (rose_later (rc h) (rc h') (rc h'') k.check_later u.0, λ s o e. u.1 s (k.judges_kept h'' s o) (ap (λ (f : ServerHost → Bool). f host) k.trusts_kept ∙ e))
+pub kept_untrusting : {H : Type 0} (mh : HostKeysMembers H) (h h' h'' : H) (host : ServerHost)
+    → HostsKept mh h h'
+    → untrusted_of mh h' h'' host → untrusted_of mh h h'' host
+kept_untrusting mh h h' h'' host k u = (rose_later (mh.refused_check h) (mh.refused_check h') (mh.refused_check h'') k.check_later u.0, λ s o e. u.1 s (k.judges_kept h'' s o) (ap (λ (f : ServerHost → Bool). f host) k.trusts_kept ∙ e))
 
 -- ---- messages
 

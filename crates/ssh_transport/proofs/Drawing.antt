@@ -1,6 +1,5 @@
 -- What a side sends of itself is padded, and its cookie drawn, by what the generator gives next.
-use Rattle.std.proofs.Common.{◌≡◌, ℕ, ◌<◌, ◌++◌, List, [], ◌∷◌, length, Some, None, Option, Bool, true, false, Result, Ok, Err, IfOk, OnOk, OnErr, refl, sym, ap, ◌∙◌, subst, arith, append-nil, inl, inr}
-use Rattle.std.specs.Borrow.{Bor}
+use Rattle.std.proofs.Common.{◌≡◌, ℕ, ◌<◌, ◌++◌, List, length, Some, None, Bool, true, false, Result, Ok, Err, IfOk, OnOk, OnErr, sym, ap, ◌∙◌, subst, inr}
 use Rattle.rand_core.specs.Stream.{Stream}
 use Rattle.ssh_wire.specs.declared.error.Error.{Error}
 use Rattle.ssh_wire.specs.declared.side.Side.{Side}
@@ -8,7 +7,7 @@ use Rattle.ssh_wire.specs.declared.side.Side.TheVariants.{Client, Server}
 use Rattle.ssh_negotiate.specs.Reading.{behind_cookie, kexinit_drawn}
 use Rattle.ssh_negotiate.specs.declared.kex.KexCause.{KexCause}
 use Rattle.ssh_packet.specs.Sealing.{IsAdmissible, item_of}
-use Rattle.ssh_packet.specs.Writing.{SameButRoom, Sends, Writer}
+use Rattle.ssh_packet.specs.Writing.{Sends, Writer}
 use Rattle.ssh_kex.specs.Setting.{Says}
 use Rattle.ssh_kex.specs.Stages.{Machine}
 use Rattle.ssh_kex.specs.declared.config.Config.{Config}

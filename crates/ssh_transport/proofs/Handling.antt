@@ -6,7 +6,6 @@ use Rattle.ssh_wire.specs.Sides.{other_side}
 use Rattle.ssh_wire.specs.declared.side.Side.{Side}
 use Rattle.ssh_wire.specs.declared.side.Side.TheVariants.{Client, Server}
 use Rattle.ssh_negotiate.specs.Causes.{was_strict}
-use Rattle.ssh_negotiate.specs.declared.kex.KexCause.{KexCause}
 use Rattle.ssh_negotiate.specs.declared.negotiation.Names.{Names}
 use Rattle.ssh_packet.specs.Keys.{opening_of, sealing_of}
 use Rattle.ssh_packet.specs.Sealing.{Item, Sealing, next_number, sealed_packet}

@@ -6,7 +6,6 @@ use Rattle.rand_core.specs.Stream.{Stream}
 use Rattle.ssh_wire.specs.Lines.{id_text}
 use Rattle.ssh_wire.specs.Reading.{text_heard}
 use Rattle.ssh_wire.specs.declared.error.Error.{Error}
-use Rattle.ssh_wire.specs.declared.side.Side.TheVariants as sides
 use Rattle.ssh_wire.specs.declared.side.Side.{Side}
 use Rattle.ssh_packet.specs.Sealing.{Clear, Item, IsAdmissible, IsPadded, item_of, longest_payload, sealed_packet}
 use Rattle.ssh_packet.specs.Stream.{message_type}

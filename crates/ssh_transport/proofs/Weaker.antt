@@ -4,15 +4,15 @@ use Rattle.ssh_wire.specs.declared.side.Side.{Side}
 use Rattle.ssh_wire.specs.declared.side.Side.TheVariants.{Client, Server}
 use Rattle.ssh_negotiate.specs.declared.kex.Name as kexes
 use Rattle.ssh_kex.specs.Messages.{is_gex}
-use Rattle.ssh_kex.specs.Parts.{KeepsAgreement, KeepsGroups, KeepsHosts, Setup}
 use Rattle.ssh_kex.specs.Setting.{Opened, Says, Setting}
 use Rattle.ssh_kex.specs.Stages.{AwaitsGroup, AwaitsNewkeys, AwaitsReply, AwaitsRequest, AwaitsValue, Created, OpensBy, Stage, Takes}
-use Rattle.ssh_kex.specs.Stepping.{says_of}
 use Rattle.ssh_kex.specs.declared.config.Config.{Config}
 use Rattle.ssh_kex.specs.declared.exchange.ServerHost.{ServerHost}
 use Rattle.ssh_kex.specs.declared.group.DhGroup.{DhGroup}
 use Rattle.ssh_kex.specs.declared.group.GexParams.{GexParams}
 use Rattle.ssh_rules.specs.Machine.{Event, ExchangeBegun, IdHeard, PayloadSubmitted, AnswerSent, PayloadSent, MessageTaken, GuessDropped, PayloadDelivered, PacketDropped, ExchangeFinished, SideState, Steps, setting}
+use Rattle.ssh_kex.specs.Members.{AgreementKept, AgreementMembers, GroupLookupMembers, GroupsKept, HostKeysMembers, HostsKept}
+use Rattle.ssh_kex.specs.Stepping.{says_of}
 
 -- what the first say the second say too
 pub record Weaker (a b : Says) : Type 0 where
@@ -26,20 +26,13 @@ pub record Weaker (a b : Says) : Type 0 where
   pub trusts : (host : ServerHost) → a.trusts host → b.trusts host
   pub offers : (n : kexes.Name) → a.offers n → b.offers n
 
-pub kept_weaker : {A H G : Type 0} (lawful : A → Setup → Type 0) (offered : A → kexes.Name → Bool)
-    (client_makes : kexes.Name → Option DhGroup → List ℕ → List ℕ → Type 0) (server_makes : kexes.Name → Option DhGroup → List ℕ → List ℕ → Type 0)
-    (agrees : kexes.Name → Option DhGroup → List ℕ → List ℕ → List ℕ → Type 0)
-    (lawful_hosts : H → Setup → Type 0) (signs judges : H → H → Setup → Type 0) (accepts : H → ServerHost → List ℕ → List ℕ → Bool) (trusts : H → ServerHost → Bool)
-    (makes : Config → ServerHost → List ℕ → List ℕ → Type 0) (lawful_groups : G → Setup → Type 0) (group : G → GexParams → DhGroup)
-    (config : Config) (a a' : A) (h h' : H) (g g' : G)
-    (obliging_agreement : A → A → Setup → Option DhGroup → Type 0) (refusals calls : A → ℕ) (refused_sign refused_verify refused_check calls_hosts : H → ℕ)
-    (obliging_groups : G → G → Setup → Type 0) (refusals_groups calls_groups : G → ℕ)
-    → KeepsAgreement lawful obliging_agreement offered refusals calls a a'
-    → KeepsHosts lawful_hosts signs judges accepts trusts refused_sign refused_verify refused_check calls_hosts h h'
-    → KeepsGroups lawful_groups obliging_groups group refusals_groups calls_groups g g'
-    → Weaker (says_of lawful offered client_makes server_makes agrees lawful_hosts signs judges accepts trusts makes lawful_groups group config a' h' g')
-    (says_of lawful offered client_makes server_makes agrees lawful_hosts signs judges accepts trusts makes lawful_groups group config a h g)
-kept_weaker lawful offered client_makes server_makes agrees lawful_hosts signs judges accepts trusts makes lawful_groups group config a a' h h' g g' oa r c rs rv rc ch og rg cg ka kh kg = record {
+pub kept_weaker : {A H G : Type 0} (ma : AgreementMembers A) (mh : HostKeysMembers H) (mg : GroupLookupMembers G) (config : Config) (a a' : A) (h h' : H) (g g' : G)
+    → AgreementKept ma a a'
+    → HostsKept mh h h'
+    → GroupsKept mg g g'
+    → Weaker (says_of ma mh mg config a' h' g')
+    (says_of ma mh mg config a h g)
+kept_weaker ma mh mg config a a' h h' g g' ka kh kg = record {
   agrees = λ n q c v x k s l. k s (ka.lawful_kept s l);
   client_makes = λ n q l c k s w. k s (ka.lawful_kept s w);
   server_makes = λ n q c v k s w. k s (ka.lawful_kept s w);

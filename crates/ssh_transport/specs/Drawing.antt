@@ -9,7 +9,8 @@ use Rattle.ssh_packet.specs.Writing.{Writer}
 use Rattle.ssh_kex.specs.declared.config.Config.{Config}
 use Rattle.ssh_rules.specs.Machine.{Spot}
 use Rattle.ssh_rules.specs.Standing.{Standing}
-use Rattle.ssh_transport.specs.States.{is_silent, stands_of}
+use Rattle.ssh_transport.specs.States.{is_silent, standing_of, stands_of}
+use Rattle.ssh_transport.specs.declared.connection.Connection.{Connection}
 use Rattle.ssh_transport.specs.declared.session.Session.{Session}
 
 -- where a writer stands
@@ -37,12 +38,19 @@ GoesNext old packet new = (rest : List ℕ) × (new ≡ (old ++ packet) ++ rest)
 abbrev pub AtMostNext : List ℕ → List ℕ → List ℕ → Type 0
 AtMostNext old packet new = (new ≡ old) ⊎ (new ≡ old ++ packet)
 
--- Where a session had begun no exchange, its first KEXINIT is what it wrote, drawn so.
+-- A session wrote its KEXINIT and no more, drawn so.
+abbrev pub WritesKexinit : Session → Session → Stream → Type 0
+WritesKexinit s s' stream = s'.writer.output ≡ s.writer.output ++ kexinit_packet s.side s.config.now (writing_at s.writer) stream
+
+-- Where a session had begun no exchange, it did so.
 abbrev pub OpensDrawn : Session → Session → Stream → Type 0
-OpensDrawn s s' stream = is_silent (stands_of s.finished.items s.kex) ≡ true
-    → s'.writer.output ≡ s.writer.output ++ kexinit_packet s.side s.config.now (writing_at s.writer) stream
+OpensDrawn s s' stream = is_silent (stands_of s.finished.items s.kex) ≡ true → WritesKexinit s s' stream
 
 -- Where a side that had begun no exchange has begun one, the KEXINIT of its first one went behind the output, drawn so.
 abbrev pub DrawsFirst : (old new : Standing) → Stream → Type 0
 DrawsFirst old new stream = is_silent old.state.stands ≡ true → is_silent new.state.stands ≡ false
     → GoesNext old.output (kexinit_packet old.side old.config old.state.writing stream) new.output
+
+-- the same of a connection
+abbrev pub DrawsFirstIn : (c c' : Connection) → Stream → Type 0
+DrawsFirstIn c c' stream = DrawsFirst (standing_of c) (standing_of c') stream

@@ -10,7 +10,8 @@ use Rattle.ssh_rules.specs.Log.{asked, sent_bytes}
 use Rattle.ssh_rules.specs.Machine.{Event, ExchangeBegun, IdHeard, PayloadSubmitted, AnswerSent, PayloadSent, MessageTaken, GuessDropped, PayloadDelivered, PacketDropped, ExchangeFinished, IsQuiet, Spot, Steps, cause_of}
 use Rattle.ssh_rules.specs.Valid.{is_good_payload}
 use Rattle.ssh_transport.specs.Kexinits.{SendsKexinit, setting_between}
-use Rattle.ssh_transport.specs.States.{state_at}
+use Rattle.ssh_transport.specs.States.{CanBegin, state_at}
+use Rattle.ssh_transport.specs.declared.connection.Connection.{Connection}
 use Rattle.ssh_transport.specs.declared.session.Session.{Session}
 
 -- between whom the next exchange stands
@@ -41,6 +42,14 @@ IsUnsaid s s' = s' ≡ record s { writer = record s.writer { room = s'.writer.ro
 -- whose it is stays
 abbrev pub IsFixed : Session → Session → Type 0
 IsFixed s s' = (s'.side ≡ s.side) × (s'.config ≡ s.config)
+
+-- the same of a connection, and whether it has failed
+abbrev pub IsFixedIn : Connection → Connection → Type 0
+IsFixedIn c c' = IsFixed c.session c'.session × (c'.failed ≡ c.failed)
+
+-- Whose it is, the version line and what is held stay, and an exchange can be begun.
+abbrev pub Stays : Session → Session → Type 0
+Stays s s' = CanBegin s' × (s'.line ≡ s.line) × (s'.held ≡ s.held) × IsFixed s s'
 
 -- nothing is said of the parts, since none is asked
 abbrev pub nothing_said : Says

@@ -44,11 +44,11 @@ impl<'c> Connection<'c> {
     ghost use Rattle.ssh_packet.specs.Reading.{window_length};
     ghost use Rattle.ssh_rules.specs.Standing.{IsNew, Rekeyed, Submitted, WaitsInPart, input_room, is_outside, unfinished, with_input};
     ghost use Rattle.ssh_wire.specs.Reading.{waiting_length};
-    ghost use Rattle.ssh_transport.specs.Drawing.{AtMostNext, DrawsFirst, GoesNext, OpensDrawn, kexinit_packet, packet_with};
+    ghost use Rattle.ssh_transport.specs.Drawing.{AtMostNext, DrawsFirstIn, GoesNext, OpensDrawn, kexinit_packet, packet_with};
     ghost use Rattle.ssh_transport.specs.Handling.{IsHeard, IsOpen};
     ghost use Rattle.ssh_transport.specs.Hearing.{EndsBy};
     ghost use Rattle.ssh_transport.specs.Kept.{IsKept, IsLive};
-    ghost use Rattle.ssh_transport.specs.Saying.{IsFixed, nothing_said};
+    ghost use Rattle.ssh_transport.specs.Saying.{IsFixed, IsFixedIn, nothing_said};
     ghost use Rattle.ssh_transport.specs.States.{CanBegin, IsUnheard, WaitsBehind, emptied, reading_spot, standing_of, with_more};
     ghost use Rattle.ssh_transport.specs.Stopping.{HearsNothing, IsAsBefore};
     ghost use Rattle.ssh_transport.specs.Submitting.{Breaks};
@@ -94,7 +94,7 @@ impl<'c> Connection<'c> {
         ensures ends { self.old.failed ≡ false → OnErr result ((self.new.failed ≡ true)
             × (unfinished (standing_of self.new) ≡ [])) }
         ensures fed { OnOk result (⟦<Parts<A, H, G, R> as Served>⟧.feeds self.old parts.old piece.now self.new) }
-        ensures drawn { OnOk result (DrawsFirst (standing_of self.old) (standing_of self.new) (R.stream parts.old.rng)) }
+        ensures drawn { OnOk result (DrawsFirstIn self.old self.new (R.stream parts.old.rng)) }
         ensures refused { self.old.failed ≡ false → IfErr result
             (λ e. ⟦<Parts<A, H, G, R> as Served>⟧.refuses_piece self.old parts.old parts.new piece.now e self.new) }
         ensures keeps { ⟦<Parts<A, H, G, R> as Handed>⟧.keeps parts.old parts.new }
@@ -128,7 +128,7 @@ impl<'c> Connection<'c> {
             × (unfinished (standing_of self.new) ≡ [])) }
         ensures polled { IfOk result (λ lends. ⟦<Parts<A, H, G, R> as Served>⟧.polls self.old parts.old lends
             self.new) }
-        ensures drawn { OnOk result (DrawsFirst (standing_of self.old) (standing_of self.new) (R.stream parts.old.rng)) }
+        ensures drawn { OnOk result (DrawsFirstIn self.old self.new (R.stream parts.old.rng)) }
         ensures refused { self.old.failed ≡ false → IfErr result
             (λ e. ⟦<Parts<A, H, G, R> as Served>⟧.refuses_piece self.old parts.old parts.new [] e self.new) }
         ensures wants { self.old.failed ≡ false → result ≡ Err Memory → ⟦<Parts<A, H, G, R> as Served>⟧.may_want
@@ -160,16 +160,14 @@ impl<'c> Connection<'c> {
         ensures settled { OnOk result (WaitsBehind self.new.session.line self.new.reader.waiting) }
         ensures takes { IfOk result (λ lends. ⟦<Parts<A, H, G, R> as Served>⟧.takes_payload self.old parts.old lends
             self.new) }
-        ensures drawn { OnOk result (DrawsFirst (standing_of self.old) (standing_of self.new) (R.stream parts.old.rng)) }
+        ensures drawn { OnOk result (DrawsFirstIn self.old self.new (R.stream parts.old.rng)) }
         ensures fails { IfErr result (λ e. ⟦<Parts<A, H, G, R> as Served>⟧.fails self.old parts.old parts.new
             self.old.reader.waiting e self.new) }
         ensures wants { result ≡ Err Memory → ⟦<Parts<A, H, G, R> as Served>⟧.may_want self.old parts.old }
-        ensures fixed { IsFixed self.old.session self.new.session }
-        ensures unfailed { self.new.failed ≡ self.old.failed }
+        ensures fixed { IsFixedIn self.old self.new }
         ensures unqueued { self.new.delivered.items ≡ self.old.delivered.items }
         ensures keeps { ⟦<Parts<A, H, G, R> as Handed>⟧.keeps parts.old parts.new }
-        ensures asks { OnOk result (⟦<Parts<A, H, G, R> as Attended>⟧.asks self.old.session self.new.session parts.old
-            parts.new) }
+        ensures asks { OnOk result (⟦<Parts<A, H, G, R> as Served>⟧.asks self.old self.new parts.old parts.new) }
     {
         let is_heard = self.hear(&mut parts.rng)?;
         if is_heard {
@@ -194,12 +192,10 @@ impl<'c> Connection<'c> {
         ensures stops { IfErr result (λ e. ⟦<Parts<A, H, G, R> as Served>⟧.stops self.old parts.old parts.new e
             self.new) }
         ensures wants { result ≡ Err Memory → ⟦<Parts<A, H, G, R> as Served>⟧.wants self.old parts.old }
-        ensures fixed { IsFixed self.old.session self.new.session }
-        ensures unfailed { self.new.failed ≡ self.old.failed }
+        ensures fixed { IsFixedIn self.old self.new }
         ensures unqueued { self.new.delivered.items ≡ self.old.delivered.items }
         ensures keeps { ⟦<Parts<A, H, G, R> as Handed>⟧.keeps parts.old parts.new }
-        ensures asks { OnOk result (⟦<Parts<A, H, G, R> as Attended>⟧.asks self.old.session self.new.session parts.old
-            parts.new) }
+        ensures asks { OnOk result (⟦<Parts<A, H, G, R> as Served>⟧.asks self.old self.new parts.old parts.new) }
     {
         'packets: loop {
             match self.poll_packet(parts)? {
@@ -227,12 +223,10 @@ impl<'c> Connection<'c> {
         ensures stops { IfErr result (λ e. ⟦<Parts<A, H, G, R> as Served>⟧.stops self.old parts.old parts.new e
             self.new) }
         ensures wants { result ≡ Err Memory → ⟦<Parts<A, H, G, R> as Served>⟧.wants self.old parts.old }
-        ensures fixed { IsFixed self.old.session self.new.session }
-        ensures unfailed { self.new.failed ≡ self.old.failed }
+        ensures fixed { IsFixedIn self.old self.new }
         ensures unqueued { self.new.delivered.items ≡ self.old.delivered.items }
         ensures keeps { ⟦<Parts<A, H, G, R> as Handed>⟧.keeps parts.old parts.new }
-        ensures asks { OnOk result (⟦<Parts<A, H, G, R> as Attended>⟧.asks self.old.session self.new.session parts.old
-            parts.new) }
+        ensures asks { OnOk result (⟦<Parts<A, H, G, R> as Served>⟧.asks self.old self.new parts.old parts.new) }
     {
         let Some(handled) = self.take_packet(parts)? else {
             return Ok(PacketRead::Nothing);
@@ -353,14 +347,12 @@ impl<'c> Connection<'c> {
         ensures settled { OnOk result (WaitsBehind self.new.session.line self.new.reader.waiting) }
         ensures took { OnOk result (⟦<Parts<A, H, G, R> as Served>⟧.takes self.old parts.old
             (self.old.reader.waiting ++ piece.now) self.new) }
-        ensures drawn { OnOk result (DrawsFirst (standing_of self.old) (standing_of self.new) (R.stream parts.old.rng)) }
+        ensures drawn { OnOk result (DrawsFirstIn self.old self.new (R.stream parts.old.rng)) }
         ensures fails { IfErr result (λ e. ⟦<Parts<A, H, G, R> as Served>⟧.fails self.old parts.old parts.new
             (self.old.reader.waiting ++ piece.now) e self.new) }
-        ensures fixed { IsFixed self.old.session self.new.session }
-        ensures unfailed { self.new.failed ≡ self.old.failed }
+        ensures fixed { IsFixedIn self.old self.new }
         ensures keeps { ⟦<Parts<A, H, G, R> as Handed>⟧.keeps parts.old parts.new }
-        ensures asks { OnOk result (⟦<Parts<A, H, G, R> as Attended>⟧.asks self.old.session self.new.session parts.old
-            parts.new) }
+        ensures asks { OnOk result (⟦<Parts<A, H, G, R> as Served>⟧.asks self.old self.new parts.old parts.new) }
     {
         let kept = self.keep(piece);
         let is_heard = self.hear(&mut parts.rng)?;
@@ -417,8 +409,7 @@ impl<'c> Connection<'c> {
         ensures drawn { result ≡ Ok true → OpensDrawn self.old.session self.new.session (R.stream rng.old) }
         ensures still { result ≡ Ok false → self.new.session ≡ record self.old.session
             { line = self.new.session.line } }
-        ensures fixed { IsFixed self.old.session self.new.session }
-        ensures unfailed { self.new.failed ≡ self.old.failed }
+        ensures fixed { IsFixedIn self.old self.new }
     {
         let Some(used) = self.session.hear(rng, self.reader.unread())? else {
             self.reader.skip(self.reader.waiting());
@@ -444,11 +435,9 @@ impl<'c> Connection<'c> {
         ensures part { OnOk result (WaitsInPart (reading_spot self.new) self.new.reader.waiting) }
         ensures stops { IfErr result (λ e. ⟦<Parts<A, H, G, R> as Served>⟧.stops (with_more self.old piece.now)
             parts.old parts.new e self.new) }
-        ensures fixed { IsFixed self.old.session self.new.session }
-        ensures unfailed { self.new.failed ≡ self.old.failed }
+        ensures fixed { IsFixedIn self.old self.new }
         ensures keeps { ⟦<Parts<A, H, G, R> as Handed>⟧.keeps parts.old parts.new }
-        ensures asks { OnOk result (⟦<Parts<A, H, G, R> as Attended>⟧.asks self.old.session self.new.session parts.old
-            parts.new) }
+        ensures asks { OnOk result (⟦<Parts<A, H, G, R> as Served>⟧.asks self.old self.new parts.old parts.new) }
     {
         self.read_packets(parts)?;
         let mut taken = 0;
@@ -472,11 +461,9 @@ impl<'c> Connection<'c> {
         ensures part { OnOk result (WaitsInPart (reading_spot self.new) self.new.reader.waiting) }
         ensures stops { IfErr result (λ e. ⟦<Parts<A, H, G, R> as Served>⟧.stops self.old parts.old parts.new e
             self.new) }
-        ensures fixed { IsFixed self.old.session self.new.session }
-        ensures unfailed { self.new.failed ≡ self.old.failed }
+        ensures fixed { IsFixedIn self.old self.new }
         ensures keeps { ⟦<Parts<A, H, G, R> as Handed>⟧.keeps parts.old parts.new }
-        ensures asks { OnOk result (⟦<Parts<A, H, G, R> as Attended>⟧.asks self.old.session self.new.session parts.old
-            parts.new) }
+        ensures asks { OnOk result (⟦<Parts<A, H, G, R> as Served>⟧.asks self.old self.new parts.old parts.new) }
     {
         'packets: while self.read_packet(parts)? {}
         Ok(())
@@ -495,11 +482,9 @@ impl<'c> Connection<'c> {
         ensures held { self.new.session.held ≡ self.old.session.held }
         ensures unheard { OnOk result (IsUnheard self.new.session) }
         ensures opened { OnOk result (IsOpen self.new.session) }
-        ensures fixed { IsFixed self.old.session self.new.session }
-        ensures unfailed { self.new.failed ≡ self.old.failed }
+        ensures fixed { IsFixedIn self.old self.new }
         ensures keeps { ⟦<Parts<A, H, G, R> as Handed>⟧.keeps parts.old parts.new }
-        ensures asks { OnOk result (⟦<Parts<A, H, G, R> as Attended>⟧.asks self.old.session self.new.session parts.old
-            parts.new) }
+        ensures asks { OnOk result (⟦<Parts<A, H, G, R> as Served>⟧.asks self.old self.new parts.old parts.new) }
         ensures took { IfOk result (λ r. IfSome r (λ h. ⟦<Parts<A, H, G, R> as Served>⟧.handles_one self.old parts.old h
             self.new)) }
         ensures none { result ≡ Ok None → (self.new ≡ record self.old
@@ -534,11 +519,9 @@ impl<'c> Connection<'c> {
         ensures part { result ≡ Ok false → WaitsInPart (reading_spot self.new) self.new.reader.waiting }
         ensures stops { IfErr result (λ e. ⟦<Parts<A, H, G, R> as Served>⟧.stops self.old parts.old parts.new e
             self.new) }
-        ensures fixed { IsFixed self.old.session self.new.session }
-        ensures unfailed { self.new.failed ≡ self.old.failed }
+        ensures fixed { IsFixedIn self.old self.new }
         ensures keeps { ⟦<Parts<A, H, G, R> as Handed>⟧.keeps parts.old parts.new }
-        ensures asks { OnOk result (⟦<Parts<A, H, G, R> as Attended>⟧.asks self.old.session self.new.session parts.old
-            parts.new) }
+        ensures asks { OnOk result (⟦<Parts<A, H, G, R> as Served>⟧.asks self.old self.new parts.old parts.new) }
     {
         let Some(handled) = self.take_packet(parts)? else {
             return Ok(false);

@@ -40,6 +40,9 @@ pub trait Served {
 
     ghost refuses_asking: { Connection → Self → Self → List ℕ → Error → Connection → Type 0 };
 
+    // How often they were asked between two connections.
+    ghost asks: { Connection → Connection → Self → Self → Type 0 };
+
     // The same by what it holds, of bytes behind what its reader holds.
     ghost takes: { Connection → Self → List ℕ → Connection → Type 0 };
 
@@ -83,6 +86,9 @@ impl<A: Agreement, H: HostKeys, G: GroupLookup, R> Served for Parts<A, H, G, R> 
         (⟦<Parts<A, H, G, R> as Handed>⟧.says c.session.config.now p) (⟦<Parts<A, H, G, R> as Handed>⟧.denies p q)
         (⟦<Parts<A, H, G, R> as Asked>⟧.distrusts p q) (standing_of c) piece e (standing_of c')
         (⟦<Parts<A, H, G, R> as Asked>⟧.calls p) (⟦<Parts<A, H, G, R> as Asked>⟧.calls q) };
+
+    ghost asks = { λ c c' p q. AsksBetween c.session c'.session (⟦<Parts<A, H, G, R> as Asked>⟧.calls p)
+        (⟦<Parts<A, H, G, R> as Asked>⟧.calls q) };
 
     ghost takes = { λ c p bytes c'. Takes (⟦<Parts<A, H, G, R> as Handed>⟧.says c.session.config.now p) (emptied c)
         bytes c' };

@@ -3,10 +3,9 @@
 ghost use Rattle.std.specs.Prelude.{◌≡◌, [], ◌++◌, ◌+◌, ◌<◌, ◌≤◌, ◌-◌, if◌then◌else◌, ◌^◌, ◌||◌, ◌&&◌, ◌⊎◌, ℕ, nat_le, not, List, Some, Ok, Err, true, false, IfErr, IfOk, IfSome, OnErr, OnOk, length, take};
 ghost use Rattle.ssh_rules.specs.MessageTypes.{is_payload_type, is_violation};
 ghost use Rattle.ssh_transport.specs.Asking.{asks_trust};
-ghost use Rattle.ssh_transport.specs.Drawing.{AtMostNext, GoesNext, OpensDrawn, kexinit_packet, packet_with, writing_at};
+ghost use Rattle.ssh_transport.specs.Drawing.{AtMostNext, GoesNext, OpensDrawn, WritesKexinit, packet_with, writing_at};
 ghost use Rattle.ssh_transport.specs.Stopping.{IsDistrusted};
 ghost use Rattle.ssh_transport.specs.declared.session.Handled.TheVariants.{Delivers};
-ghost use Rattle.ssh_kex.specs.Parts.{KeepsHosts};
 ghost use Rattle.ssh_packet.specs.Sealing.{next_number};
 ghost use Rattle.ssh_packet.specs.Stream.{message_type as message_type_of};
 ghost use Rattle.ssh_wire.specs.Orders.{is_kex};
@@ -17,6 +16,7 @@ ghost use Rattle.ssh_rules.specs.Valid.{config_fault, is_good_payload};
 ghost use Rattle.ssh_wire.specs.Sides.{other_side};
 ghost use Rattle.ssh_wire.specs.declared.error.Error.TheVariants.{Inconsistent, InvalidConfig, Memory, StrictKeyExchangeViolation, UnknownKey};
 ghost use Rattle.ssh_wire.specs.declared.error.ConfigFault.{ConfigFault};
+ghost use Rattle.ssh_kex.specs.Members.{HostsKept};
 
 use crate::config::config_fault;
 use crate::machine::SessionKex;
@@ -64,7 +64,7 @@ pub(crate) enum Handled {
 
 impl<'c> Session<'c> {
     ghost use Rattle.ssh_transport.specs.Handling.{Installs, IsBegun, IsFor, IsOpen, Passes, counts_guess, is_ordered, may_deliver_by};
-    ghost use Rattle.ssh_transport.specs.Saying.{AreGood, Begins, GoesOn, GoesPart, IsFixed, IsSettled, IsUnsaid, Opens};
+    ghost use Rattle.ssh_transport.specs.Saying.{AreGood, Begins, GoesOn, GoesPart, IsFixed, IsSettled, IsUnsaid, Opens, Stays};
     ghost use Rattle.ssh_transport.specs.Hearing.{EndsBy, HearsLine};
     ghost use Rattle.ssh_transport.specs.States.{CanBegin, IsFresh, IsUnheard, WaitsBehind, is_silent, stands_of};
     ghost use Rattle.ssh_transport.specs.Stopping.{Appends, BeginsAt, BreaksAt, HearsNot, IsAsBefore, IsForNone, WantsKeys};
@@ -143,8 +143,7 @@ impl<'c> Session<'c> {
     fn open<R: Rng>(&mut self, rng: &mut R) -> Result<SessionKex<'c>, Error>
         requires { CanBegin self.old }
         ensures opens { IfOk result (λ k. Opens self.old k self.new) }
-        ensures drawn { OnOk result (self.new.writer.output ≡ self.old.writer.output ++ kexinit_packet self.old.side
-            self.old.config.now (writing_at self.old.writer) (R.stream rng.old)) }
+        ensures drawn { OnOk result (WritesKexinit self.old self.new (R.stream rng.old)) }
         ensures begins { CanBegin self.new }
         ensures line { self.new.line ≡ self.old.line }
         ensures unsaid { OnErr result (IsUnsaid self.old self.new) }
@@ -162,8 +161,7 @@ impl<'c> Session<'c> {
     pub(crate) fn begin<R: Rng>(&mut self, rng: &mut R) -> Result<(), Error>
         requires { CanBegin self.old }
         ensures begun { OnOk result (Begins self.old self.new) }
-        ensures drawn { OnOk result (self.new.writer.output ≡ self.old.writer.output ++ kexinit_packet self.old.side
-            self.old.config.now (writing_at self.old.writer) (R.stream rng.old)) }
+        ensures drawn { OnOk result (WritesKexinit self.old self.new (R.stream rng.old)) }
         ensures begins { CanBegin self.new }
         ensures line { self.new.line ≡ self.old.line }
         ensures unsaid { OnErr result (IsUnsaid self.old self.new) }
@@ -271,11 +269,8 @@ impl<'c> Session<'c> {
         requires short { length incoming.payload.now < 2 ^ 31 }
         requires opened { IsOpen self.old }
         requires begun { IsBegun self.old }
-        ensures begins { CanBegin self.new }
-        ensures line { self.new.line ≡ self.old.line }
-        ensures held { self.new.held ≡ self.old.held }
+        ensures stays { Stays self.old self.new }
         ensures unheard { OnOk result (IsUnheard self.new) }
-        ensures fixed { IsFixed self.old self.new }
         ensures keeps { ⟦<Parts<A, H, G, R> as Handed>⟧.keeps parts.old parts.new }
         ensures asks { OnOk result (⟦<Parts<A, H, G, R> as Attended>⟧.asks self.old self.new parts.old parts.new) }
         ensures asked { OnErr result (⟦<Parts<A, H, G, R> as Attended>⟧.asks_for self.old incoming.entry parts.old
@@ -320,11 +315,8 @@ impl<'c> Session<'c> {
         requires short { length incoming.payload.now < 2 ^ 31 }
         requires opened { IsOpen self.old }
         requires begun { IsBegun self.old }
-        ensures begins { CanBegin self.new }
-        ensures line { self.new.line ≡ self.old.line }
-        ensures held { self.new.held ≡ self.old.held }
+        ensures stays { Stays self.old self.new }
         ensures unheard { OnOk result (IsUnheard self.new) }
-        ensures fixed { IsFixed self.old self.new }
         ensures keeps { ⟦<Parts<A, H, G, R> as Handed>⟧.keeps parts.old parts.new }
         ensures asks { OnOk result (⟦<Parts<A, H, G, R> as Attended>⟧.asks self.old self.new parts.old parts.new) }
         ensures asked { OnErr result (⟦<Parts<A, H, G, R> as Attended>⟧.asks_for self.old incoming.entry parts.old
@@ -420,15 +412,12 @@ impl<'c> Session<'c> {
     /// which is begun for it. Inconsistent where there is none; Memory.
     fn take_kex<R: Rng>(&mut self, rng: &mut R, message_type: u8) -> Result<SessionKex<'c>, Error>
         requires { CanBegin self.old }
+        ensures stays { Stays self.old self.new }
         ensures taken { IfOk result (λ k. IsFor self.old k self.new) }
         ensures kexinit { OnOk result (BeginsAt self.old message_type) }
         ensures refused { IfErr result (λ e. ((e ≡ Memory) × BeginsAt self.old message_type)
             ⊎ ((e ≡ Inconsistent) × IsForNone self.old message_type)) }
         ensures rests { OnErr result (IsAsBefore self.old self.new) }
-        ensures begins { CanBegin self.new }
-        ensures line { self.new.line ≡ self.old.line }
-        ensures held { self.new.held ≡ self.old.held }
-        ensures fixed { IsFixed self.old self.new }
     {
         if message_type == msg::KEXINIT && !self.is_inside() {
             return self.open(rng);
@@ -455,11 +444,8 @@ impl<'c> Session<'c> {
         requires kind { message_type ≡ message_type_of incoming.payload.now }
         requires kex { is_kex message_type ≡ true }
         requires passes { Passes self.old incoming.seqn message_type }
-        ensures begins { CanBegin self.new }
-        ensures line { self.new.line ≡ self.old.line }
-        ensures held { self.new.held ≡ self.old.held }
+        ensures stays { Stays self.old self.new }
         ensures unheard { OnOk result (IsUnheard self.new) }
-        ensures fixed { IsFixed self.old self.new }
         ensures keeps { ⟦<Parts<A, H, G, R> as Handed>⟧.keeps parts.old parts.new }
         ensures asks { OnOk result (⟦<Parts<A, H, G, R> as Attended>⟧.asks self.old self.new parts.old parts.new) }
         ensures asked { OnErr result (⟦<Parts<A, H, G, R> as Attended>⟧.asks_for_message self.old parts.old parts.new) }
@@ -485,11 +471,8 @@ impl<'c> Session<'c> {
     ) -> Result<Handled, Error>
         requires begins { CanBegin self.old }
         requires short { length incoming.payload.now < 2 ^ 31 }
-        ensures begins { CanBegin self.new }
-        ensures line { self.new.line ≡ self.old.line }
-        ensures held { self.new.held ≡ self.old.held }
+        ensures stays { Stays self.old self.new }
         ensures unheard { OnOk result (IsUnheard self.new) }
-        ensures fixed { IsFixed self.old self.new }
         ensures keeps { ⟦<Parts<A, H, G, R> as Handed>⟧.keeps parts.old parts.new }
         ensures asks { OnOk result (⟦<Parts<A, H, G, R> as Attended>⟧.asks_for_move kex.entry self.new parts.old
             parts.new) }
@@ -523,18 +506,14 @@ impl<'c> Session<'c> {
         newkeys: NewKeys,
     ) -> Result<Handled, Error>
         requires { CanBegin self.old }
-        ensures begins { CanBegin self.new }
-        ensures line { self.new.line ≡ self.old.line }
-        ensures held { self.new.held ≡ self.old.held }
+        ensures stays { Stays self.old self.new }
         ensures unheard { OnOk result (IsUnheard self.new) }
-        ensures fixed { IsFixed self.old self.new }
-        ensures keeps { KeepsHosts H.lawful H.signs H.judges H.accepts H.trusts H.refused_sign H.refused_verify
-            H.refused_check H.calls hosts.old hosts.new }
+        ensures keeps { HostsKept H.HostKeys hosts.old hosts.new }
         ensures calls { H.calls hosts.new ≤ H.calls hosts.old + asks_trust host }
         ensures trusted { OnOk result (IfSome host (λ h. H.trusts hosts.old h ≡ true)) }
         ensures installs { IfOk result (λ h. Installs self.old newkeys h self.new) }
         ensures refused { IfErr result (λ e. (e ≡ Memory) ⊎ ((e ≡ UnknownKey) × IsDistrusted
-            (untrusted_of H.judges H.trusts H.refused_check hosts.old hosts.new) host)) }
+            (untrusted_of H.HostKeys hosts.old hosts.new) host)) }
         ensures rests { OnErr result (IsAsBefore self.old self.new) }
     {
         check_host(self.alloc, hosts, host)?;
@@ -544,11 +523,8 @@ impl<'c> Session<'c> {
     /// Records an exchange, and goes on under its keys. Memory.
     fn finish(&mut self, newkeys: NewKeys) -> Result<Handled, Error>
         requires { CanBegin self.old }
-        ensures begins { CanBegin self.new }
-        ensures line { self.new.line ≡ self.old.line }
-        ensures held { self.new.held ≡ self.old.held }
+        ensures stays { Stays self.old self.new }
         ensures unheard { OnOk result (IsUnheard self.new) }
-        ensures fixed { IsFixed self.old self.new }
         ensures installs { IfOk result (λ h. Installs self.old newkeys h self.new) }
         ensures err { IfErr result (λ e. e ≡ Memory) }
         ensures rests { OnErr result (IsAsBefore self.old self.new) }
@@ -619,12 +595,11 @@ fn check_host<H: HostKeys>(
     hosts: &mut H,
     host: Option<ServerHost>,
 ) -> Result<(), Error>
-    ensures keeps { KeepsHosts H.lawful H.signs H.judges H.accepts H.trusts H.refused_sign H.refused_verify
-        H.refused_check H.calls hosts.old hosts.new }
+    ensures keeps { HostsKept H.HostKeys hosts.old hosts.new }
     ensures calls { H.calls hosts.new ≤ H.calls hosts.old + asks_trust host }
     ensures trusted { OnOk result (IfSome host (λ h. H.trusts hosts.old h ≡ true)) }
     ensures refused { IfErr result (λ e. (e ≡ Memory) ⊎ ((e ≡ UnknownKey) × IsDistrusted
-        (untrusted_of H.judges H.trusts H.refused_check hosts.old hosts.new) host)) }
+        (untrusted_of H.HostKeys hosts.old hosts.new) host)) }
 {
     let Some(host) = host else {
         return Ok(());

@@ -87,9 +87,10 @@ impl<'c> Transport<'c> {
     }
 
     /// Takes the next bytes that the other side sent, however they are cut: its version line, and then its packets,
-    /// each as soon as it is whole. Payloads are delivered, and the messages that are due are written. The cookie of the
-    /// first KEXINIT and its padding are what the handed-in generator gives next (RFC 4253 section 7.1). A refusal is the
-    /// end of the transport: each later `feed`, `submit` and `rekey` answers Disconnect, and what was delivered stays.
+    /// each as soon as it is whole. Payloads are delivered, and the messages that are due are written. The cookie of
+    /// the first KEXINIT and its padding are what the handed-in generator gives next (RFC 4253 section 7.1). A refusal
+    /// is the end of the transport: each later `feed`, `submit` and `rekey` answers Disconnect, and what was delivered
+    /// stays.
     ///
     /// Disconnect after a refusal, and at a DISCONNECT; Version where what stands there is no version line (RFC 4253
     /// section 4.2); PacketSize, PacketAuth, DecryptionError, IndexOutOfBounds as `PacketReader::next`; Inconsistent

@@ -102,9 +102,11 @@ impl<A: Agreement> Agreement for Refusing<A> {
         ensures made { (s : Setup) → A.lawful self.old.inner s → IfOk result (λ v.
             A.client_makes name (option_copied group.entry) v.local v.public × IsSmall v.public × IsSmall v.local) }
         ensures only { (s : Setup) → A.obliging self.old.inner self.new.inner s (option_copied group.entry)
-            → HasItsGroup name (option_copied group.entry) → A.offered self.old.inner name ≡ true → IsRefused result → refuses_next self.old ≡ true }
+            → HasItsGroup name (option_copied group.entry) → A.offered self.old.inner name ≡ true
+            → IsRefused result → refuses_next self.old ≡ true }
         ensures never { (s : Setup) → ObligesIn A.obliging self.old self.new s (option_copied group.entry)
-            → HasItsGroup name (option_copied group.entry) → A.offered self.old.inner name ≡ true → IsRefused result → ⊥ }
+            → HasItsGroup name (option_copied group.entry) → A.offered self.old.inner name ≡ true
+            → IsRefused result → ⊥ }
     {
         if refuses(self.refuse_at, &mut self.calls, &mut self.refusals[0]) {
             return Err(Refusal::Refused);
@@ -137,11 +139,13 @@ impl<A: Agreement> Agreement for Refusing<A> {
             A.server_makes name (option_copied group.entry) client_public.now v.public
             × A.agrees name (option_copied group.entry) client_public.now v.public v.secret
             × IsSmall v.public × IsSmall v.secret) }
-        ensures only { (s : Setup) (local : List ℕ) → A.obliging self.old.inner self.new.inner s (option_copied group.entry)
+        ensures only { (s : Setup) (local : List ℕ) → A.obliging self.old.inner self.new.inner s
+            (option_copied group.entry)
             → HasItsGroup name (option_copied group.entry) → A.offered self.old.inner name ≡ true
             → A.client_makes name (option_copied group.entry) local client_public.now
             → IsRefused result → refuses_next self.old ≡ true }
-        ensures never { (s : Setup) (local : List ℕ) → ObligesIn A.obliging self.old self.new s (option_copied group.entry)
+        ensures never { (s : Setup) (local : List ℕ) → ObligesIn A.obliging self.old self.new s
+            (option_copied group.entry)
             → HasItsGroup name (option_copied group.entry) → A.offered self.old.inner name ≡ true
             → A.client_makes name (option_copied group.entry) local client_public.now
             → IsRefused result → ⊥ }
@@ -174,12 +178,14 @@ impl<A: Agreement> Agreement for Refusing<A> {
         ensures made { (s : Setup) (public : List ℕ) → A.lawful self.old.inner s
             → A.client_makes name (option_copied group.entry) local.now public → IfOk result (λ v.
             A.agrees name (option_copied group.entry) public server_public.now v × IsSmall v) }
-        ensures only { (s : Setup) (public : List ℕ) → A.obliging self.old.inner self.new.inner s (option_copied group.entry)
+        ensures only { (s : Setup) (public : List ℕ) → A.obliging self.old.inner self.new.inner s
+            (option_copied group.entry)
             → HasItsGroup name (option_copied group.entry) → A.offered self.old.inner name ≡ true
             → A.client_makes name (option_copied group.entry) local.now public
             → A.server_makes name (option_copied group.entry) public server_public.now
             → IsRefused result → refuses_next self.old ≡ true }
-        ensures never { (s : Setup) (public : List ℕ) → ObligesIn A.obliging self.old self.new s (option_copied group.entry)
+        ensures never { (s : Setup) (public : List ℕ) → ObligesIn A.obliging self.old self.new s
+            (option_copied group.entry)
             → HasItsGroup name (option_copied group.entry) → A.offered self.old.inner name ≡ true
             → A.client_makes name (option_copied group.entry) local.now public
             → A.server_makes name (option_copied group.entry) public server_public.now

@@ -1,5 +1,5 @@
 -- A mask that is laid on twice is off again.
-use Rattle.std.proofs.Common.{◌≡◌, ◌⊎◌, inl, inr, ℕ, ◌+◌, ◌≤◌, List, [], ◌∷◌, ◌++◌, length, bit_xor, refl, ap, arith, append_assoc, append-nil, ◌∙◌, sym}
+use Rattle.std.proofs.Common.{◌≡◌, ◌⊎◌, inl, inr, ℕ, ◌≤◌, List, [], ◌∷◌, ◌++◌, length, bit_xor, refl, ap, arith, append_assoc, append-nil, ◌∙◌, sym}
 use Rattle.std.specs.Int.Bits.{xor_assoc, xor_self, xor_zero_l}
 use Rattle.uses.specs.Encapsulating.{masked}
 

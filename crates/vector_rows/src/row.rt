@@ -1,7 +1,7 @@
 //! A row's words, what is found by them, and why a row can't be answered.
 //!
-//! Neither words nor what is found make a call fail: the first fault is kept, and the loop over the rows asks for it. So
-//! what answers a row goes straight on: each early return costs its proof more than the call before it.
+//! Neither words nor what is found make a call fail: the first fault is kept, and the loop over the rows asks for it.
+//! So what answers a row goes straight on: each early return costs its proof more than the call before it.
 
 use ssh_wire::Error;
 use std::alloc::{AllocError, AllocFailed, Global};

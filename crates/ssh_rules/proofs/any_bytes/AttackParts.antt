@@ -8,25 +8,21 @@ use Rattle.ssh_wire.specs.declared.side.Side.{Side}
 use Rattle.ssh_wire.specs.declared.side.Side.TheVariants.{Client, Server}
 use Rattle.ssh_rules.specs.Valid.{HasSizes, config_fault}
 use Rattle.ssh_rules.proofs.any_bytes.FedReports.{Told}
-use Rattle.ssh_negotiate.specs.declared.kex.Name.{Name as KexName}
 use Rattle.ssh_kex.specs.Parts.{Setup}
 use Rattle.ssh_kex.specs.declared.config.Config.{Config}
-use Rattle.ssh_kex.specs.declared.exchange.ServerHost.{ServerHost}
 use Rattle.ssh_kex.specs.declared.group.DhGroup.{DhGroup}
-use Rattle.ssh_kex.specs.declared.group.GexParams.{GexParams}
 use Rattle.ssh_rules.specs.AttackCauses.{IsAttackedRun, parts_of}
-use Rattle.ssh_rules.specs.Asking.{counted_by}
 use Rattle.ssh_rules.specs.Attacking.{AttackedEnd, AttacksSide, attacked_report, tells_by}
 use Rattle.ssh_rules.proofs.any_bytes.AttackAnswers.{PartsTold, attacked_run}
 use Rattle.ssh_rules.proofs.any_bytes.AttackedLinks.{first_end}
+use Rattle.ssh_kex.specs.Members.{AgreementMembers, GroupLookupMembers, HostKeysMembers}
+use Rattle.ssh_rules.specs.Asking.{counted_by}
 
-pub parts_told : {A H G : Type 0} (lawful : A → Setup → Type 0) (obliging : A → A → Setup → Option DhGroup → Type 0) (offered : A → KexName → Bool) (client_makes : KexName → Option DhGroup → List ℕ → List ℕ → Type 0) (server_makes : KexName → Option DhGroup → List ℕ → List ℕ → Type 0) (agrees : KexName → Option DhGroup → List ℕ → List ℕ → List ℕ → Type 0) (refusals calls : A → ℕ)
-    (lawful_hosts : H → Setup → Type 0) (signs judges : H → H → Setup → Type 0) (accepts : H → ServerHost → List ℕ → List ℕ → Bool) (trusts : H → ServerHost → Bool) (makes : Config → ServerHost → List ℕ → List ℕ → Type 0) (refused_sign refused_verify refused_check asked : H → ℕ)
-    (lawful_groups : G → Setup → Type 0) (obliging_groups : G → G → Setup → Type 0) (group : G → GexParams → DhGroup) (refused_lookup looked : G → ℕ)
-    → ((v w : A) (s : Setup) (q : Option DhGroup) → obliging v w s q → lawful v s) → (side : Side) (config : Config) (s : Setup) (a a' : A) (h h' : H) (g g' : G) → (side ≡ Server → s.server ≡ config)
-    → PartsTold (tells_by lawful obliging offered client_makes server_makes agrees refusals calls lawful_hosts signs judges accepts trusts makes refused_sign refused_verify refused_check asked lawful_groups obliging_groups group refused_lookup looked config a a' h h' g g')
-    (parts_of lawful obliging offered client_makes server_makes agrees refusals calls lawful_hosts signs judges accepts trusts refused_sign refused_verify refused_check asked lawful_groups obliging_groups group refused_lookup looked s a a' h h' g g') side config
-parts_told lawful obliging offered cm sm ag refusals calls lh sg jd accepts trusts makes rs rv rc asked lg og group rl looked law side config s a a' h h' g g' same = record {
+pub parts_told : {A H G : Type 0} (ma : AgreementMembers A) (mh : HostKeysMembers H) (mg : GroupLookupMembers G)
+    → ((v w : A) (s : Setup) (q : Option DhGroup) → ma.obliging v w s q → ma.lawful v s) → (side : Side) (config : Config) (s : Setup) (a a' : A) (h h' : H) (g g' : G) → (side ≡ Server → s.server ≡ config)
+    → PartsTold (tells_by ma mh mg config a a' h h' g g')
+    (parts_of ma mh mg s a a' h h' g g') side config
+parts_told ma mh mg law side config s a a' h h' g g' same = record {
   tells = record {
     start = λ n q d. (d.0, λ o i f. d.1 s o i f);
     value = λ n q c d. (d.0, λ o i f l m. d.1 s l o i f m);
@@ -48,35 +44,31 @@ parts_told lawful obliging offered cm sm ag refusals calls lh sg jd accepts trus
 }
 
 -- what the laws of a run ask of a side's words: a client's host keys judge, a server's don't
-pub told_by : {A H G : Type 0} (lawful : A → Setup → Type 0) (obliging : A → A → Setup → Option DhGroup → Type 0) (offered : A → KexName → Bool) (client_makes : KexName → Option DhGroup → List ℕ → List ℕ → Type 0) (server_makes : KexName → Option DhGroup → List ℕ → List ℕ → Type 0) (agrees : KexName → Option DhGroup → List ℕ → List ℕ → List ℕ → Type 0) (refusals calls : A → ℕ)
-    (lawful_hosts : H → Setup → Type 0) (signs judges : H → H → Setup → Type 0) (accepts : H → ServerHost → List ℕ → List ℕ → Bool) (trusts : H → ServerHost → Bool) (makes : Config → ServerHost → List ℕ → List ℕ → Type 0) (refused_sign refused_verify refused_check asked : H → ℕ)
-    (lawful_groups : G → Setup → Type 0) (obliging_groups : G → G → Setup → Type 0) (group : G → GexParams → DhGroup) (refused_lookup looked : G → ℕ)
-    → (side : Side) (config : Config) (s : Setup) (a a' : A) (h h' judge : H) (g g' : G) → config_fault side config ≡ None → HasSizes config → (side ≡ Client → judge ≡ h)
-    → Told (tells_by lawful obliging offered client_makes server_makes agrees refusals calls lawful_hosts signs judges accepts trusts makes refused_sign refused_verify refused_check asked lawful_groups obliging_groups group refused_lookup looked config a a' h h' g g').says agrees (lawful a s) (accepts judge) (trusts judge) side config
-told_by lawful obliging offered cm sm ag refusals calls lh sg jd accepts trusts makes rs rv rc asked lg og group rl looked side config s a a' h h' judge g g' valid sizes same = record {
+pub told_by : {A H G : Type 0} (ma : AgreementMembers A) (mh : HostKeysMembers H) (mg : GroupLookupMembers G) (side : Side) (config : Config) (s : Setup) (a a' : A) (h h' judge : H) (g g' : G)
+    → config_fault side config ≡ None → HasSizes config → (side ≡ Client → judge ≡ h)
+    → Told (tells_by ma mh mg config a a' h h' g g').says ma.agrees (ma.lawful a s) (mh.accepts judge) (mh.trusts judge) side config
+told_by ma mh mg side config s a a' h h' judge g g' valid sizes same = record {
   valid = valid;
   sizes = sizes;
   tells = λ l n q c v x k. k s l;
-  answered = λ e. (λ host hash signature k. subst (λ j. accepts j host hash signature ≡ true) (sym (same e)) k, λ host k. subst (λ j. trusts j host ≡ true) (sym (same e)) k);
+  answered = λ e. (λ host hash signature k. subst (λ j. mh.accepts j host hash signature ≡ true) (sym (same e)) k, λ host k. subst (λ j. mh.trusts j host ≡ true) (sym (same e)) k);
 }
 
 server_only : Server ≡ Client → ⊥
 server_only e = cc
 
 -- The report of an attacked run is what such a report says, of all parts whose obliging agreements are lawful.
-pub attack_report : {A H G : Type 0} (lawful : A → Setup → Type 0) (obliging : A → A → Setup → Option DhGroup → Type 0) (offered : A → KexName → Bool) (client_makes : KexName → Option DhGroup → List ℕ → List ℕ → Type 0) (server_makes : KexName → Option DhGroup → List ℕ → List ℕ → Type 0) (agrees : KexName → Option DhGroup → List ℕ → List ℕ → List ℕ → Type 0) (refusals calls : A → ℕ)
-    (lawful_hosts : H → Setup → Type 0) (signs judges : H → H → Setup → Type 0) (accepts : H → ServerHost → List ℕ → List ℕ → Bool) (trusts : H → ServerHost → Bool) (makes : Config → ServerHost → List ℕ → List ℕ → Type 0) (refused_sign refused_verify refused_check asked : H → ℕ)
-    (lawful_groups : G → Setup → Type 0) (obliging_groups : G → G → Setup → Type 0) (group : G → GexParams → DhGroup) (refused_lookup looked : G → ℕ)
-    → ((v w : A) (s : Setup) (q : Option DhGroup) → obliging v w s q → lawful v s) → (client server : Config) (steps : List AttackStep) (answers : List (Result (Unit {0}) Error))
+pub attack_report : {A H G : Type 0} (ma : AgreementMembers A) (mh : HostKeysMembers H) (mg : GroupLookupMembers G)
+    → ((v w : A) (s : Setup) (q : Option DhGroup) → ma.obliging v w s q → ma.lawful v s) → (client server : Config) (steps : List AttackStep) (answers : List (Result (Unit {0}) Error))
     → (a a' : A) (h h' : H) (g g' : G) (b b' : A) (i i' : H) (j j' : G) (c s : Standing) (cn sn : AttackedEnd)
     → config_fault Client client ≡ None → config_fault Server server ≡ None → HasSizes client → HasSizes server → IsNew Client client c → IsNew Server server s
-    → AttacksSide (tells_by lawful obliging offered client_makes server_makes agrees refusals calls lawful_hosts signs judges accepts trusts makes refused_sign refused_verify refused_check asked lawful_groups obliging_groups group refused_lookup looked client a a' h h' g g') Client steps answers (first_end (counted_by calls asked looked a h g) c) cn
-    → AttacksSide (tells_by lawful obliging offered client_makes server_makes agrees refusals calls lawful_hosts signs judges accepts trusts makes refused_sign refused_verify refused_check asked lawful_groups obliging_groups group refused_lookup looked server b b' i i' j j') Server steps answers (first_end (counted_by calls asked looked b i j) s) sn
-    → cn.calls ≡ counted_by calls asked looked a' h' g' → sn.calls ≡ counted_by calls asked looked b' i' j'
-    → IsAttackedRun (parts_of lawful obliging offered client_makes server_makes agrees refusals calls lawful_hosts signs judges accepts trusts refused_sign refused_verify refused_check asked lawful_groups obliging_groups group refused_lookup looked (record { client = client; server = server }) a a' h h' g g') (parts_of lawful obliging offered client_makes server_makes agrees refusals calls lawful_hosts signs judges accepts trusts refused_sign refused_verify refused_check asked lawful_groups obliging_groups group refused_lookup looked (record { client = client; server = server }) b b' i i' j j') client server steps
+    → AttacksSide (tells_by ma mh mg client a a' h h' g g') Client steps answers (first_end (counted_by ma mh mg a h g) c) cn
+    → AttacksSide (tells_by ma mh mg server b b' i i' j j') Server steps answers (first_end (counted_by ma mh mg b i j) s) sn
+    → cn.calls ≡ counted_by ma mh mg a' h' g' → sn.calls ≡ counted_by ma mh mg b' i' j'
+    → IsAttackedRun (parts_of ma mh mg (record { client = client; server = server }) a a' h h' g g') (parts_of ma mh mg (record { client = client; server = server }) b b' i i' j j') client server steps
     (record { client = attacked_report cn; server = attacked_report sn; answers = answers })
-attack_report lawful obliging offered cm sm ag refusals calls lh sg jd accepts trusts makes rs rv rc asked lg og group rl looked law client server steps answers a a' h h' g g' b b' i i' j j' c s cn sn vc vs zc zs nc ns hc hs ec es =
-    attacked_run (tells_by lawful obliging offered cm sm ag refusals calls lh sg jd accepts trusts makes rs rv rc asked lg og group rl looked client a a' h h' g g') (tells_by lawful obliging offered cm sm ag refusals calls lh sg jd accepts trusts makes rs rv rc asked lg og group rl looked server b b' i i' j j') (parts_of lawful obliging offered cm sm ag refusals calls lh sg jd accepts trusts rs rv rc asked lg og group rl looked (record { client = client; server = server }) a a' h h' g g') (parts_of lawful obliging offered cm sm ag refusals calls lh sg jd accepts trusts rs rv rc asked lg og group rl looked (record { client = client; server = server }) b b' i i' j j') client server steps answers c s cn sn
-    (parts_told lawful obliging offered cm sm ag refusals calls lh sg jd accepts trusts makes rs rv rc asked lg og group rl looked law Client client (record { client = client; server = server }) a a' h h' g g' (λ e. absurd (server_only (sym e)))) (parts_told lawful obliging offered cm sm ag refusals calls lh sg jd accepts trusts makes rs rv rc asked lg og group rl looked law Server server (record { client = client; server = server }) b b' i i' j j' (λ e. refl)) ec es
-    (told_by lawful obliging offered cm sm ag refusals calls lh sg jd accepts trusts makes rs rv rc asked lg og group rl looked Client client (record { client = client; server = server }) a a' h h' h g g' vc zc (λ e. refl)) (told_by lawful obliging offered cm sm ag refusals calls lh sg jd accepts trusts makes rs rv rc asked lg og group rl looked Server server (record { client = client; server = server }) b b' i i' h j j' vs zs (λ e. absurd (server_only e)))
+attack_report ma mh mg law client server steps answers a a' h h' g g' b b' i i' j j' c s cn sn vc vs zc zs nc ns hc hs ec es =
+    attacked_run (tells_by ma mh mg client a a' h h' g g') (tells_by ma mh mg server b b' i i' j j') (parts_of ma mh mg (record { client = client; server = server }) a a' h h' g g') (parts_of ma mh mg (record { client = client; server = server }) b b' i i' j j') client server steps answers c s cn sn
+    (parts_told ma mh mg law Client client (record { client = client; server = server }) a a' h h' g g' (λ e. absurd (server_only (sym e)))) (parts_told ma mh mg law Server server (record { client = client; server = server }) b b' i i' j j' (λ e. refl)) ec es
+    (told_by ma mh mg Client client (record { client = client; server = server }) a a' h h' h g g' vc zc (λ e. refl)) (told_by ma mh mg Server server (record { client = client; server = server }) b b' i i' h j j' vs zs (λ e. absurd (server_only e)))
     nc ns hc hs

@@ -6,30 +6,29 @@ use Rattle.ssh_wire.specs.declared.side.Side.TheVariants.{Client, Server}
 use Rattle.ssh_negotiate.specs.declared.kex.Name.{Name as KexName}
 use Rattle.ssh_negotiate.specs.declared.preferred.HostKey.{HostKey}
 use Rattle.ssh_kex.specs.Fields.{IsInside}
+use Rattle.ssh_kex.specs.Members.{AgreementKept, AgreementMembers, GroupLookupMembers, GroupsKept, HostKeysMembers, HostsKept}
 use Rattle.ssh_kex.specs.Messages.{bit_size, is_gex}
 use Rattle.ssh_kex.specs.Setting.{Says}
-use Rattle.ssh_kex.specs.Parts.{IsSmall, KeepsAgreement, KeepsGroups, KeepsHosts, Presents, Setup}
+use Rattle.ssh_kex.specs.Parts.{IsSmall, Presents, Setup}
 use Rattle.ssh_kex.specs.Stepping.{denies_of, says_of}
-use Rattle.ssh_kex.specs.declared.config.Config.{Config}
 use Rattle.ssh_kex.specs.declared.exchange.ServerHost.{ServerHost}
 use Rattle.ssh_kex.specs.declared.group.DhGroup.{DhGroup}
-use Rattle.ssh_kex.specs.declared.group.GexParams.{GexParams}
 use Rattle.ssh_rules.specs.Headline.{chosen_by, kind_by}
-use Rattle.ssh_rules.specs.LinkCauses.{unobliged_of}
 use Rattle.ssh_rules.specs.Refused.{group_due, one_of}
 use Rattle.ssh_rules.specs.RunLaws.{config_of, says_by}
 use Rattle.ssh_rules.proofs.refusals.Obliged.{AreSmall, Duties, IsDue, Owes}
+use Rattle.ssh_rules.specs.LinkCauses.{unobliged_of}
 
 wrong_side : Client ≡ Server → ⊥
 wrong_side e = cc
 
 -- the laws of the members that obliging parts are judged by
-pub record PartLaws {A H G : Type 0} (lawful : A → Setup → Type 0) (obliging : A → A → Setup → Option DhGroup → Type 0) (signs judges : H → H → Setup → Type 0) (accepts : H → ServerHost → List ℕ → List ℕ → Bool) (trusts : H → ServerHost → Bool) (makes : Config → ServerHost → List ℕ → List ℕ → Type 0) (lawful_groups : G → Setup → Type 0) (obliging_groups : G → G → Setup → Type 0) (group : G → GexParams → DhGroup) : Type 0 where
-  pub agreement : (v w : A) (s : Setup) (q : Option DhGroup) → obliging v w s q → lawful v s
-  pub lookup : (v w : G) (s : Setup) → obliging_groups v w s → lawful_groups v s
-  pub fits : (v w : G) (s : Setup) → obliging_groups v w s → (s.client.gex.min_group_size ≤ bit_size (group v s.client.gex).prime) × (bit_size (group v s.client.gex).prime ≤ s.client.gex.max_group_size)
-  pub accepted : (v w : H) (s : Setup) (host : ServerHost) (hash signature : List ℕ) → judges v w s → makes s.server host hash signature → accepts v host hash signature ≡ true
-  pub trusted : (v w : H) (s : Setup) (host : ServerHost) (key : HostKey) → judges v w s → Presents s.server host key host.algorithm → trusts v host ≡ true
+pub record PartLaws {A H G : Type 0} (ma : AgreementMembers A) (mh : HostKeysMembers H) (mg : GroupLookupMembers G) : Type 0 where
+  pub agreement : (v w : A) (s : Setup) (q : Option DhGroup) → ma.obliging v w s q → ma.lawful v s
+  pub lookup : (v w : G) (s : Setup) → mg.obliging v w s → mg.lawful v s
+  pub fits : (v w : G) (s : Setup) → mg.obliging v w s → (s.client.gex.min_group_size ≤ bit_size (mg.group v s.client.gex).prime) × (bit_size (mg.group v s.client.gex).prime ≤ s.client.gex.max_group_size)
+  pub accepted : (v w : H) (s : Setup) (host : ServerHost) (hash signature : List ℕ) → mh.judges v w s → mh.makes s.server host hash signature → mh.accepts v host hash signature ≡ true
+  pub trusted : (v w : H) (s : Setup) (host : ServerHost) (key : HostKey) → mh.judges v w s → Presents s.server host key host.algorithm → mh.trusts v host ≡ true
 
 -- the group that is due, by what the server's lookup finds
 due_is : (says : Side → Says) (t : Setup) (found : DhGroup) (kex : KexName) (group : Option DhGroup) → kind_by (chosen_by t.client t.server) ≡ is_gex kex → ((g : DhGroup) → (says Server).finds t.client.gex g → g ≡ found) → IsDue says (config_of t) kex group → group_due t found ≡ group
@@ -37,14 +36,12 @@ due_is says t found kex None kind only d = ap (λ (b : Bool). if b then Some fou
 due_is says t found kex (Some g) kind only d = ap (λ (b : Bool). if b then Some found else None) (kind ∙ d.0) ∙ ap (λ (q : DhGroup). Some q) (sym (only g d.1))
 
 -- where the agreements of both sides and the server's lookup are lawful, a part that refuses what it owes doesn't oblige
-pub owes_of : {A H G : Type 0} (lawful : A → Setup → Type 0) (obliging : A → A → Setup → Option DhGroup → Type 0) (offered : A → KexName → Bool) (client_makes : KexName → Option DhGroup → List ℕ → List ℕ → Type 0) (server_makes : KexName → Option DhGroup → List ℕ → List ℕ → Type 0) (agrees : KexName → Option DhGroup → List ℕ → List ℕ → List ℕ → Type 0) (refusals : A → ℕ)
-    (lawful_hosts : H → Setup → Type 0) (signs judges : H → H → Setup → Type 0) (accepts : H → ServerHost → List ℕ → List ℕ → Bool) (trusts : H → ServerHost → Bool) (makes : Config → ServerHost → List ℕ → List ℕ → Type 0) (refused_sign refused_verify refused_check : H → ℕ)
-    (lawful_groups : G → Setup → Type 0) (obliging_groups : G → G → Setup → Type 0) (group : G → GexParams → DhGroup) (refused_lookup : G → ℕ)
-    → PartLaws lawful obliging signs judges accepts trusts makes lawful_groups obliging_groups group
-    → (t : Setup) (a b : A) (h i : H) (g j : G) (kex : KexName) (side : Side) (v v' : A) (x x' : H) (y y' : G) → lawful a t → lawful b t → lawful_groups j t → kind_by (chosen_by t.client t.server) ≡ is_gex kex → offered v ≡ offered (one_of side a b)
-    → Owes (says_by (says_of lawful offered client_makes server_makes agrees lawful_hosts signs judges accepts trusts makes lawful_groups group) t a b h i g j) (config_of t) side kex (denies_of obliging offered client_makes server_makes refusals signs judges accepts refused_sign refused_verify obliging_groups refused_lookup v v' x x' y y')
-    (unobliged_of obliging refusals signs judges refused_sign refused_verify refused_check obliging_groups group refused_lookup t i j v v' x x' y y')
-owes_of lawful obliging offered cm sm ag refusals lh sg jd accepts trusts makes rs rv rc lg og group rl laws t a b h i g j kex Client v v' x x' y y' la lb lj kind same = record {
+pub owes_of : {A H G : Type 0} (ma : AgreementMembers A) (mh : HostKeysMembers H) (mg : GroupLookupMembers G)
+    → PartLaws ma mh mg
+    → (t : Setup) (a b : A) (h i : H) (g j : G) (kex : KexName) (side : Side) (v v' : A) (x x' : H) (y y' : G) → ma.lawful a t → ma.lawful b t → mg.lawful j t → kind_by (chosen_by t.client t.server) ≡ is_gex kex → ma.offered v ≡ ma.offered (one_of side a b)
+    → Owes (says_by (says_of ma mh mg) t a b h i g j) (config_of t) side kex (denies_of ma mh mg v v' x x' y y')
+    (unobliged_of ma mh mg t i j v v' x x' y y')
+owes_of ma mh mg laws t a b h i g j kex Client v v' x x' y y' la lb lj kind same = record {
   start = λ name q u k f d. (d.0, λ o. d.1 t (at q u o) k (ap (λ (z : KexName → Bool). z name) same ∙ f));
   value = λ name q l p u k f m d. (d.0, λ o. d.1 t l (at q u o) k (ap (λ (z : KexName → Bool). z name) same ∙ f) (m t la));
   reply = λ name q l p w u k f m n d. (d.0, λ o. d.1 t p (at q u o) k (ap (λ (z : KexName → Bool). z name) same ∙ f) (m t la) (n t lb));
@@ -52,9 +49,9 @@ owes_of lawful obliging offered cm sm ag refusals lh sg jd accepts trusts makes 
   sign = λ e d. (d.0, λ o. d.1 t refl o);
   verify = λ e host hash signature m d. (d.0, λ later o p. d.1 t o (laws.accepted x x' t host hash signature o (m later t refl p)));
 } where
-  at : (q : Option DhGroup) → IsDue (says_by (says_of lawful offered cm sm ag lh sg jd accepts trusts makes lg group) t a b h i g j) (config_of t) kex q → obliging v v' t (group_due t (group j t.client.gex)) → obliging v v' t q
-  at q u o = subst (obliging v v' t) (due_is (says_by (says_of lawful offered cm sm ag lh sg jd accepts trusts makes lg group) t a b h i g j) t (group j t.client.gex) kex q kind (λ z f. (f t lj).0) u) o
-owes_of lawful obliging offered cm sm ag refusals lh sg jd accepts trusts makes rs rv rc lg og group rl laws t a b h i g j kex Server v v' x x' y y' la lb lj kind same = record {
+  at : (q : Option DhGroup) → IsDue (says_by (says_of ma mh mg) t a b h i g j) (config_of t) kex q → ma.obliging v v' t (group_due t (mg.group j t.client.gex)) → ma.obliging v v' t q
+  at q u o = subst (ma.obliging v v' t) (due_is (says_by (says_of ma mh mg) t a b h i g j) t (mg.group j t.client.gex) kex q kind (λ z f. (f t lj).0) u) o
+owes_of ma mh mg laws t a b h i g j kex Server v v' x x' y y' la lb lj kind same = record {
   start = λ name q u k f d. (d.0, λ o. d.1 t (at q u o) k (ap (λ (z : KexName → Bool). z name) same ∙ f));
   value = λ name q l p u k f m d. (d.0, λ o. d.1 t l (at q u o) k (ap (λ (z : KexName → Bool). z name) same ∙ f) (m t la));
   reply = λ name q l p w u k f m n d. (d.0, λ o. d.1 t p (at q u o) k (ap (λ (z : KexName → Bool). z name) same ∙ f) (m t la) (n t lb));
@@ -62,21 +59,19 @@ owes_of lawful obliging offered cm sm ag refusals lh sg jd accepts trusts makes 
   sign = λ e d. (d.0, λ o. d.1 t refl o);
   verify = λ e host hash signature m d. (d.0, λ later o p. d.1 t o (laws.accepted x x' t host hash signature o (m later t refl p)));
 } where
-  at : (q : Option DhGroup) → IsDue (says_by (says_of lawful offered cm sm ag lh sg jd accepts trusts makes lg group) t a b h i g j) (config_of t) kex q → obliging v v' t (group_due t (group j t.client.gex)) → obliging v v' t q
-  at q u o = subst (obliging v v' t) (due_is (says_by (says_of lawful offered cm sm ag lh sg jd accepts trusts makes lg group) t a b h i g j) t (group j t.client.gex) kex q kind (λ z f. (f t lj).0) u) o
+  at : (q : Option DhGroup) → IsDue (says_by (says_of ma mh mg) t a b h i g j) (config_of t) kex q → ma.obliging v v' t (group_due t (mg.group j t.client.gex)) → ma.obliging v v' t q
+  at q u o = subst (ma.obliging v v' t) (due_is (says_by (says_of ma mh mg) t a b h i g j) t (mg.group j t.client.gex) kex q kind (λ z f. (f t lj).0) u) o
 
 -- so obliging parts do what they owe: those that are asked are those at the start, after some calls
-pub duties_of : {A H G : Type 0} (lawful : A → Setup → Type 0) (obliging : A → A → Setup → Option DhGroup → Type 0) (offered : A → KexName → Bool) (client_makes : KexName → Option DhGroup → List ℕ → List ℕ → Type 0) (server_makes : KexName → Option DhGroup → List ℕ → List ℕ → Type 0) (agrees : KexName → Option DhGroup → List ℕ → List ℕ → List ℕ → Type 0) (refusals calls : A → ℕ)
-    (lawful_hosts : H → Setup → Type 0) (signs judges : H → H → Setup → Type 0) (accepts : H → ServerHost → List ℕ → List ℕ → Bool) (trusts : H → ServerHost → Bool) (makes : Config → ServerHost → List ℕ → List ℕ → Type 0) (refused_sign refused_verify refused_check asked : H → ℕ)
-    (lawful_groups : G → Setup → Type 0) (obliging_groups : G → G → Setup → Type 0) (group : G → GexParams → DhGroup) (refused_lookup looked : G → ℕ)
-    → PartLaws lawful obliging signs judges accepts trusts makes lawful_groups obliging_groups group
+pub duties_of : {A H G : Type 0} (ma : AgreementMembers A) (mh : HostKeysMembers H) (mg : GroupLookupMembers G)
+    → PartLaws ma mh mg
     → (t : Setup) (a a' b b' : A) (h h' i i' : H) (g g' j j' : G) (kex : KexName) (side : Side) (v : A) (x : H) (y : G)
-    → obliging a a' t (group_due t (group j t.client.gex)) → obliging b b' t (group_due t (group j t.client.gex)) → judges h h' t → signs i i' t → lawful_groups j t → kind_by (chosen_by t.client t.server) ≡ is_gex kex → (is_gex kex ≡ true → obliging_groups j j' t) → offered (one_of side a b) kex ≡ true
-    → KeepsAgreement lawful obliging offered refusals calls (one_of side a b) v → KeepsHosts lawful_hosts signs judges accepts trusts refused_sign refused_verify refused_check asked (one_of side h i) x → KeepsGroups lawful_groups obliging_groups group refused_lookup looked (one_of side g j) y
-    → Duties (says_by (says_of lawful offered client_makes server_makes agrees lawful_hosts signs judges accepts trusts makes lawful_groups group) t a b h i g j) (config_of t) side kex
-    (denies_of obliging offered client_makes server_makes refusals signs judges accepts refused_sign refused_verify obliging_groups refused_lookup v (one_of side a' b') x (one_of side h' i') y (one_of side g' j'))
-duties_of lawful obliging offered cm sm ag refusals calls lh sg jd accepts trusts makes rs rv rc asked lg og group rl looked laws t a a' b b' h h' i i' g g' j j' kex Client v x y oa ob jh si lj kind oj o ka kh kg =
-    let d = owes_of lawful obliging offered cm sm ag refusals lh sg jd accepts trusts makes rs rv rc lg og group rl laws t a b h i g j kex Client v a' x h' y g' (laws.agreement a a' t _ oa) (laws.agreement b b' t _ ob) lj kind ka.offered_kept in record {
+    → ma.obliging a a' t (group_due t (mg.group j t.client.gex)) → ma.obliging b b' t (group_due t (mg.group j t.client.gex)) → mh.judges h h' t → mh.signs i i' t → mg.lawful j t → kind_by (chosen_by t.client t.server) ≡ is_gex kex → (is_gex kex ≡ true → mg.obliging j j' t) → ma.offered (one_of side a b) kex ≡ true
+    → AgreementKept ma (one_of side a b) v → HostsKept mh (one_of side h i) x → GroupsKept mg (one_of side g j) y
+    → Duties (says_by (says_of ma mh mg) t a b h i g j) (config_of t) side kex
+    (denies_of ma mh mg v (one_of side a' b') x (one_of side h' i') y (one_of side g' j'))
+duties_of ma mh mg laws t a a' b b' h h' i i' g g' j j' kex Client v x y oa ob jh si lj kind oj o ka kh kg =
+    let d = owes_of ma mh mg laws t a b h i g j kex Client v a' x h' y g' (laws.agreement a a' t _ oa) (laws.agreement b b' t _ ob) lj kind ka.offered_kept in record {
       offered = o;
       owes = record {
         start = λ name q u k f r. (d.start name q u k f r).1 (ka.obliging_kept a' t _ oa);
@@ -88,10 +83,10 @@ duties_of lawful obliging offered cm sm ag refusals calls lh sg jd accepts trust
       };
       fits = λ k q f. fits_by (f t lj).0 (laws.fits j j' t (oj k));
     } where
-      fits_by : {q : DhGroup} → q ≡ group j t.client.gex → (t.client.gex.min_group_size ≤ bit_size (group j t.client.gex).prime) × (bit_size (group j t.client.gex).prime ≤ t.client.gex.max_group_size) → IsInside t.client.gex q
+      fits_by : {q : DhGroup} → q ≡ mg.group j t.client.gex → (t.client.gex.min_group_size ≤ bit_size (mg.group j t.client.gex).prime) × (bit_size (mg.group j t.client.gex).prime ≤ t.client.gex.max_group_size) → IsInside t.client.gex q
       fits_by e l = record { least = subst (λ (z : DhGroup). t.client.gex.min_group_size ≤ bit_size z.prime) (sym e) l.0; most = subst (λ (z : DhGroup). bit_size z.prime ≤ t.client.gex.max_group_size) (sym e) l.1 }
-duties_of lawful obliging offered cm sm ag refusals calls lh sg jd accepts trusts makes rs rv rc asked lg og group rl looked laws t a a' b b' h h' i i' g g' j j' kex Server v x y oa ob jh si lj kind oj o ka kh kg =
-    let d = owes_of lawful obliging offered cm sm ag refusals lh sg jd accepts trusts makes rs rv rc lg og group rl laws t a b h i g j kex Server v b' x i' y j' (laws.agreement a a' t _ oa) (laws.agreement b b' t _ ob) lj kind ka.offered_kept in record {
+duties_of ma mh mg laws t a a' b b' h h' i i' g g' j j' kex Server v x y oa ob jh si lj kind oj o ka kh kg =
+    let d = owes_of ma mh mg laws t a b h i g j kex Server v b' x i' y j' (laws.agreement a a' t _ oa) (laws.agreement b b' t _ ob) lj kind ka.offered_kept in record {
       offered = o;
       owes = record {
         start = λ name q u k f r. (d.start name q u k f r).1 (ka.obliging_kept b' t _ ob);
@@ -103,22 +98,20 @@ duties_of lawful obliging offered cm sm ag refusals calls lh sg jd accepts trust
       };
       fits = λ k q f. fits_by (f t lj).0 (laws.fits j j' t (oj k));
     } where
-      fits_by : {q : DhGroup} → q ≡ group j t.client.gex → (t.client.gex.min_group_size ≤ bit_size (group j t.client.gex).prime) × (bit_size (group j t.client.gex).prime ≤ t.client.gex.max_group_size) → IsInside t.client.gex q
+      fits_by : {q : DhGroup} → q ≡ mg.group j t.client.gex → (t.client.gex.min_group_size ≤ bit_size (mg.group j t.client.gex).prime) × (bit_size (mg.group j t.client.gex).prime ≤ t.client.gex.max_group_size) → IsInside t.client.gex q
       fits_by e l = record { least = subst (λ (z : DhGroup). t.client.gex.min_group_size ≤ bit_size z.prime) (sym e) l.0; most = subst (λ (z : DhGroup). bit_size z.prime ≤ t.client.gex.max_group_size) (sym e) l.1 }
 
 -- what lawful parts make is small
-pub small_of : {A H G : Type 0} (lawful : A → Setup → Type 0) (offered : A → KexName → Bool) (client_makes : KexName → Option DhGroup → List ℕ → List ℕ → Type 0) (server_makes : KexName → Option DhGroup → List ℕ → List ℕ → Type 0) (agrees : KexName → Option DhGroup → List ℕ → List ℕ → List ℕ → Type 0)
-    (lawful_hosts : H → Setup → Type 0) (signs judges : H → H → Setup → Type 0) (accepts : H → ServerHost → List ℕ → List ℕ → Bool) (trusts : H → ServerHost → Bool) (makes : Config → ServerHost → List ℕ → List ℕ → Type 0)
-    (lawful_groups : G → Setup → Type 0) (group : G → GexParams → DhGroup)
-    → ((v : G) (s : Setup) → lawful_groups v s → IsSmall (group v s.client.gex).prime × IsSmall (group v s.client.gex).generator)
-    → (t : Setup) (a b : A) (h i : H) (g j : G) (side : Side) → lawful a t → lawful b t → lawful_hosts h t → lawful_hosts i t → lawful_groups j t
-    → AreSmall (says_by (says_of lawful offered client_makes server_makes agrees lawful_hosts signs judges accepts trusts makes lawful_groups group) t a b h i g j side) side (config_of t (other_side side)).gex
-small_of lawful offered cm sm ag lh sg jd accepts trusts makes lg group small t a b h i g j Client la lb lhh li lj = record {
+pub small_of : {A H G : Type 0} (ma : AgreementMembers A) (mh : HostKeysMembers H) (mg : GroupLookupMembers G)
+    → ((v : G) (s : Setup) → mg.lawful v s → IsSmall (mg.group v s.client.gex).prime × IsSmall (mg.group v s.client.gex).generator)
+    → (t : Setup) (a b : A) (h i : H) (g j : G) (side : Side) → ma.lawful a t → ma.lawful b t → mh.lawful h t → mh.lawful i t → mg.lawful j t
+    → AreSmall (says_by (says_of ma mh mg) t a b h i g j side) side (config_of t (other_side side)).gex
+small_of ma mh mg small t a b h i g j Client la lb lhh li lj = record {
   value = λ w f. f t la;
   signature = λ w f. f t lhh;
   group = λ e. absurd (wrong_side e);
 }
-small_of lawful offered cm sm ag lh sg jd accepts trusts makes lg group small t a b h i g j Server la lb lhh li lj = record {
+small_of ma mh mg small t a b h i g j Server la lb lhh li lj = record {
   value = λ w f. f t lb;
   signature = λ w f. f t li;
   group = λ e q f. subst (λ (z : DhGroup). IsSmall z.prime × IsSmall z.generator) (sym (f t lj).0) (small j t lj);

@@ -1,14 +1,14 @@
 use Rattle.std.proofs.Common.{inl, refl, sym, subst}
 use Rattle.std.proofs.lemmas.Result.{err_from_is_err_and}
-use Rattle.ssh_rules.specs.Asking.{counted_by}
 use Rattle.ssh_rules.specs.AttackCauses.{IsAttackedRun}
-use Rattle.ssh_rules.specs.Attacking.{tells_by}
 use Rattle.ssh_kex.specs.declared.config.Config.{Config}
 use Rattle.ssh_wire.specs.declared.side.Side.TheVariants.{Client, Server}
 use Rattle.ssh_rules.proofs.Lemmas.{attack_report}
 use Rattle.ssh_attack.proofs.Starting.{passed, side_started}
 use Rattle.ssh_attack.specs.AttackEnds.{attacked_end}
 use Rattle.ssh_attack.proofs.attack.run_attacked.Goals as goal
+use Rattle.ssh_rules.specs.Asking.{counted_by}
+use Rattle.ssh_rules.specs.Attacking.{tells_by}
 
 pub returns-in_err-answers-clause-refused : goal.returns-in_err-answers-clause-refused
 returns-in_err-answers-clause-refused g c =
@@ -18,9 +18,9 @@ returns-in_err-answers-clause-refused g c =
 pub returns-clause-run : goal.returns-clause-run
 returns-clause-run g c =
     subst (IsAttackedRun _ _ c.args.client.now c.args.server.now c.args.steps.now) (sym c.in_ok-report.ensures)
-    (attack_report g.A.Agreement.lawful g.A.Agreement.obliging g.A.Agreement.offered g.A.Agreement.client_makes g.A.Agreement.server_makes g.A.Agreement.agrees g.A.Agreement.refusals g.A.Agreement.calls g.H.HostKeys.lawful g.H.HostKeys.signs g.H.HostKeys.judges g.H.HostKeys.accepts g.H.HostKeys.trusts g.H.HostKeys.makes g.H.HostKeys.refused_sign g.H.HostKeys.refused_verify g.H.HostKeys.refused_check g.H.HostKeys.calls g.G.GroupLookup.lawful g.G.GroupLookup.obliging g.G.GroupLookup.group g.G.GroupLookup.refusals g.G.GroupLookup.calls g.met.A.Agreement.obliging_lawful c.args.client.now c.args.server.now c.args.steps.now c.in_ok-answers.answers.items c.args.client_parts.now.agreement c.run.new.client_parts.agreement c.args.client_parts.now.hosts c.run.new.client_parts.hosts c.args.client_parts.now.groups c.run.new.client_parts.groups c.args.server_parts.now.agreement c.run.new.server_parts.agreement c.args.server_parts.now.hosts c.run.new.server_parts.hosts c.args.server_parts.now.groups c.run.new.server_parts.groups
-    c.in_ok-client.field-0 c.in_ok-server.field-0 (attacked_end c.run.new.self.client (counted_by g.A.Agreement.calls g.H.HostKeys.calls g.G.GroupLookup.calls c.run.new.client_parts.agreement c.run.new.client_parts.hosts c.run.new.client_parts.groups)) (attacked_end c.run.new.self.server (counted_by g.A.Agreement.calls g.H.HostKeys.calls g.G.GroupLookup.calls c.run.new.server_parts.agreement c.run.new.server_parts.hosts c.run.new.server_parts.groups))
+    (attack_report g.A.Agreement g.H.HostKeys g.G.GroupLookup g.met.A.Agreement.obliging_lawful c.args.client.now c.args.server.now c.args.steps.now c.in_ok-answers.answers.items c.args.client_parts.now.agreement c.run.new.client_parts.agreement c.args.client_parts.now.hosts c.run.new.client_parts.hosts c.args.client_parts.now.groups c.run.new.client_parts.groups c.args.server_parts.now.agreement c.run.new.server_parts.agreement c.args.server_parts.now.hosts c.run.new.server_parts.hosts c.args.server_parts.now.groups c.run.new.server_parts.groups
+    c.in_ok-client.field-0 c.in_ok-server.field-0 (attacked_end c.run.new.self.client (counted_by g.A.Agreement g.H.HostKeys g.G.GroupLookup c.run.new.client_parts.agreement c.run.new.client_parts.hosts c.run.new.client_parts.groups)) (attacked_end c.run.new.self.server (counted_by g.A.Agreement g.H.HostKeys g.G.GroupLookup c.run.new.server_parts.agreement c.run.new.server_parts.hosts c.run.new.server_parts.groups))
     (passed _ _ c.in_ok-client.ensures.fault) (passed _ _ c.in_ok-server.ensures.fault) c.sizes_are_u32.ensures c.sizes_are_u32-2.ensures c.in_ok-client.ensures.made c.in_ok-server.ensures.made
-    (side_started (λ (q : Config). tells_by g.A.Agreement.lawful g.A.Agreement.obliging g.A.Agreement.offered g.A.Agreement.client_makes g.A.Agreement.server_makes g.A.Agreement.agrees g.A.Agreement.refusals g.A.Agreement.calls g.H.HostKeys.lawful g.H.HostKeys.signs g.H.HostKeys.judges g.H.HostKeys.accepts g.H.HostKeys.trusts g.H.HostKeys.makes g.H.HostKeys.refused_sign g.H.HostKeys.refused_verify g.H.HostKeys.refused_check g.H.HostKeys.calls g.G.GroupLookup.lawful g.G.GroupLookup.obliging g.G.GroupLookup.group g.G.GroupLookup.refusals g.G.GroupLookup.calls q c.args.client_parts.now.agreement c.run.new.client_parts.agreement c.args.client_parts.now.hosts c.run.new.client_parts.hosts c.args.client_parts.now.groups c.run.new.client_parts.groups) Client c.args.client.now c.args.steps.now c.in_ok-answers.answers.items c.new.result c.in_ok-client.field-0 (counted_by g.A.Agreement.calls g.H.HostKeys.calls g.G.GroupLookup.calls c.args.client_parts.now.agreement c.args.client_parts.now.hosts c.args.client_parts.now.groups) (attacked_end c.run.new.self.client (counted_by g.A.Agreement.calls g.H.HostKeys.calls g.G.GroupLookup.calls c.run.new.client_parts.agreement c.run.new.client_parts.hosts c.run.new.client_parts.groups)) c.in_ok-client.ensures.made c.new.ensures.transport c.new.ensures.taken c.new.ensures.delivered c.in_ok-answers.ensures.client)
-    (side_started (λ (q : Config). tells_by g.A.Agreement.lawful g.A.Agreement.obliging g.A.Agreement.offered g.A.Agreement.client_makes g.A.Agreement.server_makes g.A.Agreement.agrees g.A.Agreement.refusals g.A.Agreement.calls g.H.HostKeys.lawful g.H.HostKeys.signs g.H.HostKeys.judges g.H.HostKeys.accepts g.H.HostKeys.trusts g.H.HostKeys.makes g.H.HostKeys.refused_sign g.H.HostKeys.refused_verify g.H.HostKeys.refused_check g.H.HostKeys.calls g.G.GroupLookup.lawful g.G.GroupLookup.obliging g.G.GroupLookup.group g.G.GroupLookup.refusals g.G.GroupLookup.calls q c.args.server_parts.now.agreement c.run.new.server_parts.agreement c.args.server_parts.now.hosts c.run.new.server_parts.hosts c.args.server_parts.now.groups c.run.new.server_parts.groups) Server c.args.server.now c.args.steps.now c.in_ok-answers.answers.items c.new-2.result c.in_ok-server.field-0 (counted_by g.A.Agreement.calls g.H.HostKeys.calls g.G.GroupLookup.calls c.args.server_parts.now.agreement c.args.server_parts.now.hosts c.args.server_parts.now.groups) (attacked_end c.run.new.self.server (counted_by g.A.Agreement.calls g.H.HostKeys.calls g.G.GroupLookup.calls c.run.new.server_parts.agreement c.run.new.server_parts.hosts c.run.new.server_parts.groups)) c.in_ok-server.ensures.made c.new-2.ensures.transport c.new-2.ensures.taken c.new-2.ensures.delivered c.in_ok-answers.ensures.server)
+    (side_started (λ (q : Config). tells_by g.A.Agreement g.H.HostKeys g.G.GroupLookup q c.args.client_parts.now.agreement c.run.new.client_parts.agreement c.args.client_parts.now.hosts c.run.new.client_parts.hosts c.args.client_parts.now.groups c.run.new.client_parts.groups) Client c.args.client.now c.args.steps.now c.in_ok-answers.answers.items c.new.result c.in_ok-client.field-0 (counted_by g.A.Agreement g.H.HostKeys g.G.GroupLookup c.args.client_parts.now.agreement c.args.client_parts.now.hosts c.args.client_parts.now.groups) (attacked_end c.run.new.self.client (counted_by g.A.Agreement g.H.HostKeys g.G.GroupLookup c.run.new.client_parts.agreement c.run.new.client_parts.hosts c.run.new.client_parts.groups)) c.in_ok-client.ensures.made c.new.ensures.transport c.new.ensures.taken c.new.ensures.delivered c.in_ok-answers.ensures.client)
+    (side_started (λ (q : Config). tells_by g.A.Agreement g.H.HostKeys g.G.GroupLookup q c.args.server_parts.now.agreement c.run.new.server_parts.agreement c.args.server_parts.now.hosts c.run.new.server_parts.hosts c.args.server_parts.now.groups c.run.new.server_parts.groups) Server c.args.server.now c.args.steps.now c.in_ok-answers.answers.items c.new-2.result c.in_ok-server.field-0 (counted_by g.A.Agreement g.H.HostKeys g.G.GroupLookup c.args.server_parts.now.agreement c.args.server_parts.now.hosts c.args.server_parts.now.groups) (attacked_end c.run.new.self.server (counted_by g.A.Agreement g.H.HostKeys g.G.GroupLookup c.run.new.server_parts.agreement c.run.new.server_parts.hosts c.run.new.server_parts.groups)) c.in_ok-server.ensures.made c.new-2.ensures.transport c.new-2.ensures.taken c.new-2.ensures.delivered c.in_ok-answers.ensures.server)
     refl refl)

@@ -18,15 +18,15 @@ pub returns-clause-settles : goal.returns-clause-settles
 returns-clause-settles g c = settles_once c.args.link.now c.step_link.new.link c.receive_delivered.new.link c.receive_delivered-2.new.link c.in_ok-step_link.ensures.step c.in_ok-client.ensures.submits c.in_ok-server.ensures.submits
 
 pub returns-clause-goes : goal.returns-clause-goes
-returns-clause-goes g c = goes_then g.A.Agreement.client_makes g.A.Agreement.server_makes g.A.Agreement.agrees g.H.HostKeys.makes c.args.link.now c.step_link.new.link c.receive_delivered-2.new.link c.step_link.ensures.client_keeps c.step_link.ensures.server_keeps c.in_ok-step_link.ensures.goes
-    (goes_then g.A.Agreement.client_makes g.A.Agreement.server_makes g.A.Agreement.agrees g.H.HostKeys.makes c.step_link.new.link c.receive_delivered.new.link c.receive_delivered-2.new.link c.receive_delivered.ensures.client_keeps c.receive_delivered.ensures.server_keeps c.in_ok-client.ensures.goes c.in_ok-server.ensures.goes)
+returns-clause-goes g c = goes_then g.A.Agreement g.H.HostKeys g.G.GroupLookup c.args.link.now c.step_link.new.link c.receive_delivered-2.new.link c.step_link.ensures.client_keeps c.step_link.ensures.server_keeps c.in_ok-step_link.ensures.goes
+    (goes_then g.A.Agreement g.H.HostKeys g.G.GroupLookup c.step_link.new.link c.receive_delivered.new.link c.receive_delivered-2.new.link c.receive_delivered.ensures.client_keeps c.receive_delivered.ensures.server_keeps c.in_ok-client.ensures.goes c.in_ok-server.ensures.goes)
 
 pub returns-in_err-client-clause-breaks : goal.returns-in_err-client-clause-breaks
 returns-in_err-client-clause-breaks g c = broken_so c.from_residual-in_err-client.result c.in_err-client.field-0.0 (on_link c.args.pair.now c.args.link.now) c.receive_delivered.new.link _ (search rules)
     (λ m. let b = c.in_err-client.ensures.breaks m in (
       breaks_behind c.in_err-client.field-0.0 (on_link c.args.pair.now c.args.link.now) (on_link c.args.pair.now c.step_link.new.link) c.receive_delivered.new.link
           (steps_on (both_of c.args.pair.now) _ c.args.link.now c.step_link.new.link refl c.in_ok-step_link.ensures.step) b.0,
-      goes_then g.A.Agreement.client_makes g.A.Agreement.server_makes g.A.Agreement.agrees g.H.HostKeys.makes c.args.link.now c.step_link.new.link c.receive_delivered.new.link c.step_link.ensures.client_keeps c.step_link.ensures.server_keeps c.in_ok-step_link.ensures.goes b.1,
+      goes_then g.A.Agreement g.H.HostKeys g.G.GroupLookup c.args.link.now c.step_link.new.link c.receive_delivered.new.link c.step_link.ensures.client_keeps c.step_link.ensures.server_keeps c.in_ok-step_link.ensures.goes b.1,
     ))
 
 pub returns-in_err-server-clause-breaks : goal.returns-in_err-server-clause-breaks
@@ -35,8 +35,8 @@ returns-in_err-server-clause-breaks g c = broken_so c.from_residual-in_err-serve
       breaks_behind c.in_err-server.field-0.0 (on_link c.args.pair.now c.args.link.now) (on_link c.receive_delivered.new.pair c.receive_delivered.new.link) c.receive_delivered-2.new.link
           (carries_then (on_link c.args.pair.now c.args.link.now) (on_link c.args.pair.now c.step_link.new.link) (on_link c.receive_delivered.new.pair c.receive_delivered.new.link)
           (steps_on (both_of c.args.pair.now) _ c.args.link.now c.step_link.new.link refl c.in_ok-step_link.ensures.step) c.in_ok-client.ensures.carries) b.0,
-      goes_then g.A.Agreement.client_makes g.A.Agreement.server_makes g.A.Agreement.agrees g.H.HostKeys.makes c.args.link.now c.step_link.new.link c.receive_delivered-2.new.link c.step_link.ensures.client_keeps c.step_link.ensures.server_keeps c.in_ok-step_link.ensures.goes
-          (goes_then g.A.Agreement.client_makes g.A.Agreement.server_makes g.A.Agreement.agrees g.H.HostKeys.makes c.step_link.new.link c.receive_delivered.new.link c.receive_delivered-2.new.link c.receive_delivered.ensures.client_keeps c.receive_delivered.ensures.server_keeps c.in_ok-client.ensures.goes b.1),
+      goes_then g.A.Agreement g.H.HostKeys g.G.GroupLookup c.args.link.now c.step_link.new.link c.receive_delivered-2.new.link c.step_link.ensures.client_keeps c.step_link.ensures.server_keeps c.in_ok-step_link.ensures.goes
+          (goes_then g.A.Agreement g.H.HostKeys g.G.GroupLookup c.step_link.new.link c.receive_delivered.new.link c.receive_delivered-2.new.link c.receive_delivered.ensures.client_keeps c.receive_delivered.ensures.server_keeps c.in_ok-client.ensures.goes b.1),
     ))
 
 pub returns-in_err-step_link-clause-stops : goal.returns-in_err-step_link-clause-stops
@@ -44,14 +44,14 @@ returns-in_err-step_link-clause-stops g c = stopped_so c.from_residual.result c.
 
 pub returns-in_err-client-clause-stops : goal.returns-in_err-client-clause-stops
 returns-in_err-client-clause-stops g c = stopped_so c.from_residual-in_err-client.result c.in_err-client.field-0.0 _ (search rules)
-    (λ e d good. refused_then g.A.Agreement.client_makes g.A.Agreement.server_makes g.A.Agreement.agrees g.H.HostKeys.makes c.args.link.now c.step_link.new.link c.args.client_parts.now c.step_link.new.client_parts c.receive_delivered.new.client_parts c.args.server_parts.now c.step_link.new.server_parts c.receive_delivered.new.server_parts e
+    (λ e d good. refused_then g.A.Agreement g.H.HostKeys g.G.GroupLookup c.args.link.now c.step_link.new.link c.args.client_parts.now c.step_link.new.client_parts c.receive_delivered.new.client_parts c.args.server_parts.now c.step_link.new.server_parts c.receive_delivered.new.server_parts e
     c.step_link.ensures.client_keeps c.step_link.ensures.server_keeps c.in_ok-step_link.ensures.goes (c.in_err-client.ensures.stops e d good))
 
 pub returns-in_err-server-clause-stops : goal.returns-in_err-server-clause-stops
 returns-in_err-server-clause-stops g c = stopped_so c.from_residual-in_err-server.result c.in_err-server.field-0.0 _ (search rules)
-    (λ e d good. refused_then g.A.Agreement.client_makes g.A.Agreement.server_makes g.A.Agreement.agrees g.H.HostKeys.makes c.args.link.now c.step_link.new.link c.args.client_parts.now c.step_link.new.client_parts c.receive_delivered-2.new.client_parts c.args.server_parts.now c.step_link.new.server_parts c.receive_delivered-2.new.server_parts e
+    (λ e d good. refused_then g.A.Agreement g.H.HostKeys g.G.GroupLookup c.args.link.now c.step_link.new.link c.args.client_parts.now c.step_link.new.client_parts c.receive_delivered-2.new.client_parts c.args.server_parts.now c.step_link.new.server_parts c.receive_delivered-2.new.server_parts e
     c.step_link.ensures.client_keeps c.step_link.ensures.server_keeps c.in_ok-step_link.ensures.goes
-    (refused_then g.A.Agreement.client_makes g.A.Agreement.server_makes g.A.Agreement.agrees g.H.HostKeys.makes c.step_link.new.link c.receive_delivered.new.link c.step_link.new.client_parts c.receive_delivered.new.client_parts c.receive_delivered-2.new.client_parts c.step_link.new.server_parts c.receive_delivered.new.server_parts c.receive_delivered-2.new.server_parts e
+    (refused_then g.A.Agreement g.H.HostKeys g.G.GroupLookup c.step_link.new.link c.receive_delivered.new.link c.step_link.new.client_parts c.receive_delivered.new.client_parts c.receive_delivered-2.new.client_parts c.step_link.new.server_parts c.receive_delivered.new.server_parts c.receive_delivered-2.new.server_parts e
     c.receive_delivered.ensures.client_keeps c.receive_delivered.ensures.server_keeps c.in_ok-client.ensures.goes (c.in_err-server.ensures.stops e d
     (carries_good (on_link c.args.pair.now c.step_link.new.link) (on_link c.receive_delivered.new.pair c.receive_delivered.new.link) c.in_ok-client.ensures.carries good))))
 

@@ -30,14 +30,14 @@ pub returns-in-Settle-clause-does : goal.returns-in-Settle-clause-does
 returns-in-Settle-clause-does g c = settle_done c.settle.result c.args.behind (on_link c.args.pair.now c.args.link.now) (on_link c.settle.new.pair c.settle.new.link) c.in-Settle.is c.settle.ensures.settled c.settle.ensures.settles
 
 pub returns-in_ok-receive_delivered-in-Deliver-clause-goes : goal.returns-in_ok-receive_delivered-in-Deliver-clause-goes
-returns-in_ok-receive_delivered-in-Deliver-clause-goes g c = goes_then g.A.Agreement.client_makes g.A.Agreement.server_makes g.A.Agreement.agrees g.H.HostKeys.makes c.args.link.now c.step_link.new.link c.receive_delivered.new.link c.step_link.ensures.client_keeps c.step_link.ensures.server_keeps c.in_ok-step_link-in-Deliver.ensures.goes c.in_ok-receive_delivered-in-Deliver.ensures.goes
+returns-in_ok-receive_delivered-in-Deliver-clause-goes g c = goes_then g.A.Agreement g.H.HostKeys g.G.GroupLookup c.args.link.now c.step_link.new.link c.receive_delivered.new.link c.step_link.ensures.client_keeps c.step_link.ensures.server_keeps c.in_ok-step_link-in-Deliver.ensures.goes c.in_ok-receive_delivered-in-Deliver.ensures.goes
 
 pub returns-in_err-receive_delivered-in-Deliver-clause-breaks : goal.returns-in_err-receive_delivered-in-Deliver-clause-breaks
 returns-in_err-receive_delivered-in-Deliver-clause-breaks g c = broken_so c.from_residual-in_err-receive_delivered-in-Deliver.result c.in_err-receive_delivered-in-Deliver.field-0.0 (on_link c.args.pair.now c.args.link.now) c.receive_delivered.new.link _ (search rules)
     (λ m. let b = c.in_err-receive_delivered-in-Deliver.ensures.breaks m in (
       breaks_behind c.in_err-receive_delivered-in-Deliver.field-0.0 (on_link c.args.pair.now c.args.link.now) (on_link c.args.pair.now c.step_link.new.link) c.receive_delivered.new.link
           (steps_on (both_of c.args.pair.now) _ c.args.link.now c.step_link.new.link refl c.in_ok-step_link-in-Deliver.ensures.step) b.0,
-      goes_then g.A.Agreement.client_makes g.A.Agreement.server_makes g.A.Agreement.agrees g.H.HostKeys.makes c.args.link.now c.step_link.new.link c.receive_delivered.new.link c.step_link.ensures.client_keeps c.step_link.ensures.server_keeps c.in_ok-step_link-in-Deliver.ensures.goes b.1,
+      goes_then g.A.Agreement g.H.HostKeys g.G.GroupLookup c.args.link.now c.step_link.new.link c.receive_delivered.new.link c.step_link.ensures.client_keeps c.step_link.ensures.server_keeps c.in_ok-step_link-in-Deliver.ensures.goes b.1,
     ))
 
 pub returns-in_err-submit_made-in-Submit-clause-stops : goal.returns-in_err-submit_made-in-Submit-clause-stops
@@ -48,7 +48,7 @@ returns-in_err-step_link-in-Deliver-clause-stops g c = stopped_right c.from_resi
 
 pub returns-in_err-receive_delivered-in-Deliver-clause-stops : goal.returns-in_err-receive_delivered-in-Deliver-clause-stops
 returns-in_err-receive_delivered-in-Deliver-clause-stops g c = stopped_right c.from_residual-in_err-receive_delivered-in-Deliver.result c.in_err-receive_delivered-in-Deliver.field-0.0 _ _ _ (search rules)
-    (λ e d good. refused_then g.A.Agreement.client_makes g.A.Agreement.server_makes g.A.Agreement.agrees g.H.HostKeys.makes c.args.link.now c.step_link.new.link c.args.client_parts.now c.step_link.new.client_parts c.receive_delivered.new.client_parts c.args.server_parts.now c.step_link.new.server_parts c.receive_delivered.new.server_parts e
+    (λ e d good. refused_then g.A.Agreement g.H.HostKeys g.G.GroupLookup c.args.link.now c.step_link.new.link c.args.client_parts.now c.step_link.new.client_parts c.receive_delivered.new.client_parts c.args.server_parts.now c.step_link.new.server_parts c.receive_delivered.new.server_parts e
     c.step_link.ensures.client_keeps c.step_link.ensures.server_keeps c.in_ok-step_link-in-Deliver.ensures.goes (c.in_err-receive_delivered-in-Deliver.ensures.stops e d good))
 
 pub returns-in_err-step_link-in-Rekey-clause-stops : goal.returns-in_err-step_link-in-Rekey-clause-stops

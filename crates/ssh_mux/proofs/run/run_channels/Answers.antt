@@ -3,7 +3,6 @@ use Rattle.ssh_wire.specs.declared.error.Error.TheVariants.{Disconnect}
 use Rattle.ssh_wire.specs.declared.side.Side.{Side}
 use Rattle.ssh_wire.specs.declared.side.Side.TheVariants.{Client, Server}
 use Rattle.ssh_kex.specs.Parts.{Setup}
-use Rattle.ssh_kex.specs.Stepping.{says_of}
 use Rattle.ssh_rules.specs.Headline.{IsLink, chosen_by, kind_by}
 use Rattle.ssh_rules.specs.LinkCauses.{Rises, unobliged_of}
 use Rattle.ssh_rules.specs.RunLaws.{config_of}
@@ -21,6 +20,7 @@ use Rattle.ssh_mux.proofs.Breaking.{first_breaks, never_message}
 use Rattle.ssh_mux.proofs.Honesty.{run_unbroken}
 use Rattle.ssh_mux.proofs.Linking.{run_is_link, so_far_is_link, told_of}
 use Rattle.ssh_kex.specs.Fields.{IsOutside}
+use Rattle.ssh_kex.specs.Stepping.{says_of}
 use Rattle.ssh_mux.proofs.Obliging.{NoneRises, memory_only, new_wanting}
 use Rattle.ssh_mux.proofs.OnTime.{link_honest}
 use Rattle.ssh_mux.proofs.Refusing.{before_told, whole_told}
@@ -38,8 +38,8 @@ returns-in-Ok-run_steps-clause-link g c = λ la lb lg.
     let last = on_link c.run_steps.new.pair c.run_steps.new.link in
     told_of (λ r. IsLink g.A.Agreement.client_makes g.A.Agreement.server_makes g.A.Agreement.agrees t.client t.server r.steps.items r.link) last c.ended.result c.report_of.result c.ended.ensures.ran c.report_of.ensures.tells
     (λ r tells. run_is_link
-    (λ q. says_of g.A.Agreement.lawful g.A.Agreement.offered g.A.Agreement.client_makes g.A.Agreement.server_makes g.A.Agreement.agrees g.H.HostKeys.lawful g.H.HostKeys.signs g.H.HostKeys.judges g.H.HostKeys.accepts g.H.HostKeys.trusts g.H.HostKeys.makes g.G.GroupLookup.lawful g.G.GroupLookup.group q c.args.client_parts.now.agreement c.args.client_parts.now.hosts c.args.client_parts.now.groups)
-    (λ q. says_of g.A.Agreement.lawful g.A.Agreement.offered g.A.Agreement.client_makes g.A.Agreement.server_makes g.A.Agreement.agrees g.H.HostKeys.lawful g.H.HostKeys.signs g.H.HostKeys.judges g.H.HostKeys.accepts g.H.HostKeys.trusts g.H.HostKeys.makes g.G.GroupLookup.lawful g.G.GroupLookup.group q c.args.server_parts.now.agreement c.args.server_parts.now.hosts c.args.server_parts.now.groups)
+    (λ q. says_of g.A.Agreement g.H.HostKeys g.G.GroupLookup q c.args.client_parts.now.agreement c.args.client_parts.now.hosts c.args.client_parts.now.groups)
+    (λ q. says_of g.A.Agreement g.H.HostKeys g.G.GroupLookup q c.args.server_parts.now.agreement c.args.server_parts.now.hosts c.args.server_parts.now.groups)
     t.client t.server g.A.Agreement.client_makes g.A.Agreement.server_makes g.A.Agreement.agrees c.in-Ok.link last r
     c.in-Ok.ensures.client c.in-Ok.ensures.server c.see_config.ensures.sizes c.see_config-2.ensures.sizes c.see_config.ensures.text c.see_config-2.ensures.text
     (subst (λ l. length l < 2 ^ 64) c.steps.ensures c.see_steps.ensures.few)
@@ -54,8 +54,8 @@ returns-clause-before g c = λ la lb lg.
     let last = on_link c.run_steps.new.pair c.run_steps.new.link in
     before_told (λ r. IsLink g.A.Agreement.client_makes g.A.Agreement.server_makes g.A.Agreement.agrees t.client t.server r.steps.items r.link) c.in-Err-run_steps.fault last c.broken_off.result c.broken_off.ensures.ended
     (λ m r tells. run_is_link
-    (λ q. says_of g.A.Agreement.lawful g.A.Agreement.offered g.A.Agreement.client_makes g.A.Agreement.server_makes g.A.Agreement.agrees g.H.HostKeys.lawful g.H.HostKeys.signs g.H.HostKeys.judges g.H.HostKeys.accepts g.H.HostKeys.trusts g.H.HostKeys.makes g.G.GroupLookup.lawful g.G.GroupLookup.group q c.args.client_parts.now.agreement c.args.client_parts.now.hosts c.args.client_parts.now.groups)
-    (λ q. says_of g.A.Agreement.lawful g.A.Agreement.offered g.A.Agreement.client_makes g.A.Agreement.server_makes g.A.Agreement.agrees g.H.HostKeys.lawful g.H.HostKeys.signs g.H.HostKeys.judges g.H.HostKeys.accepts g.H.HostKeys.trusts g.H.HostKeys.makes g.G.GroupLookup.lawful g.G.GroupLookup.group q c.args.server_parts.now.agreement c.args.server_parts.now.hosts c.args.server_parts.now.groups)
+    (λ q. says_of g.A.Agreement g.H.HostKeys g.G.GroupLookup q c.args.client_parts.now.agreement c.args.client_parts.now.hosts c.args.client_parts.now.groups)
+    (λ q. says_of g.A.Agreement g.H.HostKeys g.G.GroupLookup q c.args.server_parts.now.agreement c.args.server_parts.now.hosts c.args.server_parts.now.groups)
     t.client t.server g.A.Agreement.client_makes g.A.Agreement.server_makes g.A.Agreement.agrees c.in-Ok.link last r
     c.in-Ok.ensures.client c.in-Ok.ensures.server c.see_config.ensures.sizes c.see_config-2.ensures.sizes c.see_config.ensures.text c.see_config-2.ensures.text
     (subst (λ l. length l < 2 ^ 64) c.steps-in-Err-run_steps.ensures c.see_steps-in-Err-run_steps.ensures.few)
@@ -72,8 +72,8 @@ returns-clause-unrefused g c = λ la lb lg.
     run_unbroken c.args.setup.now.channels (sym c.if-not-is_within.ensures) c.in-Ok.link.carried c.in-Err-run_steps.fault c.run_steps.new.link
     (link_honest g.A.Agreement.client_makes g.A.Agreement.server_makes g.A.Agreement.agrees t.client t.server c.run_steps.new.link
     (so_far_is_link
-    (λ q. says_of g.A.Agreement.lawful g.A.Agreement.offered g.A.Agreement.client_makes g.A.Agreement.server_makes g.A.Agreement.agrees g.H.HostKeys.lawful g.H.HostKeys.signs g.H.HostKeys.judges g.H.HostKeys.accepts g.H.HostKeys.trusts g.H.HostKeys.makes g.G.GroupLookup.lawful g.G.GroupLookup.group q c.args.client_parts.now.agreement c.args.client_parts.now.hosts c.args.client_parts.now.groups)
-    (λ q. says_of g.A.Agreement.lawful g.A.Agreement.offered g.A.Agreement.client_makes g.A.Agreement.server_makes g.A.Agreement.agrees g.H.HostKeys.lawful g.H.HostKeys.signs g.H.HostKeys.judges g.H.HostKeys.accepts g.H.HostKeys.trusts g.H.HostKeys.makes g.G.GroupLookup.lawful g.G.GroupLookup.group q c.args.server_parts.now.agreement c.args.server_parts.now.hosts c.args.server_parts.now.groups)
+    (λ q. says_of g.A.Agreement g.H.HostKeys g.G.GroupLookup q c.args.client_parts.now.agreement c.args.client_parts.now.hosts c.args.client_parts.now.groups)
+    (λ q. says_of g.A.Agreement g.H.HostKeys g.G.GroupLookup q c.args.server_parts.now.agreement c.args.server_parts.now.hosts c.args.server_parts.now.groups)
     t.client t.server g.A.Agreement.client_makes g.A.Agreement.server_makes g.A.Agreement.agrees c.in-Ok.link c.run_steps.new.link
     c.in-Ok.ensures.client c.in-Ok.ensures.server c.see_config.ensures.sizes c.see_config-2.ensures.sizes c.see_config.ensures.text c.see_config-2.ensures.text
     (subst (λ l. length l < 2 ^ 64) c.steps-in-Err-run_steps.ensures c.see_steps-in-Err-run_steps.ensures.few)
@@ -89,10 +89,10 @@ returns-clause-causes g c = λ la lb lh li lg.
     let a = c.args.client_parts.now.agreement in
     let vc = c.in-Ok.ensures.client in
     let vs = c.in-Ok.ensures.server in
-    let keeps = keeps_of g.A.Agreement.lawful g.A.Agreement.obliging g.A.Agreement.offered g.A.Agreement.refusals g.A.Agreement.calls g.H.HostKeys.lawful g.H.HostKeys.signs g.H.HostKeys.judges g.H.HostKeys.accepts g.H.HostKeys.trusts g.H.HostKeys.refused_sign g.H.HostKeys.refused_verify g.H.HostKeys.refused_check g.H.HostKeys.calls g.G.GroupLookup.lawful g.G.GroupLookup.obliging g.G.GroupLookup.group g.G.GroupLookup.refusals g.G.GroupLookup.calls in
-    let tells = tells_of g.A.Agreement.lawful g.A.Agreement.obliging g.A.Agreement.offered g.A.Agreement.client_makes g.A.Agreement.server_makes g.A.Agreement.agrees g.A.Agreement.refusals g.H.HostKeys.lawful g.H.HostKeys.signs g.H.HostKeys.judges g.H.HostKeys.accepts g.H.HostKeys.trusts g.H.HostKeys.makes g.H.HostKeys.refused_sign g.H.HostKeys.refused_verify g.H.HostKeys.refused_check g.G.GroupLookup.lawful g.G.GroupLookup.obliging g.G.GroupLookup.group g.G.GroupLookup.refusals in
-    let tell : Side → Telling = tells_by (telling_of g.A.Agreement.lawful g.A.Agreement.obliging g.A.Agreement.offered g.A.Agreement.client_makes g.A.Agreement.server_makes g.A.Agreement.agrees g.A.Agreement.refusals g.H.HostKeys.lawful g.H.HostKeys.signs g.H.HostKeys.judges g.H.HostKeys.accepts g.H.HostKeys.trusts g.H.HostKeys.makes g.H.HostKeys.refused_sign g.H.HostKeys.refused_verify g.H.HostKeys.refused_check g.G.GroupLookup.lawful g.G.GroupLookup.obliging g.G.GroupLookup.group g.G.GroupLookup.refusals t.client c.args.client_parts.now.agreement c.run_steps.new.client_parts.agreement c.args.client_parts.now.hosts c.run_steps.new.client_parts.hosts c.args.client_parts.now.groups c.run_steps.new.client_parts.groups) (telling_of g.A.Agreement.lawful g.A.Agreement.obliging g.A.Agreement.offered g.A.Agreement.client_makes g.A.Agreement.server_makes g.A.Agreement.agrees g.A.Agreement.refusals g.H.HostKeys.lawful g.H.HostKeys.signs g.H.HostKeys.judges g.H.HostKeys.accepts g.H.HostKeys.trusts g.H.HostKeys.makes g.H.HostKeys.refused_sign g.H.HostKeys.refused_verify g.H.HostKeys.refused_check g.G.GroupLookup.lawful g.G.GroupLookup.obliging g.G.GroupLookup.group g.G.GroupLookup.refusals t.server c.args.server_parts.now.agreement c.run_steps.new.server_parts.agreement c.args.server_parts.now.hosts c.run_steps.new.server_parts.hosts c.args.server_parts.now.groups c.run_steps.new.server_parts.groups) in
-    let un = unobliged_of g.A.Agreement.obliging g.A.Agreement.refusals g.H.HostKeys.signs g.H.HostKeys.judges g.H.HostKeys.refused_sign g.H.HostKeys.refused_verify g.H.HostKeys.refused_check g.G.GroupLookup.obliging g.G.GroupLookup.group g.G.GroupLookup.refusals t c.args.server_parts.now.hosts c.args.server_parts.now.groups in
+    let keeps = keeps_of g.A.Agreement g.H.HostKeys g.G.GroupLookup in
+    let tells = tells_of g.A.Agreement g.H.HostKeys g.G.GroupLookup in
+    let tell : Side → Telling = tells_by (telling_of g.A.Agreement g.H.HostKeys g.G.GroupLookup t.client c.args.client_parts.now.agreement c.run_steps.new.client_parts.agreement c.args.client_parts.now.hosts c.run_steps.new.client_parts.hosts c.args.client_parts.now.groups c.run_steps.new.client_parts.groups) (telling_of g.A.Agreement g.H.HostKeys g.G.GroupLookup t.server c.args.server_parts.now.agreement c.run_steps.new.server_parts.agreement c.args.server_parts.now.hosts c.run_steps.new.server_parts.hosts c.args.server_parts.now.groups c.run_steps.new.server_parts.groups) in
+    let un = unobliged_of g.A.Agreement g.H.HostKeys g.G.GroupLookup t c.args.server_parts.now.hosts c.args.server_parts.now.groups in
     let rises : Side → Rises = rises_by (un c.args.client_parts.now.agreement c.run_steps.new.client_parts.agreement c.args.client_parts.now.hosts c.run_steps.new.client_parts.hosts c.args.client_parts.now.groups c.run_steps.new.client_parts.groups) (un c.args.server_parts.now.agreement c.run_steps.new.server_parts.agreement c.args.server_parts.now.hosts c.run_steps.new.server_parts.hosts c.args.server_parts.now.groups c.run_steps.new.server_parts.groups) in
     let offered = offered_on (g.A.Agreement.offered c.args.client_parts.now.agreement) (g.A.Agreement.offered c.args.server_parts.now.agreement) in
     let found = g.G.GroupLookup.group c.args.server_parts.now.groups t.client.gex in
@@ -110,7 +110,7 @@ returns-clause-causes g c = λ la lb lh li lg.
       | inl same ↦ elim (c.in-Err-run_steps.ensures.stops e (sym same ∙ d) made) [
         | inl out ↦ absurd (never_out c.args.setup.now.channels (sym c.if-not-is_within.ensures) c.in-Ok.link.carried (on_link c.run_steps.new.pair c.run_steps.new.link)
             (link_honest g.A.Agreement.client_makes g.A.Agreement.server_makes g.A.Agreement.agrees t.client t.server c.run_steps.new.link
-            (so_far_is_link (λ q. says_of g.A.Agreement.lawful g.A.Agreement.offered g.A.Agreement.client_makes g.A.Agreement.server_makes g.A.Agreement.agrees g.H.HostKeys.lawful g.H.HostKeys.signs g.H.HostKeys.judges g.H.HostKeys.accepts g.H.HostKeys.trusts g.H.HostKeys.makes g.G.GroupLookup.lawful g.G.GroupLookup.group q c.args.client_parts.now.agreement c.args.client_parts.now.hosts c.args.client_parts.now.groups) (λ q. says_of g.A.Agreement.lawful g.A.Agreement.offered g.A.Agreement.client_makes g.A.Agreement.server_makes g.A.Agreement.agrees g.H.HostKeys.lawful g.H.HostKeys.signs g.H.HostKeys.judges g.H.HostKeys.accepts g.H.HostKeys.trusts g.H.HostKeys.makes g.G.GroupLookup.lawful g.G.GroupLookup.group q c.args.server_parts.now.agreement c.args.server_parts.now.hosts c.args.server_parts.now.groups) t.client t.server g.A.Agreement.client_makes g.A.Agreement.server_makes g.A.Agreement.agrees c.in-Ok.link c.run_steps.new.link
+            (so_far_is_link (λ q. says_of g.A.Agreement g.H.HostKeys g.G.GroupLookup q c.args.client_parts.now.agreement c.args.client_parts.now.hosts c.args.client_parts.now.groups) (λ q. says_of g.A.Agreement g.H.HostKeys g.G.GroupLookup q c.args.server_parts.now.agreement c.args.server_parts.now.hosts c.args.server_parts.now.groups) t.client t.server g.A.Agreement.client_makes g.A.Agreement.server_makes g.A.Agreement.agrees c.in-Ok.link c.run_steps.new.link
             vc vs c.see_config.ensures.sizes c.see_config-2.ensures.sizes c.see_config.ensures.text c.see_config-2.ensures.text
             (subst (λ l. length l < 2 ^ 64) c.steps-in-Err-run_steps.ensures c.see_steps-in-Err-run_steps.ensures.few)
             (record { for_client = λ name group local public e. e t la; for_server = λ name group client public e. e t lb; for_secret = λ name group x y secret e. e t la })
@@ -122,19 +122,19 @@ returns-clause-causes g c = λ la lb lh li lg.
         | inr r ↦ link_cause rises (config_of t) offered found (r.mid.steps ++ r.step ∷ []) e
             (refused_good keeps tells c.in-Ok.link c.args.client_parts.now c.run_steps.new.client_parts c.args.server_parts.now c.run_steps.new.server_parts e c.in-Ok.ensures.first r)
             (run_cause tell (config_of t) rises offered found (r.mid.steps ++ r.step ∷ []) e lawful
-            (λ v. lawful_causes g.A.Agreement.lawful g.A.Agreement.obliging g.A.Agreement.offered g.A.Agreement.client_makes g.A.Agreement.server_makes g.A.Agreement.agrees g.A.Agreement.refusals g.H.HostKeys.lawful g.H.HostKeys.signs g.H.HostKeys.judges g.H.HostKeys.accepts g.H.HostKeys.trusts g.H.HostKeys.makes g.H.HostKeys.refused_sign g.H.HostKeys.refused_verify g.H.HostKeys.refused_check g.G.GroupLookup.lawful g.G.GroupLookup.obliging g.G.GroupLookup.group g.G.GroupLookup.refusals (record { agreement = g.met.A.Agreement.obliging_lawful; lookup = g.met.G.GroupLookup.obliging_lawful; fits = g.met.G.GroupLookup.fitting; accepted = g.met.H.HostKeys.judges_accepts; trusted = g.met.H.HostKeys.judges_trusts }) g.met.G.GroupLookup.small t
+            (λ v. lawful_causes g.A.Agreement g.H.HostKeys g.G.GroupLookup (record { agreement = g.met.A.Agreement.obliging_lawful; lookup = g.met.G.GroupLookup.obliging_lawful; fits = g.met.G.GroupLookup.fitting; accepted = g.met.H.HostKeys.judges_accepts; trusted = g.met.H.HostKeys.judges_trusts }) g.met.G.GroupLookup.small t
             c.args.client_parts.now.agreement c.run_steps.new.client_parts.agreement c.args.server_parts.now.agreement c.run_steps.new.server_parts.agreement c.args.client_parts.now.hosts c.run_steps.new.client_parts.hosts c.args.server_parts.now.hosts c.run_steps.new.server_parts.hosts
             c.args.client_parts.now.groups c.run_steps.new.client_parts.groups c.args.server_parts.now.groups c.run_steps.new.server_parts.groups la lb lh li lg (lawful v))
             (λ v. whole)
             (refuses_link keeps tells t.client t.server c.in-Ok.link c.args.client_parts.now c.run_steps.new.client_parts c.args.server_parts.now c.run_steps.new.server_parts e
-            (parts_later g.A.Agreement.lawful g.A.Agreement.obliging g.A.Agreement.offered g.A.Agreement.client_makes g.A.Agreement.server_makes g.A.Agreement.agrees g.A.Agreement.refusals g.A.Agreement.calls g.H.HostKeys.lawful g.H.HostKeys.signs g.H.HostKeys.judges g.H.HostKeys.accepts g.H.HostKeys.trusts g.H.HostKeys.makes g.H.HostKeys.refused_sign g.H.HostKeys.refused_verify g.H.HostKeys.refused_check g.H.HostKeys.calls g.G.GroupLookup.lawful g.G.GroupLookup.obliging g.G.GroupLookup.group g.G.GroupLookup.refusals g.G.GroupLookup.calls) vc vs c.in-Ok.ensures.new c.in-Ok.ensures.first r))
+            (parts_later g.A.Agreement g.H.HostKeys g.G.GroupLookup) vc vs c.in-Ok.ensures.new c.in-Ok.ensures.first r))
       ]
     ]
 
 pub returns-clause-ends : goal.returns-clause-ends
 returns-clause-ends g c = λ la lb lh li lg.
     let t : Setup = record { client = c.args.setup.now.client.now; server = c.args.setup.now.server.now } in
-    let un = unobliged_of g.A.Agreement.obliging g.A.Agreement.refusals g.H.HostKeys.signs g.H.HostKeys.judges g.H.HostKeys.refused_sign g.H.HostKeys.refused_verify g.H.HostKeys.refused_check g.G.GroupLookup.obliging g.G.GroupLookup.group g.G.GroupLookup.refusals t c.args.server_parts.now.hosts c.args.server_parts.now.groups in
+    let un = unobliged_of g.A.Agreement g.H.HostKeys g.G.GroupLookup t c.args.server_parts.now.hosts c.args.server_parts.now.groups in
     let rises : Side → Rises = rises_by (un c.args.client_parts.now.agreement c.run_steps.new.client_parts.agreement c.args.client_parts.now.hosts c.run_steps.new.client_parts.hosts c.args.client_parts.now.groups c.run_steps.new.client_parts.groups) (un c.args.server_parts.now.agreement c.run_steps.new.server_parts.agreement c.args.server_parts.now.hosts c.run_steps.new.server_parts.hosts c.args.server_parts.now.groups c.run_steps.new.server_parts.groups) in
     let offered = offered_on (g.A.Agreement.offered c.args.client_parts.now.agreement) (g.A.Agreement.offered c.args.server_parts.now.agreement) in
     let found = g.G.GroupLookup.group c.args.server_parts.now.groups t.client.gex in
@@ -143,7 +143,7 @@ returns-clause-ends g c = λ la lb lh li lg.
 pub returns-clause-complete : goal.returns-clause-complete
 returns-clause-complete g c = λ v oa ob jh si lg oj.
     let t : Setup = record { client = c.args.setup.now.client.now; server = c.args.setup.now.server.now } in
-    let un = unobliged_of g.A.Agreement.obliging g.A.Agreement.refusals g.H.HostKeys.signs g.H.HostKeys.judges g.H.HostKeys.refused_sign g.H.HostKeys.refused_verify g.H.HostKeys.refused_check g.G.GroupLookup.obliging g.G.GroupLookup.group g.G.GroupLookup.refusals t c.args.server_parts.now.hosts c.args.server_parts.now.groups in
+    let un = unobliged_of g.A.Agreement g.H.HostKeys g.G.GroupLookup t c.args.server_parts.now.hosts c.args.server_parts.now.groups in
     let rises : Side → Rises = rises_by (un c.args.client_parts.now.agreement c.run_steps.new.client_parts.agreement c.args.client_parts.now.hosts c.run_steps.new.client_parts.hosts c.args.client_parts.now.groups c.run_steps.new.client_parts.groups) (un c.args.server_parts.now.agreement c.run_steps.new.server_parts.agreement c.args.server_parts.now.hosts c.run_steps.new.server_parts.hosts c.args.server_parts.now.groups c.run_steps.new.server_parts.groups) in
     let offered = offered_on (g.A.Agreement.offered c.args.client_parts.now.agreement) (g.A.Agreement.offered c.args.server_parts.now.agreement) in
     let found = g.G.GroupLookup.group c.args.server_parts.now.groups t.client.gex in

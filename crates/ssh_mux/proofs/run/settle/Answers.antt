@@ -21,24 +21,24 @@ loop-turn-preserved g c = record {
   turns = turns_more c.loop-turn._turn (on_link c.args.pair.now c.args.link.now) (on_link c.loop-turn.pair c.loop-turn.link) (on_link c.carry_all.new.pair c.carry_all.new.link) c.loop-turn.invariant.turns (c.in_ok-carry_all.ensures.turns c.if-not-branch.false);
   carries = carries_then (on_link c.args.pair.now c.args.link.now) (on_link c.loop-turn.pair c.loop-turn.link) (on_link c.carry_all.new.pair c.carry_all.new.link) c.loop-turn.invariant.carries c.in_ok-carry_all.ensures.carries;
   settles = any_more c.args.link.now c.loop-turn.link c.carry_all.new.link c.loop-turn.invariant.settles c.in_ok-carry_all.ensures.settles;
-  goes = goes_then g.A.Agreement.client_makes g.A.Agreement.server_makes g.A.Agreement.agrees g.H.HostKeys.makes c.args.link.now c.loop-turn.link c.carry_all.new.link c.loop-turn.invariant.client_keeps c.loop-turn.invariant.server_keeps c.loop-turn.invariant.goes c.in_ok-carry_all.ensures.goes;
-  client_keeps = parts_after c.loop-turn.invariant.client_keeps c.carry_all.ensures.client_keeps;
-  server_keeps = parts_after c.loop-turn.invariant.server_keeps c.carry_all.ensures.server_keeps;
+  goes = goes_then g.A.Agreement g.H.HostKeys g.G.GroupLookup c.args.link.now c.loop-turn.link c.carry_all.new.link c.loop-turn.invariant.client_keeps c.loop-turn.invariant.server_keeps c.loop-turn.invariant.goes c.in_ok-carry_all.ensures.goes;
+  client_keeps = parts_after g.A.Agreement g.H.HostKeys g.G.GroupLookup c.loop-turn.invariant.client_keeps c.carry_all.ensures.client_keeps;
+  server_keeps = parts_after g.A.Agreement g.H.HostKeys g.G.GroupLookup c.loop-turn.invariant.server_keeps c.carry_all.ensures.server_keeps;
 }
 
 pub returns-then-not-branch-clause-goes : goal.returns-then-not-branch-clause-goes
-returns-then-not-branch-clause-goes g c = goes_then g.A.Agreement.client_makes g.A.Agreement.server_makes g.A.Agreement.agrees g.H.HostKeys.makes c.args.link.now c.loop-turn.link c.carry_all.new.link c.loop-turn.invariant.client_keeps c.loop-turn.invariant.server_keeps c.loop-turn.invariant.goes c.in_ok-carry_all.ensures.goes
+returns-then-not-branch-clause-goes g c = goes_then g.A.Agreement g.H.HostKeys g.G.GroupLookup c.args.link.now c.loop-turn.link c.carry_all.new.link c.loop-turn.invariant.client_keeps c.loop-turn.invariant.server_keeps c.loop-turn.invariant.goes c.in_ok-carry_all.ensures.goes
 
 pub returns-in_err-carry_all-clause-breaks : goal.returns-in_err-carry_all-clause-breaks
 returns-in_err-carry_all-clause-breaks g c = broken_so c.from_residual.result c.in_err-carry_all.field-0.0 (on_link c.args.pair.now c.args.link.now) c.carry_all.new.link _ (search rules)
     (λ m. let b = c.in_err-carry_all.ensures.breaks m in (
       breaks_behind c.in_err-carry_all.field-0.0 (on_link c.args.pair.now c.args.link.now) (on_link c.loop-turn.pair c.loop-turn.link) c.carry_all.new.link c.loop-turn.invariant.carries b.0,
-      goes_then g.A.Agreement.client_makes g.A.Agreement.server_makes g.A.Agreement.agrees g.H.HostKeys.makes c.args.link.now c.loop-turn.link c.carry_all.new.link c.loop-turn.invariant.client_keeps c.loop-turn.invariant.server_keeps c.loop-turn.invariant.goes b.1,
+      goes_then g.A.Agreement g.H.HostKeys g.G.GroupLookup c.args.link.now c.loop-turn.link c.carry_all.new.link c.loop-turn.invariant.client_keeps c.loop-turn.invariant.server_keeps c.loop-turn.invariant.goes b.1,
     ))
 
 pub returns-in_err-carry_all-clause-stops : goal.returns-in_err-carry_all-clause-stops
 returns-in_err-carry_all-clause-stops g c = stopped_right c.from_residual.result c.in_err-carry_all.field-0.0 _ _ _ (search rules)
-    (λ e d good. refused_then g.A.Agreement.client_makes g.A.Agreement.server_makes g.A.Agreement.agrees g.H.HostKeys.makes c.args.link.now c.loop-turn.link c.args.client_parts.now c.loop-turn.client_parts c.carry_all.new.client_parts c.args.server_parts.now c.loop-turn.server_parts c.carry_all.new.server_parts e
+    (λ e d good. refused_then g.A.Agreement g.H.HostKeys g.G.GroupLookup c.args.link.now c.loop-turn.link c.args.client_parts.now c.loop-turn.client_parts c.carry_all.new.client_parts c.args.server_parts.now c.loop-turn.server_parts c.carry_all.new.server_parts e
     c.loop-turn.invariant.client_keeps c.loop-turn.invariant.server_keeps c.loop-turn.invariant.goes (c.in_err-carry_all.ensures.stops e d
     (carries_good (on_link c.args.pair.now c.args.link.now) (on_link c.loop-turn.pair c.loop-turn.link) c.loop-turn.invariant.carries good)))
 

@@ -1,13 +1,13 @@
 use Rattle.std.proofs.Common.{[], ◌++◌, ◌∙◌, arith, length-append, refl, subst}
-use Rattle.ssh_kex.specs.Stepping.{denies_of, says_of}
 use Rattle.ssh_kex.specs.declared.config.Config.{Config}
 use Rattle.ssh_kex.specs.declared.exchange.ServerHost.{ServerHost}
-use Rattle.ssh_rules.specs.Refusing.{untrusted_of}
 use Rattle.ssh_transport.proofs.Lemmas.{agreement_after, agreement_same, groups_after, groups_same, hosts_after, hosts_same, kept_denying, kept_untrusting, kept_weaker}
 use Rattle.ssh_pipe.specs.Talks.{TellsFault}
 use Rattle.ssh_pipe.specs.declared.end.TalkEnd.TheVariants.{SinkFailed, SourceFailed}
 use Rattle.ssh_pipe.proofs.Ways.{ends_behind, ends_spent, reaches_later, takes_join, takes_none, talks_behind, talks_nowhere}
 use Rattle.ssh_pipe.proofs.talking.take_turns.Goals as goal
+use Rattle.ssh_kex.specs.Stepping.{denies_of, says_of}
+use Rattle.ssh_rules.specs.Refusing.{untrusted_of}
 
 pub turns-init : goal.turns-init
 turns-init g c = record {
@@ -26,7 +26,7 @@ turns-preserved g c =
     let inv = c.turns.invariant in
     let p = c.turn-end.ensures.more c.in-None.is in
     record {
-      gone = (inv.gone.0 ++ p.0, takes_join inv.gone.0 p.0 _ _ _ inv.gone.1 p.1, talks_behind (λ (k : Config). says_of g.A.Agreement.lawful g.A.Agreement.offered g.A.Agreement.client_makes g.A.Agreement.server_makes g.A.Agreement.agrees g.H.HostKeys.lawful g.H.HostKeys.signs g.H.HostKeys.judges g.H.HostKeys.accepts g.H.HostKeys.trusts g.H.HostKeys.makes g.G.GroupLookup.lawful g.G.GroupLookup.group k c.args.parts.now.agreement c.args.parts.now.hosts c.args.parts.now.groups) (λ (k : Config). says_of g.A.Agreement.lawful g.A.Agreement.offered g.A.Agreement.client_makes g.A.Agreement.server_makes g.A.Agreement.agrees g.H.HostKeys.lawful g.H.HostKeys.signs g.H.HostKeys.judges g.H.HostKeys.accepts g.H.HostKeys.trusts g.H.HostKeys.makes g.G.GroupLookup.lawful g.G.GroupLookup.group k c.turns.parts.agreement c.turns.parts.hosts c.turns.parts.groups) (λ (k : Config). kept_weaker _ _ _ _ _ _ _ _ _ _ g.H.HostKeys.makes _ _ _ _ _ _ _ _ _ _ _ _ _ _ _ _ _ _ _ inv.agreement inv.hosts inv.groups) c.args.desk.now c.turns.desk c.turn-end.new.desk c.args.transport.now _ inv.gone.0 c.turns.transport _ p.0 c.turn-end.new.transport _ inv.config inv.gone.2 p.2, let e = length-append inv.gone.0 p.0 in let a = inv.gone.3 in let b = p.3 in omega (arith, e, a, b));
+      gone = (inv.gone.0 ++ p.0, takes_join inv.gone.0 p.0 _ _ _ inv.gone.1 p.1, talks_behind (λ (k : Config). says_of g.A.Agreement g.H.HostKeys g.G.GroupLookup k c.args.parts.now.agreement c.args.parts.now.hosts c.args.parts.now.groups) (λ (k : Config). says_of g.A.Agreement g.H.HostKeys g.G.GroupLookup k c.turns.parts.agreement c.turns.parts.hosts c.turns.parts.groups) (λ (k : Config). kept_weaker g.A.Agreement g.H.HostKeys g.G.GroupLookup _ _ _ _ _ _ _ inv.agreement inv.hosts inv.groups) c.args.desk.now c.turns.desk c.turn-end.new.desk c.args.transport.now _ inv.gone.0 c.turns.transport _ p.0 c.turn-end.new.transport _ inv.config inv.gone.2 p.2, let e = length-append inv.gone.0 p.0 in let a = inv.gone.3 in let b = p.3 in omega (arith, e, a, b));
       live = c.turn-end.ensures.live c.in-None.is;
       config = c.turn-end.ensures.config c.in-None.is ∙ inv.config;
       source = (c.turn-end.ensures.unfailed c.in-None.is).0 ∙ inv.source;
@@ -45,7 +45,7 @@ pub returns-in-Some-clause-talked : goal.returns-in-Some-clause-talked
 returns-in-Some-clause-talked g c =
     let inv = c.turns.invariant in
     let p = c.in-Some.ensures.ends in
-    (inv.gone.0 ++ p.0, takes_join inv.gone.0 p.0 _ _ _ inv.gone.1 p.1, ends_behind (λ (k : Config). says_of g.A.Agreement.lawful g.A.Agreement.offered g.A.Agreement.client_makes g.A.Agreement.server_makes g.A.Agreement.agrees g.H.HostKeys.lawful g.H.HostKeys.signs g.H.HostKeys.judges g.H.HostKeys.accepts g.H.HostKeys.trusts g.H.HostKeys.makes g.G.GroupLookup.lawful g.G.GroupLookup.group k c.args.parts.now.agreement c.args.parts.now.hosts c.args.parts.now.groups) (λ (k : Config). says_of g.A.Agreement.lawful g.A.Agreement.offered g.A.Agreement.client_makes g.A.Agreement.server_makes g.A.Agreement.agrees g.H.HostKeys.lawful g.H.HostKeys.signs g.H.HostKeys.judges g.H.HostKeys.accepts g.H.HostKeys.trusts g.H.HostKeys.makes g.G.GroupLookup.lawful g.G.GroupLookup.group k c.turns.parts.agreement c.turns.parts.hosts c.turns.parts.groups) (denies_of g.A.Agreement.obliging g.A.Agreement.offered g.A.Agreement.client_makes g.A.Agreement.server_makes g.A.Agreement.refusals g.H.HostKeys.signs g.H.HostKeys.judges g.H.HostKeys.accepts g.H.HostKeys.refused_sign g.H.HostKeys.refused_verify g.G.GroupLookup.obliging g.G.GroupLookup.refusals c.args.parts.now.agreement c.turn-end.new.parts.agreement c.args.parts.now.hosts c.turn-end.new.parts.hosts c.args.parts.now.groups c.turn-end.new.parts.groups) (denies_of g.A.Agreement.obliging g.A.Agreement.offered g.A.Agreement.client_makes g.A.Agreement.server_makes g.A.Agreement.refusals g.H.HostKeys.signs g.H.HostKeys.judges g.H.HostKeys.accepts g.H.HostKeys.refused_sign g.H.HostKeys.refused_verify g.G.GroupLookup.obliging g.G.GroupLookup.refusals c.turns.parts.agreement c.turn-end.new.parts.agreement c.turns.parts.hosts c.turn-end.new.parts.hosts c.turns.parts.groups c.turn-end.new.parts.groups) (untrusted_of g.H.HostKeys.judges g.H.HostKeys.trusts g.H.HostKeys.refused_check c.args.parts.now.hosts c.turn-end.new.parts.hosts) (untrusted_of g.H.HostKeys.judges g.H.HostKeys.trusts g.H.HostKeys.refused_check c.turns.parts.hosts c.turn-end.new.parts.hosts) (λ (k : Config). kept_denying g.A.Agreement.lawful g.A.Agreement.offered g.A.Agreement.client_makes g.A.Agreement.server_makes g.A.Agreement.agrees g.H.HostKeys.lawful g.H.HostKeys.signs g.H.HostKeys.judges g.H.HostKeys.accepts g.H.HostKeys.trusts g.H.HostKeys.makes g.G.GroupLookup.lawful g.G.GroupLookup.group k c.args.parts.now.agreement c.turns.parts.agreement c.turn-end.new.parts.agreement c.args.parts.now.hosts c.turns.parts.hosts c.turn-end.new.parts.hosts c.args.parts.now.groups c.turns.parts.groups c.turn-end.new.parts.groups g.A.Agreement.obliging g.A.Agreement.refusals g.A.Agreement.calls g.H.HostKeys.refused_sign g.H.HostKeys.refused_verify g.H.HostKeys.refused_check g.H.HostKeys.calls g.G.GroupLookup.obliging g.G.GroupLookup.refusals g.G.GroupLookup.calls inv.agreement inv.hosts inv.groups) (λ (x : ServerHost) u. kept_untrusting g.H.HostKeys.lawful g.H.HostKeys.signs g.H.HostKeys.judges g.H.HostKeys.accepts g.H.HostKeys.trusts g.H.HostKeys.refused_sign g.H.HostKeys.refused_verify g.H.HostKeys.refused_check g.H.HostKeys.calls c.args.parts.now.hosts c.turns.parts.hosts c.turn-end.new.parts.hosts x inv.hosts u) c.args.desk.now c.turns.desk c.args.transport.now _ inv.gone.0 c.turns.transport _ p.0 _ _ inv.config inv.gone.2 p.2)
+    (inv.gone.0 ++ p.0, takes_join inv.gone.0 p.0 _ _ _ inv.gone.1 p.1, ends_behind (λ (k : Config). says_of g.A.Agreement g.H.HostKeys g.G.GroupLookup k c.args.parts.now.agreement c.args.parts.now.hosts c.args.parts.now.groups) (λ (k : Config). says_of g.A.Agreement g.H.HostKeys g.G.GroupLookup k c.turns.parts.agreement c.turns.parts.hosts c.turns.parts.groups) (denies_of g.A.Agreement g.H.HostKeys g.G.GroupLookup c.args.parts.now.agreement c.turn-end.new.parts.agreement c.args.parts.now.hosts c.turn-end.new.parts.hosts c.args.parts.now.groups c.turn-end.new.parts.groups) (denies_of g.A.Agreement g.H.HostKeys g.G.GroupLookup c.turns.parts.agreement c.turn-end.new.parts.agreement c.turns.parts.hosts c.turn-end.new.parts.hosts c.turns.parts.groups c.turn-end.new.parts.groups) (untrusted_of g.H.HostKeys c.args.parts.now.hosts c.turn-end.new.parts.hosts) (untrusted_of g.H.HostKeys c.turns.parts.hosts c.turn-end.new.parts.hosts) (λ (k : Config). kept_denying g.A.Agreement g.H.HostKeys g.G.GroupLookup k c.args.parts.now.agreement c.turns.parts.agreement c.turn-end.new.parts.agreement c.args.parts.now.hosts c.turns.parts.hosts c.turn-end.new.parts.hosts c.args.parts.now.groups c.turns.parts.groups c.turn-end.new.parts.groups inv.agreement inv.hosts inv.groups) (λ (x : ServerHost) u. kept_untrusting g.H.HostKeys c.args.parts.now.hosts c.turns.parts.hosts c.turn-end.new.parts.hosts x inv.hosts u) c.args.desk.now c.turns.desk c.args.transport.now _ inv.gone.0 c.turns.transport _ p.0 _ _ inv.config inv.gone.2 p.2)
 
 pub returns-in-Some-clause-whole : goal.returns-in-Some-clause-whole
 returns-in-Some-clause-whole g c = λ is. reaches_later c.turns.invariant.gone.0 _ _ _ c.turns.invariant.gone.1 (c.in-Some.ensures.whole is)

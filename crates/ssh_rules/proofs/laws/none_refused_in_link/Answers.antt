@@ -1,12 +1,12 @@
 use Rattle.std.proofs.Common.{ap, subst}
-use Rattle.ssh_kex.specs.Parts.{KeepsHosts}
 use Rattle.ssh_rules.specs.Headline.{kind_by}
 use Rattle.ssh_rules.specs.Refused.{one_of}
-use Rattle.ssh_rules.specs.Refusing.{untrusted_of}
 use Rattle.ssh_rules.proofs.refusals.LinkCauses.{none_in_link}
 use Rattle.ssh_rules.proofs.refusals.Owed.{duties_of, small_of}
 use Rattle.ssh_rules.proofs.refusals.RefusedTurns.{refused_turn}
 use Rattle.ssh_rules.proofs.laws.none_refused_in_link.Goals as goal
+use Rattle.ssh_kex.specs.Members.{HostsKept}
+use Rattle.ssh_rules.specs.Refusing.{untrusted_of}
 
 pub returns : goal.returns
 returns g c = λ t a a' b b' h h' i i' gr gr' j j' names w cl sl side took piece old new v x y error oa ob jh si oj valid offers ka kh kg r.
@@ -23,13 +23,13 @@ returns g c = λ t a a' b b' h h' i i' gr gr' j j' names w cl sl side took piece
       secret = λ name group local client server p q cm sm cp sq. g.met.A.Agreement.one_secret a t name group local client server p q la (cm t la) (sm t lb) (cp t la) (sq t lb);
       canonical = λ sizes group f. (f t lj).1;
     })
-    (duties_of _ _ _ _ _ _ _ _ _ _ _ _ _ _ _ _ _ _ _ _ _ _ _
+    (duties_of g.A.Agreement g.H.HostKeys g.G.GroupLookup
     (record { agreement = g.met.A.Agreement.obliging_lawful; lookup = g.met.G.GroupLookup.obliging_lawful; fits = g.met.G.GroupLookup.fitting; accepted = g.met.H.HostKeys.judges_accepts; trusted = g.met.H.HostKeys.judges_trusts })
     t a a' b b' h h' i i' gr gr' j j' names.kex side v x y oa ob jh si lj (ap kind_by valid.chosen) (λ k. oj) offers ka kh kg)
-    (small_of g.A.Agreement.lawful g.A.Agreement.offered g.A.Agreement.client_makes g.A.Agreement.server_makes g.A.Agreement.agrees g.H.HostKeys.lawful g.H.HostKeys.signs g.H.HostKeys.judges g.H.HostKeys.accepts g.H.HostKeys.trusts g.H.HostKeys.makes g.G.GroupLookup.lawful g.G.GroupLookup.group g.met.G.GroupLookup.small t a b h i gr j side la lb lh li lj)
+    (small_of g.A.Agreement g.H.HostKeys g.G.GroupLookup g.met.G.GroupLookup.small t a b h i gr j side la lb lh li lj)
     (λ host key client p d.
-    let k = subst (λ z. KeepsHosts g.H.HostKeys.lawful g.H.HostKeys.signs g.H.HostKeys.judges g.H.HostKeys.accepts g.H.HostKeys.trusts g.H.HostKeys.refused_sign g.H.HostKeys.refused_verify g.H.HostKeys.refused_check g.H.HostKeys.calls (one_of z h i) x) client kh in
-    let u = subst (λ z. untrusted_of g.H.HostKeys.judges g.H.HostKeys.trusts g.H.HostKeys.refused_check x (one_of z h' i') host) client d in
+    let k = subst (λ z. HostsKept g.H.HostKeys (one_of z h i) x) client kh in
+    let u = subst (λ z. untrusted_of g.H.HostKeys x (one_of z h' i') host) client d in
     let o = k.judges_kept h' t jh in
     u.1 t o (g.met.H.HostKeys.judges_trusts x h' t host key o p))
     (refused_turn _ _ _ _ w cl sl side took piece old new error

@@ -19,8 +19,8 @@ returns g c = λ t a a' b b' h h' i i' gr gr' j j' names w cl sl side stage item
       secret = λ name group local client server p q cm sm cp sq. g.met.A.Agreement.one_secret a t name group local client server p q la (cm t la) (sm t lb) (cp t la) (sq t lb);
       canonical = λ sizes group f. (f t lj).1;
     })
-    (duties_of _ _ _ _ _ _ _ _ _ _ _ _ _ _ _ _ _ _ _ _ _ _ _
+    (duties_of g.A.Agreement g.H.HostKeys g.G.GroupLookup
     (record { agreement = g.met.A.Agreement.obliging_lawful; lookup = g.met.G.GroupLookup.obliging_lawful; fits = g.met.G.GroupLookup.fitting; accepted = g.met.H.HostKeys.judges_accepts; trusted = g.met.H.HostKeys.judges_trusts })
     t a a' b b' h h' i i' gr gr' j j' names.kex side v x y oa ob jh si lj (ap kind_by valid.chosen) (λ k. oj) offers ka kh kg)
-    (small_of g.A.Agreement.lawful g.A.Agreement.offered g.A.Agreement.client_makes g.A.Agreement.server_makes g.A.Agreement.agrees g.H.HostKeys.lawful g.H.HostKeys.signs g.H.HostKeys.judges g.H.HostKeys.accepts g.H.HostKeys.trusts g.H.HostKeys.makes g.G.GroupLookup.lawful g.G.GroupLookup.group g.met.G.GroupLookup.small t a b h i gr j side la lb lh li lj)
+    (small_of g.A.Agreement g.H.HostKeys g.G.GroupLookup g.met.G.GroupLookup.small t a b h i gr j side la lb lh li lj)
     next refuses

@@ -1,8 +1,8 @@
-use Rattle.ssh_kex.specs.Stepping.{says_of}
 use Rattle.ssh_rules.proofs.refusals.LinkCauses.{link_cause, offers_by}
 use Rattle.ssh_rules.proofs.refusals.Owed.{owes_of, small_of}
 use Rattle.ssh_rules.proofs.refusals.RefusedTurns.{AreLawful, refused_turn}
 use Rattle.ssh_rules.proofs.laws.refusals_have_causes.Goals as goal
+use Rattle.ssh_kex.specs.Stepping.{says_of}
 
 pub returns : goal.returns
 returns g c = λ t a b h i gr j w cl sl side took piece old new v v' x x' y y' error la lb lh li lj keeps valid sizes r.
@@ -15,12 +15,12 @@ returns g c = λ t a b h i gr j w cl sl side took piece old new v v' x x' y y' e
     link_cause _ _ side _ _ _ _ _ w error
     (record {
       lawful = lawful;
-      small = (small_of g.A.Agreement.lawful g.A.Agreement.offered g.A.Agreement.client_makes g.A.Agreement.server_makes g.A.Agreement.agrees g.H.HostKeys.lawful g.H.HostKeys.signs g.H.HostKeys.judges g.H.HostKeys.accepts g.H.HostKeys.trusts g.H.HostKeys.makes g.G.GroupLookup.lawful g.G.GroupLookup.group g.met.G.GroupLookup.small t a b h i gr j side la lb lh li lj);
-      owes = λ kex kind. owes_of g.A.Agreement.lawful g.A.Agreement.obliging g.A.Agreement.offered g.A.Agreement.client_makes g.A.Agreement.server_makes g.A.Agreement.agrees g.A.Agreement.refusals g.H.HostKeys.lawful g.H.HostKeys.signs g.H.HostKeys.judges g.H.HostKeys.accepts g.H.HostKeys.trusts g.H.HostKeys.makes g.H.HostKeys.refused_sign g.H.HostKeys.refused_verify g.H.HostKeys.refused_check g.G.GroupLookup.lawful g.G.GroupLookup.obliging g.G.GroupLookup.group g.G.GroupLookup.refusals
+      small = (small_of g.A.Agreement g.H.HostKeys g.G.GroupLookup g.met.G.GroupLookup.small t a b h i gr j side la lb lh li lj);
+      owes = λ kex kind. owes_of g.A.Agreement g.H.HostKeys g.G.GroupLookup
           (record { agreement = g.met.A.Agreement.obliging_lawful; lookup = g.met.G.GroupLookup.obliging_lawful; fits = g.met.G.GroupLookup.fitting; accepted = g.met.H.HostKeys.judges_accepts; trusted = g.met.H.HostKeys.judges_trusts })
           t a b h i gr j kex side v v' x x' y y' la lb lj kind keeps.offered_kept;
       checks = λ host key client p d. (d.0, λ o. d.1 t o (g.met.H.HostKeys.judges_trusts x x' t host key o p));
-      offers = offers_by (says_of g.A.Agreement.lawful g.A.Agreement.offered g.A.Agreement.client_makes g.A.Agreement.server_makes g.A.Agreement.agrees g.H.HostKeys.lawful g.H.HostKeys.signs g.H.HostKeys.judges g.H.HostKeys.accepts g.H.HostKeys.trusts g.H.HostKeys.makes g.G.GroupLookup.lawful g.G.GroupLookup.group) g.A.Agreement.offered (λ config v x y name o. o) t a b h i gr j side;
+      offers = offers_by (says_of g.A.Agreement g.H.HostKeys g.G.GroupLookup) g.A.Agreement.offered (λ config v x y name o. o) t a b h i gr j side;
       finds = λ q f. (f t lj).0;
     })
     (refused_turn _ _ _ _ w cl sl side took piece old new error lawful r)

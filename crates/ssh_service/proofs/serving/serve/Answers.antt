@@ -1,11 +1,10 @@
-use Rattle.std.proofs.Common.{◌≡◌, ◌∙◌, ◌+◌, ◌≤◌, ◌<◌, ◌++◌, ◌∷◌, [], ℕ, List, Err, Ok, OnErr, Result, ap, arith, length, refl, subst, sym, take}
-use Rattle.ssh_kex.specs.Stepping.{says_of}
-use Rattle.ssh_service.specs.Answers.{StandsFor, answer_after, answers_from}
-use Rattle.ssh_service.specs.Serving.{ServesSome}
+use Rattle.std.proofs.Common.{◌≡◌, ◌∙◌, ◌+◌, ◌≤◌, ◌++◌, ◌∷◌, [], ℕ, List, ap, arith, length, refl, subst, take}
+use Rattle.ssh_service.specs.Answers.{answer_after}
 use Rattle.ssh_service.specs.declared.answer.ServiceAnswer.{ServiceAnswer}
 use Rattle.ssh_service.proofs.AnswersLaws.{always_err, answers_next, received_next, received_same, stands_with, taken_next}
 use Rattle.ssh_service.proofs.ServingLaws.{replies_next, serves_failed, serves_some, submits_keep, submits_there}
 use Rattle.ssh_service.proofs.serving.serve.Goals as goal
+use Rattle.ssh_kex.specs.Stepping.{says_of}
 
 pub loop-payload-preserved : goal.loop-payload-preserved
 loop-payload-preserved g c =
@@ -22,7 +21,7 @@ loop-payload-preserved g c =
       stands = λ earlier st. stands_with c.receive.new.self earlier (take i all) (take (i + 1) all) c.as_slice.result.now done (c.in_ok-answer.ensures.stands (earlier ++ take i all) (inv.stands earlier st));
       offered = c.receive.ensures.offered ∙ inv.offered;
       replies = replies_next _ _ _ _ c.loop-payload.answers.items c.push.new.self.items c.in_ok-answer.answer c.in_ok-push.ensures.items inv.replies
-          (submits_there (says_of g.A.Agreement.lawful g.A.Agreement.offered g.A.Agreement.client_makes g.A.Agreement.server_makes g.A.Agreement.agrees g.H.HostKeys.lawful g.H.HostKeys.signs g.H.HostKeys.judges g.H.HostKeys.accepts g.H.HostKeys.trusts g.H.HostKeys.makes g.G.GroupLookup.lawful g.G.GroupLookup.group) _ _ _ _ _ _ _ _ _ _ _ inv.config inv.agreement inv.hosts inv.groups c.in_ok-submit_reply.ensures.sent);
+          (submits_there (says_of g.A.Agreement g.H.HostKeys g.G.GroupLookup) _ _ _ _ _ _ _ _ _ _ _ inv.config inv.agreement inv.hosts inv.groups c.in_ok-submit_reply.ensures.sent);
       live = c.in_ok-submit_reply.ensures.live;
       config = c.in_ok-submit_reply.ensures.config ∙ inv.config;
       agreement = c.submit_reply.ensures.parts.0 ∙ inv.agreement;
@@ -72,4 +71,4 @@ returns-in_err-push-clause-so_far g c =
     (λ earlier st. answers_next c.args.services.now.offered earlier (take i all) (take (i + 1) all) c.loop-payload.answers.items answers c.in_ok-answer.answer c.as_slice.result.now done
     (inv.answers earlier st) (c.in_ok-answer.ensures.answer (earlier ++ take i all) (inv.stands earlier st) ∙ ap (λ o. answer_after o (earlier ++ take i all) c.as_slice.result.now) inv.offered) refl)
     (replies_next _ _ _ _ c.loop-payload.answers.items answers c.in_ok-answer.answer refl inv.replies
-    (submits_there (says_of g.A.Agreement.lawful g.A.Agreement.offered g.A.Agreement.client_makes g.A.Agreement.server_makes g.A.Agreement.agrees g.H.HostKeys.lawful g.H.HostKeys.signs g.H.HostKeys.judges g.H.HostKeys.accepts g.H.HostKeys.trusts g.H.HostKeys.makes g.G.GroupLookup.lawful g.G.GroupLookup.group) _ _ _ _ _ _ _ _ _ _ _ inv.config inv.agreement inv.hosts inv.groups c.in_ok-submit_reply.ensures.sent)))
+    (submits_there (says_of g.A.Agreement g.H.HostKeys g.G.GroupLookup) _ _ _ _ _ _ _ _ _ _ _ inv.config inv.agreement inv.hosts inv.groups c.in_ok-submit_reply.ensures.sent)))

@@ -1,8 +1,8 @@
 use Rattle.std.proofs.Common.{◌≡◌, ◌≤◌, ℕ, false, List, [], ◌++◌, length, take}
-use Rattle.ssh_kex.specs.Stepping.{says_of}
 use Rattle.ssh_service.specs.Answers.{StandsFor, answers_from}
 use Rattle.ssh_service.specs.Serving.{SubmitsAll, replies_in}
 use Rattle.ssh_service.proofs.serving.serve.Given as goal
+use Rattle.ssh_kex.specs.Stepping.{says_of}
 
 abbrev pub invariant-loop-payload : goal.invariant-loop-payload
 invariant-loop-payload g l = record {
@@ -10,7 +10,7 @@ invariant-loop-payload g l = record {
   answers : (earlier : List (List ℕ)) → StandsFor l.fn.services earlier → l.answers.items ≡ answers_from l.fn.services.offered earlier (take l.payload-index l.fn.transport.delivered);
   stands : (earlier : List (List ℕ)) → StandsFor l.fn.services earlier → StandsFor l.services (earlier ++ take l.payload-index l.fn.transport.delivered);
   offered : l.services.offered ≡ l.fn.services.offered;
-  replies : SubmitsAll (says_of g.A.Agreement.lawful g.A.Agreement.offered g.A.Agreement.client_makes g.A.Agreement.server_makes g.A.Agreement.agrees g.H.HostKeys.lawful g.H.HostKeys.signs g.H.HostKeys.judges g.H.HostKeys.accepts g.H.HostKeys.trusts g.H.HostKeys.makes g.G.GroupLookup.lawful g.G.GroupLookup.group l.fn.transport.config l.fn.parts.agreement l.fn.parts.hosts l.fn.parts.groups)
+  replies : SubmitsAll (says_of g.A.Agreement g.H.HostKeys g.G.GroupLookup l.fn.transport.config l.fn.parts.agreement l.fn.parts.hosts l.fn.parts.groups)
       (record l.fn.transport { delivered = [] }) (replies_in l.answers.items) l.transport;
   live : l.transport.failed ≡ false;
   config : l.transport.config ≡ l.fn.transport.config;

@@ -1,9 +1,9 @@
 use Rattle.std.proofs.Common.{[], ◌∷◌, ◌++◌, refl, sym, ap, ◌∙◌, append_assoc, append-nil}
-use Rattle.ssh_kex.specs.Stepping.{says_of}
 use Rattle.ssh_kex.specs.declared.config.Config.{Config}
 use Rattle.ssh_transport.proofs.Lemmas.{agreement_after, agreement_same, groups_after, groups_same, hosts_after, hosts_same, kept_weaker}
 use Rattle.uses.proofs.Joining.{kept_none, kept_some, some_shorter}
 use Rattle.uses.proofs.streams.read_kept.Goals as goal
+use Rattle.ssh_kex.specs.Stepping.{says_of}
 
 pub payloads-init : goal.payloads-init
 payloads-init g c = record {
@@ -21,7 +21,7 @@ payloads-preserved g c =
       so_far = (
         so.0 ++ c.in-Some.payload ∷ [],
         c.in_ok-push-in-Some.ensures.items ∙ (ap (λ x. x ++ c.in-Some.payload ∷ []) so.1 ∙ append_assoc c.args.lent.now.items so.0 (c.in-Some.payload ∷ [])),
-        kept_some (λ (x : Config). says_of g.A.Agreement.lawful g.A.Agreement.offered g.A.Agreement.client_makes g.A.Agreement.server_makes g.A.Agreement.agrees g.H.HostKeys.lawful g.H.HostKeys.signs g.H.HostKeys.judges g.H.HostKeys.accepts g.H.HostKeys.trusts g.H.HostKeys.makes g.G.GroupLookup.lawful g.G.GroupLookup.group x c.args.parts.now.agreement c.args.parts.now.hosts c.args.parts.now.groups) (λ (x : Config). says_of g.A.Agreement.lawful g.A.Agreement.offered g.A.Agreement.client_makes g.A.Agreement.server_makes g.A.Agreement.agrees g.H.HostKeys.lawful g.H.HostKeys.signs g.H.HostKeys.judges g.H.HostKeys.accepts g.H.HostKeys.trusts g.H.HostKeys.makes g.G.GroupLookup.lawful g.G.GroupLookup.group x c.payloads.parts.agreement c.payloads.parts.hosts c.payloads.parts.groups) (λ (x : Config). kept_weaker _ _ _ _ _ _ _ _ _ _ g.H.HostKeys.makes _ _ _ _ _ _ _ _ _ _ _ _ _ _ _ _ _ _ _ c.payloads.invariant.agreement c.payloads.invariant.hosts c.payloads.invariant.groups) c.args.transport.now c.payloads.transport c.read_payload.new.transport so.0 c.in_ok-payload.field-0 c.in-Some.payload c.in-Some.is c.payloads.invariant.config so.2 c.in_ok-payload.ensures.polled,
+        kept_some (λ (x : Config). says_of g.A.Agreement g.H.HostKeys g.G.GroupLookup x c.args.parts.now.agreement c.args.parts.now.hosts c.args.parts.now.groups) (λ (x : Config). says_of g.A.Agreement g.H.HostKeys g.G.GroupLookup x c.payloads.parts.agreement c.payloads.parts.hosts c.payloads.parts.groups) (λ (x : Config). kept_weaker g.A.Agreement g.H.HostKeys g.G.GroupLookup _ _ _ _ _ _ _ c.payloads.invariant.agreement c.payloads.invariant.hosts c.payloads.invariant.groups) c.args.transport.now c.payloads.transport c.read_payload.new.transport so.0 c.in_ok-payload.field-0 c.in-Some.payload c.in-Some.is c.payloads.invariant.config so.2 c.in_ok-payload.ensures.polled,
       );
       config = c.read_payload.ensures.config ∙ c.payloads.invariant.config;
       agreement = agreement_after _ _ _ _ _ _ _ _ c.payloads.invariant.agreement c.read_payload.ensures.keeps.agreement;
@@ -35,4 +35,4 @@ payloads-smaller g c = some_shorter _ c.payloads.transport c.read_payload.new.tr
 pub returns-in-None-clause-read : goal.returns-in-None-clause-read
 returns-in-None-clause-read g c =
     let so = c.payloads.invariant.so_far in
-    (so.0, so.1, kept_none (λ (x : Config). says_of g.A.Agreement.lawful g.A.Agreement.offered g.A.Agreement.client_makes g.A.Agreement.server_makes g.A.Agreement.agrees g.H.HostKeys.lawful g.H.HostKeys.signs g.H.HostKeys.judges g.H.HostKeys.accepts g.H.HostKeys.trusts g.H.HostKeys.makes g.G.GroupLookup.lawful g.G.GroupLookup.group x c.args.parts.now.agreement c.args.parts.now.hosts c.args.parts.now.groups) (λ (x : Config). says_of g.A.Agreement.lawful g.A.Agreement.offered g.A.Agreement.client_makes g.A.Agreement.server_makes g.A.Agreement.agrees g.H.HostKeys.lawful g.H.HostKeys.signs g.H.HostKeys.judges g.H.HostKeys.accepts g.H.HostKeys.trusts g.H.HostKeys.makes g.G.GroupLookup.lawful g.G.GroupLookup.group x c.payloads.parts.agreement c.payloads.parts.hosts c.payloads.parts.groups) (λ (x : Config). kept_weaker _ _ _ _ _ _ _ _ _ _ g.H.HostKeys.makes _ _ _ _ _ _ _ _ _ _ _ _ _ _ _ _ _ _ _ c.payloads.invariant.agreement c.payloads.invariant.hosts c.payloads.invariant.groups) c.args.transport.now c.payloads.transport c.read_payload.new.transport so.0 c.in_ok-payload.field-0 c.in-None.is c.payloads.invariant.config so.2 c.in_ok-payload.ensures.polled)
+    (so.0, so.1, kept_none (λ (x : Config). says_of g.A.Agreement g.H.HostKeys g.G.GroupLookup x c.args.parts.now.agreement c.args.parts.now.hosts c.args.parts.now.groups) (λ (x : Config). says_of g.A.Agreement g.H.HostKeys g.G.GroupLookup x c.payloads.parts.agreement c.payloads.parts.hosts c.payloads.parts.groups) (λ (x : Config). kept_weaker g.A.Agreement g.H.HostKeys g.G.GroupLookup _ _ _ _ _ _ _ c.payloads.invariant.agreement c.payloads.invariant.hosts c.payloads.invariant.groups) c.args.transport.now c.payloads.transport c.read_payload.new.transport so.0 c.in_ok-payload.field-0 c.in-None.is c.payloads.invariant.config so.2 c.in_ok-payload.ensures.polled)

@@ -1,17 +1,17 @@
 use Rattle.std.proofs.Common.{◌≡◌, ◌≤◌, ◌-◌, length, take}
-use Rattle.ssh_kex.specs.Parts.{KeepsAgreement, KeepsGroups, KeepsHosts}
-use Rattle.ssh_kex.specs.Stepping.{says_of}
 use Rattle.uses.specs.Streams.{FedLent}
 use Rattle.uses.proofs.streams.read_stream.Given as goal
+use Rattle.ssh_kex.specs.Members.{AgreementKept, GroupsKept, HostsKept}
+use Rattle.ssh_kex.specs.Stepping.{says_of}
 
 abbrev pub invariant-pieces : goal.invariant-pieces
 invariant-pieces g l = record {
-  read : FedLent (says_of g.A.Agreement.lawful g.A.Agreement.offered g.A.Agreement.client_makes g.A.Agreement.server_makes g.A.Agreement.agrees g.H.HostKeys.lawful g.H.HostKeys.signs g.H.HostKeys.judges g.H.HostKeys.accepts g.H.HostKeys.trusts g.H.HostKeys.makes g.G.GroupLookup.lawful g.G.GroupLookup.group l.fn.transport.config l.fn.parts.agreement l.fn.parts.hosts l.fn.parts.groups) l.fn.transport (take l.taken l.fn.bytes) l.lent.items l.transport;
+  read : FedLent (says_of g.A.Agreement g.H.HostKeys g.G.GroupLookup l.fn.transport.config l.fn.parts.agreement l.fn.parts.hosts l.fn.parts.groups) l.fn.transport (take l.taken l.fn.bytes) l.lent.items l.transport;
   within : l.taken ≤ length l.fn.bytes;
   config : l.transport.config ≡ l.fn.transport.config;
-  agreement : KeepsAgreement g.A.Agreement.lawful g.A.Agreement.obliging g.A.Agreement.offered g.A.Agreement.refusals g.A.Agreement.calls l.fn.parts.agreement l.parts.agreement;
-  hosts : KeepsHosts g.H.HostKeys.lawful g.H.HostKeys.signs g.H.HostKeys.judges g.H.HostKeys.accepts g.H.HostKeys.trusts g.H.HostKeys.refused_sign g.H.HostKeys.refused_verify g.H.HostKeys.refused_check g.H.HostKeys.calls l.fn.parts.hosts l.parts.hosts;
-  groups : KeepsGroups g.G.GroupLookup.lawful g.G.GroupLookup.obliging g.G.GroupLookup.group g.G.GroupLookup.refusals g.G.GroupLookup.calls l.fn.parts.groups l.parts.groups;
+  agreement : AgreementKept g.A.Agreement l.fn.parts.agreement l.parts.agreement;
+  hosts : HostsKept g.H.HostKeys l.fn.parts.hosts l.parts.hosts;
+  groups : GroupsKept g.G.GroupLookup l.fn.parts.groups l.parts.groups;
 }
 
 abbrev pub decreases-pieces : goal.decreases-pieces

@@ -1,4 +1,4 @@
-use Rattle.std.proofs.Common.{◌+◌, rules, refl, sym, take, ◌++◌, ◌∷◌, [], ap, ◌∙◌, arith}
+use Rattle.std.proofs.Common.{rules, ◌∙◌, arith}
 use Rattle.ssh_transport.proofs.Lemmas.{agreement_after, hosts_after, groups_after, taken_more}
 use Rattle.ssh_wire.specs.declared.side.Side.TheVariants.{Client, Server}
 use Rattle.ssh_attack.proofs.Running.{config_kept, side_more}
@@ -9,12 +9,12 @@ pub loop-step-preserved : goal.loop-step-preserved
 loop-step-preserved g c = record {
   within = (let t = c.loop-step-test.true in omega (arith, t));
   client_config = config_kept _ Client c.step-item.result c.step-answer.result _ _ (c.step-answer.ensures.client (λ e. elim c.match-answer.branch [ in-Err+in-KexInit-1 w ↦ search rules | in-Ok-2 w ↦ search rules ])) ∙ c.loop-step.invariant.client_config;
-  client = side_more g.A.Agreement.lawful g.A.Agreement.obliging g.A.Agreement.offered g.A.Agreement.client_makes g.A.Agreement.server_makes g.A.Agreement.agrees g.A.Agreement.refusals g.A.Agreement.calls g.H.HostKeys.lawful g.H.HostKeys.signs g.H.HostKeys.judges g.H.HostKeys.accepts g.H.HostKeys.trusts g.H.HostKeys.makes g.H.HostKeys.refused_sign g.H.HostKeys.refused_verify g.H.HostKeys.refused_check g.H.HostKeys.calls g.G.GroupLookup.lawful g.G.GroupLookup.obliging g.G.GroupLookup.group g.G.GroupLookup.refusals g.G.GroupLookup.calls _ _ _ _ _ _ _ _ _ _ Client _ _ _ _ c.step-item.result c.step-answer.result _ _ _ c.loop-step.invariant.client_agreement c.loop-step.invariant.client_hosts c.loop-step.invariant.client_groups c.step-answer.ensures.client_keeps.agreement c.step-answer.ensures.client_keeps.hosts c.step-answer.ensures.client_keeps.groups c.loop-step.invariant.client_config (taken_more c.args.steps.now c.loop-step.step-index c.step-item.result c.step-item.is c.loop-step-test.true) c.in_ok-push.ensures.items c.loop-step.invariant.client (c.step-answer.ensures.client (λ e. elim c.match-answer.branch [ in-Err+in-KexInit-1 w ↦ search rules | in-Ok-2 w ↦ search rules ]));
+  client = side_more g.A.Agreement g.H.HostKeys g.G.GroupLookup _ _ _ _ _ _ _ _ _ _ Client _ _ _ _ c.step-item.result c.step-answer.result _ _ _ c.loop-step.invariant.client_agreement c.loop-step.invariant.client_hosts c.loop-step.invariant.client_groups c.step-answer.ensures.client_keeps.agreement c.step-answer.ensures.client_keeps.hosts c.step-answer.ensures.client_keeps.groups c.loop-step.invariant.client_config (taken_more c.args.steps.now c.loop-step.step-index c.step-item.result c.step-item.is c.loop-step-test.true) c.in_ok-push.ensures.items c.loop-step.invariant.client (c.step-answer.ensures.client (λ e. elim c.match-answer.branch [ in-Err+in-KexInit-1 w ↦ search rules | in-Ok-2 w ↦ search rules ]));
   client_agreement = agreement_after _ _ _ _ _ _ _ _ c.loop-step.invariant.client_agreement c.step-answer.ensures.client_keeps.agreement;
   client_hosts = hosts_after _ _ _ _ _ _ _ _ _ _ _ _ c.loop-step.invariant.client_hosts c.step-answer.ensures.client_keeps.hosts;
   client_groups = groups_after _ _ _ _ _ _ _ _ c.loop-step.invariant.client_groups c.step-answer.ensures.client_keeps.groups;
   server_config = config_kept _ Server c.step-item.result c.step-answer.result _ _ (c.step-answer.ensures.server (λ e. elim c.match-answer.branch [ in-Err+in-KexInit-1 w ↦ search rules | in-Ok-2 w ↦ search rules ])) ∙ c.loop-step.invariant.server_config;
-  server = side_more g.A.Agreement.lawful g.A.Agreement.obliging g.A.Agreement.offered g.A.Agreement.client_makes g.A.Agreement.server_makes g.A.Agreement.agrees g.A.Agreement.refusals g.A.Agreement.calls g.H.HostKeys.lawful g.H.HostKeys.signs g.H.HostKeys.judges g.H.HostKeys.accepts g.H.HostKeys.trusts g.H.HostKeys.makes g.H.HostKeys.refused_sign g.H.HostKeys.refused_verify g.H.HostKeys.refused_check g.H.HostKeys.calls g.G.GroupLookup.lawful g.G.GroupLookup.obliging g.G.GroupLookup.group g.G.GroupLookup.refusals g.G.GroupLookup.calls _ _ _ _ _ _ _ _ _ _ Server _ _ _ _ c.step-item.result c.step-answer.result _ _ _ c.loop-step.invariant.server_agreement c.loop-step.invariant.server_hosts c.loop-step.invariant.server_groups c.step-answer.ensures.server_keeps.agreement c.step-answer.ensures.server_keeps.hosts c.step-answer.ensures.server_keeps.groups c.loop-step.invariant.server_config (taken_more c.args.steps.now c.loop-step.step-index c.step-item.result c.step-item.is c.loop-step-test.true) c.in_ok-push.ensures.items c.loop-step.invariant.server (c.step-answer.ensures.server (λ e. elim c.match-answer.branch [ in-Err+in-KexInit-1 w ↦ search rules | in-Ok-2 w ↦ search rules ]));
+  server = side_more g.A.Agreement g.H.HostKeys g.G.GroupLookup _ _ _ _ _ _ _ _ _ _ Server _ _ _ _ c.step-item.result c.step-answer.result _ _ _ c.loop-step.invariant.server_agreement c.loop-step.invariant.server_hosts c.loop-step.invariant.server_groups c.step-answer.ensures.server_keeps.agreement c.step-answer.ensures.server_keeps.hosts c.step-answer.ensures.server_keeps.groups c.loop-step.invariant.server_config (taken_more c.args.steps.now c.loop-step.step-index c.step-item.result c.step-item.is c.loop-step-test.true) c.in_ok-push.ensures.items c.loop-step.invariant.server (c.step-answer.ensures.server (λ e. elim c.match-answer.branch [ in-Err+in-KexInit-1 w ↦ search rules | in-Ok-2 w ↦ search rules ]));
   server_agreement = agreement_after _ _ _ _ _ _ _ _ c.loop-step.invariant.server_agreement c.step-answer.ensures.server_keeps.agreement;
   server_hosts = hosts_after _ _ _ _ _ _ _ _ _ _ _ _ c.loop-step.invariant.server_hosts c.step-answer.ensures.server_keeps.hosts;
   server_groups = groups_after _ _ _ _ _ _ _ _ c.loop-step.invariant.server_groups c.step-answer.ensures.server_keeps.groups;

@@ -120,7 +120,7 @@ pub returns-in-AwaitsReply-clause-agreed : goal.returns-in-AwaitsReply-clause-ag
 returns-in-AwaitsReply-clause-agreed g c =
     rw (c.in-Some.is)
     (reply_agreed
-    (says_of g.A.Agreement.lawful g.A.Agreement.offered g.A.Agreement.client_makes g.A.Agreement.server_makes g.A.Agreement.agrees g.H.HostKeys.lawful g.H.HostKeys.signs g.H.HostKeys.judges g.H.HostKeys.accepts g.H.HostKeys.trusts g.H.HostKeys.makes g.G.GroupLookup.lawful g.G.GroupLookup.group c.args.self.setting.config c.args.parts.now.agreement c.args.parts.now.hosts c.args.parts.now.groups)
+    (says_of g.A.Agreement g.H.HostKeys g.G.GroupLookup c.args.self.setting.config c.args.parts.now.agreement c.args.parts.now.hosts c.args.parts.now.groups)
     (λ k q l v z. (s : Setup) (public : List ℕ) → g.A.Agreement.lawful c.args.parts.now.agreement s → g.A.Agreement.client_makes k q l public → g.A.Agreement.agrees k q public v z)
     (λ k q l v z public h cm s law. h s public law (cm s law))
     _ _ _ c.in-AwaitsReply.names c.in-AwaitsReply.algorithm _ _ c.in-Some.incoming c.take_reply.result c.self.view_is c.in-AwaitsReply.is

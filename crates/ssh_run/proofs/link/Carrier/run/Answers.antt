@@ -14,7 +14,7 @@ loop-step-preserved g c = record {
   few = c.loop-step.invariant.few;
   bound = λ b. c.step.ensures.bound ∙ bound_on (take c.loop-step.step-index c.args.steps.now) _ c.step-item.result _ (taken_more c.args.steps.now c.loop-step.step-index c.step-item.result c.step-item.is c.loop-step-test.true) (let w = length-take-le c.loop-step.step-index c.args.steps.now c.loop-step.invariant.within in let v = c.loop-step.invariant.within in let f = c.loop-step.invariant.few in omega (arith, w, v, f)) (c.loop-step.invariant.bound b);
   now = bound_next _ _ _ _ _ _ (taken_more c.args.steps.now c.loop-step.step-index c.step-item.result c.step-item.is c.loop-step-test.true) c.loop-step.invariant.now c.step.ensures.bound;
-  runs = runs_more _ _ _ _ _ _ _ _ _ _ _ _ _ _ (taken_more c.args.steps.now c.loop-step.step-index c.step-item.result c.step-item.is c.loop-step-test.true) c.loop-step.invariant.now (later_weaker _ _ _ _ _ _ _ _ _ _ g.H.HostKeys.makes _ _ _ _ _ _ _ _ _ _ _ _ _ _ _ _ _ _ _ _ c.loop-step.invariant.runs.configs.of_client c.loop-step.invariant.client_agreement c.loop-step.invariant.client_hosts c.loop-step.invariant.client_groups) (later_weaker _ _ _ _ _ _ _ _ _ _ g.H.HostKeys.makes _ _ _ _ _ _ _ _ _ _ _ _ _ _ _ _ _ _ _ _ c.loop-step.invariant.runs.configs.of_server c.loop-step.invariant.server_agreement c.loop-step.invariant.server_hosts c.loop-step.invariant.server_groups) c.loop-step.invariant.runs c.in_ok-step.ensures.steps c.in_ok-step.ensures.few
+  runs = runs_more _ _ _ _ _ _ _ _ _ _ _ _ _ _ (taken_more c.args.steps.now c.loop-step.step-index c.step-item.result c.step-item.is c.loop-step-test.true) c.loop-step.invariant.now (later_weaker g.A.Agreement g.H.HostKeys g.G.GroupLookup _ _ _ _ _ _ _ _ c.loop-step.invariant.runs.configs.of_client c.loop-step.invariant.client_agreement c.loop-step.invariant.client_hosts c.loop-step.invariant.client_groups) (later_weaker g.A.Agreement g.H.HostKeys g.G.GroupLookup _ _ _ _ _ _ _ _ c.loop-step.invariant.runs.configs.of_server c.loop-step.invariant.server_agreement c.loop-step.invariant.server_hosts c.loop-step.invariant.server_groups) c.loop-step.invariant.runs c.in_ok-step.ensures.steps c.in_ok-step.ensures.few
       (c.in_ok-push-2.ensures.items ∙ ap (λ m. c.loop-step.marks.items ++ m ∷ []) c.mark-in-loop-step.ensures);
   asks_client = side_join _ _ _ _ _ _ c.loop-step.invariant.asks_client c.in_ok-step.ensures.asks_client;
   asks_server = side_join _ _ _ _ _ _ c.loop-step.invariant.asks_server c.in_ok-step.ensures.asks_server;
@@ -29,13 +29,13 @@ loop-step-preserved g c = record {
 pub returns-in_err-step-clause-refused : goal.returns-in_err-step-clause-refused
 returns-in_err-step-clause-refused g c = λ b lc ls.
     let p = err_from_is_err_and c.from_residual-in_err-step.result c.from_residual-in_err-step.ensures.1 in
-    rw (p.1, p.2) (run_refused _ _ _ _ _ c.args.steps.now _ _ _ _ _ _ _ _ (steps_split c.args.steps.now _ _ _ (taken_more c.args.steps.now c.loop-step.step-index c.step-item.result c.step-item.is c.loop-step-test.true)) (c.loop-step.invariant.bound b) (later_tells _ _ _ _ _ _ _ _ _ _ _ _ g.H.HostKeys.makes _ _ _ _ _ _ _ _ _ _ _ _ _ _ _ _ _ _ _ _ _ c.loop-step.invariant.runs.configs.of_client c.loop-step.invariant.client_agreement c.loop-step.invariant.client_hosts c.loop-step.invariant.client_groups) (later_tells _ _ _ _ _ _ _ _ _ _ _ _ g.H.HostKeys.makes _ _ _ _ _ _ _ _ _ _ _ _ _ _ _ _ _ _ _ _ _ c.loop-step.invariant.runs.configs.of_server c.loop-step.invariant.server_agreement c.loop-step.invariant.server_hosts c.loop-step.invariant.server_groups) c.loop-step.invariant.runs c.in_err-step.ensures.refused lc ls)
+    rw (p.1, p.2) (run_refused _ _ _ _ _ c.args.steps.now _ _ _ _ _ _ _ _ (steps_split c.args.steps.now _ _ _ (taken_more c.args.steps.now c.loop-step.step-index c.step-item.result c.step-item.is c.loop-step-test.true)) (c.loop-step.invariant.bound b) (later_tells g.A.Agreement g.H.HostKeys g.G.GroupLookup _ _ _ _ _ _ _ _ _ _ _ c.loop-step.invariant.runs.configs.of_client c.loop-step.invariant.client_agreement c.loop-step.invariant.client_hosts c.loop-step.invariant.client_groups) (later_tells g.A.Agreement g.H.HostKeys g.G.GroupLookup _ _ _ _ _ _ _ _ _ _ _ c.loop-step.invariant.runs.configs.of_server c.loop-step.invariant.server_agreement c.loop-step.invariant.server_hosts c.loop-step.invariant.server_groups) c.loop-step.invariant.runs c.in_err-step.ensures.refused lc ls)
 
 pub returns-in_err-step-clause-asks : goal.returns-in_err-step-clause-asks
-returns-in_err-step-clause-asks g c = λ lc ls. link_behind _ _ _ _ _ c.args.steps.now _ (drop c.loop-step.step-index c.args.steps.now) _ _ _ _ _ _ _ _ _ (sym (take-append-drop c.loop-step.step-index c.args.steps.now)) (later_weaker _ _ _ _ _ _ _ _ _ _ g.H.HostKeys.makes _ _ _ _ _ _ _ _ _ _ _ _ _ _ _ _ _ _ _ _ c.loop-step.invariant.runs.configs.of_client c.loop-step.invariant.client_agreement c.loop-step.invariant.client_hosts c.loop-step.invariant.client_groups) (later_weaker _ _ _ _ _ _ _ _ _ _ g.H.HostKeys.makes _ _ _ _ _ _ _ _ _ _ _ _ _ _ _ _ _ _ _ _ c.loop-step.invariant.runs.configs.of_server c.loop-step.invariant.server_agreement c.loop-step.invariant.server_hosts c.loop-step.invariant.server_groups) c.loop-step.invariant.runs c.loop-step.invariant.asks_client c.loop-step.invariant.asks_server c.in_err-step.ensures.asked lc ls
+returns-in_err-step-clause-asks g c = λ lc ls. link_behind _ _ _ _ _ c.args.steps.now _ (drop c.loop-step.step-index c.args.steps.now) _ _ _ _ _ _ _ _ _ (sym (take-append-drop c.loop-step.step-index c.args.steps.now)) (later_weaker g.A.Agreement g.H.HostKeys g.G.GroupLookup _ _ _ _ _ _ _ _ c.loop-step.invariant.runs.configs.of_client c.loop-step.invariant.client_agreement c.loop-step.invariant.client_hosts c.loop-step.invariant.client_groups) (later_weaker g.A.Agreement g.H.HostKeys g.G.GroupLookup _ _ _ _ _ _ _ _ c.loop-step.invariant.runs.configs.of_server c.loop-step.invariant.server_agreement c.loop-step.invariant.server_hosts c.loop-step.invariant.server_groups) c.loop-step.invariant.runs c.loop-step.invariant.asks_client c.loop-step.invariant.asks_server c.in_err-step.ensures.asked lc ls
 
 pub returns-in_err-push-2-clause-asks : goal.returns-in_err-push-2-clause-asks
-returns-in_err-push-2-clause-asks g c = λ lc ls. (let r = runs_more _ _ _ _ _ _ _ _ _ _ _ _ _ (c.loop-step.marks.items ++ both_marks (link_of c.step.new.self) ∷ []) (taken_more c.args.steps.now c.loop-step.step-index c.step-item.result c.step-item.is c.loop-step-test.true) c.loop-step.invariant.now (later_weaker _ _ _ _ _ _ _ _ _ _ g.H.HostKeys.makes _ _ _ _ _ _ _ _ _ _ _ _ _ _ _ _ _ _ _ _ c.loop-step.invariant.runs.configs.of_client c.loop-step.invariant.client_agreement c.loop-step.invariant.client_hosts c.loop-step.invariant.client_groups) (later_weaker _ _ _ _ _ _ _ _ _ _ g.H.HostKeys.makes _ _ _ _ _ _ _ _ _ _ _ _ _ _ _ _ _ _ _ _ c.loop-step.invariant.runs.configs.of_server c.loop-step.invariant.server_agreement c.loop-step.invariant.server_hosts c.loop-step.invariant.server_groups) c.loop-step.invariant.runs c.in_ok-step.ensures.steps c.in_ok-step.ensures.few refl in
+returns-in_err-push-2-clause-asks g c = λ lc ls. (let r = runs_more _ _ _ _ _ _ _ _ _ _ _ _ _ (c.loop-step.marks.items ++ both_marks (link_of c.step.new.self) ∷ []) (taken_more c.args.steps.now c.loop-step.step-index c.step-item.result c.step-item.is c.loop-step-test.true) c.loop-step.invariant.now (later_weaker g.A.Agreement g.H.HostKeys g.G.GroupLookup _ _ _ _ _ _ _ _ c.loop-step.invariant.runs.configs.of_client c.loop-step.invariant.client_agreement c.loop-step.invariant.client_hosts c.loop-step.invariant.client_groups) (later_weaker g.A.Agreement g.H.HostKeys g.G.GroupLookup _ _ _ _ _ _ _ _ c.loop-step.invariant.runs.configs.of_server c.loop-step.invariant.server_agreement c.loop-step.invariant.server_hosts c.loop-step.invariant.server_groups) c.loop-step.invariant.runs c.in_ok-step.ensures.steps c.in_ok-step.ensures.few refl in
     link_end _ _ _ c.args.steps.now _ (drop (c.loop-step.step-index + 1) c.args.steps.now) _ _ _ _ _ _ _ (sym (take-append-drop (c.loop-step.step-index + 1) c.args.steps.now)) r
     (side_join _ _ _ _ _ _ c.loop-step.invariant.asks_client c.in_ok-step.ensures.asks_client) (side_join _ _ _ _ _ _ c.loop-step.invariant.asks_server c.in_ok-step.ensures.asks_server))
 

@@ -1,13 +1,13 @@
 use Rattle.std.proofs.Common.{◌≡◌, ◌≤◌, ◌<◌, ◌^◌, length, take}
-use Rattle.ssh_kex.specs.Parts.{KeepsAgreement, KeepsGroups, KeepsHosts}
-use Rattle.ssh_kex.specs.Stepping.{says_of}
 use Rattle.ssh_rules.specs.Headline.{bound_of}
-use Rattle.ssh_rules.specs.Asking.{counted_by}
 use Rattle.ssh_run.specs.Asking.{SideAsks}
 use Rattle.ssh_run.specs.Carrying.{bound_after}
 use Rattle.ssh_run.specs.LinkEnds.{link_of}
 use Rattle.ssh_run.proofs.LinkSoFar.{RunsSoFar}
 use Rattle.ssh_run.proofs.link.Carrier.run.Given as goal
+use Rattle.ssh_kex.specs.Members.{AgreementKept, GroupsKept, HostsKept}
+use Rattle.ssh_kex.specs.Stepping.{says_of}
+use Rattle.ssh_rules.specs.Asking.{counted_by}
 
 abbrev pub invariant-loop-step : goal.invariant-loop-step
 invariant-loop-step g l = record {
@@ -16,15 +16,15 @@ invariant-loop-step g l = record {
   bound : l.fn.self.bound ≡ 1 → l.self.bound ≡ bound_of (take l.step-index l.steps);
   now : l.self.bound ≡ bound_after l.fn.self.bound (take l.step-index l.steps);
   runs : RunsSoFar
-      (says_of g.A.Agreement.lawful g.A.Agreement.offered g.A.Agreement.client_makes g.A.Agreement.server_makes g.A.Agreement.agrees g.H.HostKeys.lawful g.H.HostKeys.signs g.H.HostKeys.judges g.H.HostKeys.accepts g.H.HostKeys.trusts g.H.HostKeys.makes g.G.GroupLookup.lawful g.G.GroupLookup.group l.fn.self.client.transport.config l.fn.client_parts.agreement l.fn.client_parts.hosts l.fn.client_parts.groups)
-      (says_of g.A.Agreement.lawful g.A.Agreement.offered g.A.Agreement.client_makes g.A.Agreement.server_makes g.A.Agreement.agrees g.H.HostKeys.lawful g.H.HostKeys.signs g.H.HostKeys.judges g.H.HostKeys.accepts g.H.HostKeys.trusts g.H.HostKeys.makes g.G.GroupLookup.lawful g.G.GroupLookup.group l.fn.self.server.transport.config l.fn.server_parts.agreement l.fn.server_parts.hosts l.fn.server_parts.groups)
+      (says_of g.A.Agreement g.H.HostKeys g.G.GroupLookup l.fn.self.client.transport.config l.fn.client_parts.agreement l.fn.client_parts.hosts l.fn.client_parts.groups)
+      (says_of g.A.Agreement g.H.HostKeys g.G.GroupLookup l.fn.self.server.transport.config l.fn.server_parts.agreement l.fn.server_parts.hosts l.fn.server_parts.groups)
       l.fn.self.bound (take l.step-index l.steps) (link_of l.fn.self) (link_of l.self) l.marks.items;
-  asks_client : SideAsks l.fn.self.client.transport l.self.client.transport (counted_by g.A.Agreement.calls g.H.HostKeys.calls g.G.GroupLookup.calls l.fn.client_parts.agreement l.fn.client_parts.hosts l.fn.client_parts.groups) (counted_by g.A.Agreement.calls g.H.HostKeys.calls g.G.GroupLookup.calls l.client_parts.agreement l.client_parts.hosts l.client_parts.groups);
-  asks_server : SideAsks l.fn.self.server.transport l.self.server.transport (counted_by g.A.Agreement.calls g.H.HostKeys.calls g.G.GroupLookup.calls l.fn.server_parts.agreement l.fn.server_parts.hosts l.fn.server_parts.groups) (counted_by g.A.Agreement.calls g.H.HostKeys.calls g.G.GroupLookup.calls l.server_parts.agreement l.server_parts.hosts l.server_parts.groups);
-  client_agreement : KeepsAgreement g.A.Agreement.lawful g.A.Agreement.obliging g.A.Agreement.offered g.A.Agreement.refusals g.A.Agreement.calls l.fn.client_parts.agreement l.client_parts.agreement;
-  client_hosts : KeepsHosts g.H.HostKeys.lawful g.H.HostKeys.signs g.H.HostKeys.judges g.H.HostKeys.accepts g.H.HostKeys.trusts g.H.HostKeys.refused_sign g.H.HostKeys.refused_verify g.H.HostKeys.refused_check g.H.HostKeys.calls l.fn.client_parts.hosts l.client_parts.hosts;
-  client_groups : KeepsGroups g.G.GroupLookup.lawful g.G.GroupLookup.obliging g.G.GroupLookup.group g.G.GroupLookup.refusals g.G.GroupLookup.calls l.fn.client_parts.groups l.client_parts.groups;
-  server_agreement : KeepsAgreement g.A.Agreement.lawful g.A.Agreement.obliging g.A.Agreement.offered g.A.Agreement.refusals g.A.Agreement.calls l.fn.server_parts.agreement l.server_parts.agreement;
-  server_hosts : KeepsHosts g.H.HostKeys.lawful g.H.HostKeys.signs g.H.HostKeys.judges g.H.HostKeys.accepts g.H.HostKeys.trusts g.H.HostKeys.refused_sign g.H.HostKeys.refused_verify g.H.HostKeys.refused_check g.H.HostKeys.calls l.fn.server_parts.hosts l.server_parts.hosts;
-  server_groups : KeepsGroups g.G.GroupLookup.lawful g.G.GroupLookup.obliging g.G.GroupLookup.group g.G.GroupLookup.refusals g.G.GroupLookup.calls l.fn.server_parts.groups l.server_parts.groups;
+  asks_client : SideAsks l.fn.self.client.transport l.self.client.transport (counted_by g.A.Agreement g.H.HostKeys g.G.GroupLookup l.fn.client_parts.agreement l.fn.client_parts.hosts l.fn.client_parts.groups) (counted_by g.A.Agreement g.H.HostKeys g.G.GroupLookup l.client_parts.agreement l.client_parts.hosts l.client_parts.groups);
+  asks_server : SideAsks l.fn.self.server.transport l.self.server.transport (counted_by g.A.Agreement g.H.HostKeys g.G.GroupLookup l.fn.server_parts.agreement l.fn.server_parts.hosts l.fn.server_parts.groups) (counted_by g.A.Agreement g.H.HostKeys g.G.GroupLookup l.server_parts.agreement l.server_parts.hosts l.server_parts.groups);
+  client_agreement : AgreementKept g.A.Agreement l.fn.client_parts.agreement l.client_parts.agreement;
+  client_hosts : HostsKept g.H.HostKeys l.fn.client_parts.hosts l.client_parts.hosts;
+  client_groups : GroupsKept g.G.GroupLookup l.fn.client_parts.groups l.client_parts.groups;
+  server_agreement : AgreementKept g.A.Agreement l.fn.server_parts.agreement l.server_parts.agreement;
+  server_hosts : HostsKept g.H.HostKeys l.fn.server_parts.hosts l.server_parts.hosts;
+  server_groups : GroupsKept g.G.GroupLookup l.fn.server_parts.groups l.server_parts.groups;
 }

@@ -9,7 +9,7 @@ pub loop-self-preserved : goal.loop-self-preserved
 loop-self-preserved g c = record {
   room = (let a = c.loop-self.invariant.room in omega (arith, a));
   bound = c.turn.ensures.bound ∙ c.loop-self.invariant.bound;
-  turns = turned_more _ _ _ _ _ _ _ _ _ (let a = c.loop-self.invariant.room in omega (arith, a)) (later_weaker _ _ _ _ _ _ _ _ _ _ g.H.HostKeys.makes _ _ _ _ _ _ _ _ _ _ _ _ _ _ _ _ _ _ _ _ c.loop-self.invariant.turns.configs.of_client c.loop-self.invariant.client_agreement c.loop-self.invariant.client_hosts c.loop-self.invariant.client_groups) (later_weaker _ _ _ _ _ _ _ _ _ _ g.H.HostKeys.makes _ _ _ _ _ _ _ _ _ _ _ _ _ _ _ _ _ _ _ _ c.loop-self.invariant.turns.configs.of_server c.loop-self.invariant.server_agreement c.loop-self.invariant.server_hosts c.loop-self.invariant.server_groups) c.loop-self.invariant.turns (c.waits.ensures.waiting c.loop-self-test.true) c.in_ok-turn.ensures.turns;
+  turns = turned_more _ _ _ _ _ _ _ _ _ (let a = c.loop-self.invariant.room in omega (arith, a)) (later_weaker g.A.Agreement g.H.HostKeys g.G.GroupLookup _ _ _ _ _ _ _ _ c.loop-self.invariant.turns.configs.of_client c.loop-self.invariant.client_agreement c.loop-self.invariant.client_hosts c.loop-self.invariant.client_groups) (later_weaker g.A.Agreement g.H.HostKeys g.G.GroupLookup _ _ _ _ _ _ _ _ c.loop-self.invariant.turns.configs.of_server c.loop-self.invariant.server_agreement c.loop-self.invariant.server_hosts c.loop-self.invariant.server_groups) c.loop-self.invariant.turns (c.waits.ensures.waiting c.loop-self-test.true) c.in_ok-turn.ensures.turns;
   asks_client = side_join _ _ _ _ _ _ c.loop-self.invariant.asks_client c.in_ok-turn.ensures.asks_client;
   asks_server = side_join _ _ _ _ _ _ c.loop-self.invariant.asks_server c.in_ok-turn.ensures.asks_server;
   client_agreement = agreement_after _ _ _ _ _ _ _ _ c.loop-self.invariant.client_agreement c.turn.ensures.client_keeps.agreement;
@@ -23,10 +23,10 @@ loop-self-preserved g c = record {
 pub returns-in_err-turn-clause-refused : goal.returns-in_err-turn-clause-refused
 returns-in_err-turn-clause-refused g c = λ lc ls.
     let p = err_from_is_err_and c.from_residual.result c.from_residual.ensures.1 in
-    rw (p.1, p.2) (settle_refused _ _ _ _ _ _ _ _ _ (later_tells _ _ _ _ _ _ _ _ _ _ _ _ g.H.HostKeys.makes _ _ _ _ _ _ _ _ _ _ _ _ _ _ _ _ _ _ _ _ _ c.loop-self.invariant.turns.configs.of_client c.loop-self.invariant.client_agreement c.loop-self.invariant.client_hosts c.loop-self.invariant.client_groups) (later_tells _ _ _ _ _ _ _ _ _ _ _ _ g.H.HostKeys.makes _ _ _ _ _ _ _ _ _ _ _ _ _ _ _ _ _ _ _ _ _ c.loop-self.invariant.turns.configs.of_server c.loop-self.invariant.server_agreement c.loop-self.invariant.server_hosts c.loop-self.invariant.server_groups) c.loop-self.invariant.turns c.in_err-turn.ensures.refused lc ls)
+    rw (p.1, p.2) (settle_refused _ _ _ _ _ _ _ _ _ (later_tells g.A.Agreement g.H.HostKeys g.G.GroupLookup _ _ _ _ _ _ _ _ _ _ _ c.loop-self.invariant.turns.configs.of_client c.loop-self.invariant.client_agreement c.loop-self.invariant.client_hosts c.loop-self.invariant.client_groups) (later_tells g.A.Agreement g.H.HostKeys g.G.GroupLookup _ _ _ _ _ _ _ _ _ _ _ c.loop-self.invariant.turns.configs.of_server c.loop-self.invariant.server_agreement c.loop-self.invariant.server_hosts c.loop-self.invariant.server_groups) c.loop-self.invariant.turns c.in_err-turn.ensures.refused lc ls)
 
 pub returns-in_err-turn-clause-asked : goal.returns-in_err-turn-clause-asked
-returns-in_err-turn-clause-asked g c = λ lc ls. always_err c.from_residual.result _ (turns_behind _ _ _ _ _ _ _ _ _ _ _ _ _ (later_weaker _ _ _ _ _ _ _ _ _ _ g.H.HostKeys.makes _ _ _ _ _ _ _ _ _ _ _ _ _ _ _ _ _ _ _ _ c.loop-self.invariant.turns.configs.of_client c.loop-self.invariant.client_agreement c.loop-self.invariant.client_hosts c.loop-self.invariant.client_groups) (later_weaker _ _ _ _ _ _ _ _ _ _ g.H.HostKeys.makes _ _ _ _ _ _ _ _ _ _ _ _ _ _ _ _ _ _ _ _ c.loop-self.invariant.turns.configs.of_server c.loop-self.invariant.server_agreement c.loop-self.invariant.server_hosts c.loop-self.invariant.server_groups) c.loop-self.invariant.turns c.loop-self.invariant.asks_client c.loop-self.invariant.asks_server c.in_err-turn.ensures.asked lc ls)
+returns-in_err-turn-clause-asked g c = λ lc ls. always_err c.from_residual.result _ (turns_behind _ _ _ _ _ _ _ _ _ _ _ _ _ (later_weaker g.A.Agreement g.H.HostKeys g.G.GroupLookup _ _ _ _ _ _ _ _ c.loop-self.invariant.turns.configs.of_client c.loop-self.invariant.client_agreement c.loop-self.invariant.client_hosts c.loop-self.invariant.client_groups) (later_weaker g.A.Agreement g.H.HostKeys g.G.GroupLookup _ _ _ _ _ _ _ _ c.loop-self.invariant.turns.configs.of_server c.loop-self.invariant.server_agreement c.loop-self.invariant.server_hosts c.loop-self.invariant.server_groups) c.loop-self.invariant.turns c.loop-self.invariant.asks_client c.loop-self.invariant.asks_server c.in_err-turn.ensures.asked lc ls)
 
 pub returns-then-turns-eq0-clause-asked : goal.returns-then-turns-eq0-clause-asked
 returns-then-turns-eq0-clause-asked g c = λ lc ls. turns_end _ _ _ _ _ _ _ _ _ c.loop-self.invariant.turns c.loop-self.invariant.asks_client c.loop-self.invariant.asks_server

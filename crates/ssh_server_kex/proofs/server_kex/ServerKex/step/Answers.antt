@@ -54,7 +54,7 @@ returns-in-AwaitsRequest-clause-causes g c =
 pub returns-in-AwaitsValue-clause-goes : goal.returns-in-AwaitsValue-clause-goes
 returns-in-AwaitsValue-clause-goes g c =
     rw (c.in-Some.is)
-    (value_progresses (λ config. says_of g.A.Agreement.lawful g.A.Agreement.offered g.A.Agreement.client_makes g.A.Agreement.server_makes g.A.Agreement.agrees g.H.HostKeys.lawful g.H.HostKeys.signs g.H.HostKeys.judges g.H.HostKeys.accepts g.H.HostKeys.trusts g.H.HostKeys.makes g.G.GroupLookup.lawful g.G.GroupLookup.group config c.args.parts.now.agreement c.args.parts.now.hosts c.args.parts.now.groups)
+    (value_progresses (λ config. says_of g.A.Agreement g.H.HostKeys g.G.GroupLookup config c.args.parts.now.agreement c.args.parts.now.hosts c.args.parts.now.groups)
     c.self.inside.base.config.now c.self.inside.base.cause c.self.inside.base.exchange c.self.inside.state c.args.self c.in-AwaitsValue.names c.in-Some.incoming c.args.output.now _ c.take_value.result c.self.view_is c.in-AwaitsValue.is (sym c.drops_guess.ensures ∙ c.if-drops_guess.false) c.take_value.ensures.ok)
 
 pub returns-in-AwaitsValue-clause-causes : goal.returns-in-AwaitsValue-clause-causes

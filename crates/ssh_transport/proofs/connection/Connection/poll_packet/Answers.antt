@@ -29,7 +29,7 @@ returns-clause-live g c =
     }
 
 pub returns-clause-polls : goal.returns-clause-polls
-returns-clause-polls g c = polls_as _ c.args.self.now c.take_packet.new.self c.take_up.new.self c.go_on.new.self c.bytes.result c.in-Some.handled c.read_of-read.result c.read_of-read.ensures c.requires.live (some_is c.in_ok-handled.field-0 c.in-Some.handled _ c.in_ok-handled.ensures.took c.in-Some.is) c.take_packet.ensures.fixed c.take_packet.ensures.line c.take_up.ensures c.bytes.ensures c.in_ok-go_on.ensures.ok
+returns-clause-polls g c = polls_as _ c.args.self.now c.take_packet.new.self c.take_up.new.self c.go_on.new.self c.bytes.result c.in-Some.handled c.read_of-read.result c.read_of-read.ensures c.requires.live (some_is c.in_ok-handled.field-0 c.in-Some.handled _ c.in_ok-handled.ensures.took c.in-Some.is) c.take_packet.ensures.fixed.0 c.take_packet.ensures.line c.take_up.ensures c.bytes.ensures c.in_ok-go_on.ensures.ok
 
 pub returns-in_default-clause-live : goal.returns-in_default-clause-live
 returns-in_default-clause-live g c = live_unlent c.args.self.now _ (c.take_packet.ensures.none (c.in_ok-handled.was ∙ ap (λ (o : Option Handled). Ok o) c.in_default.is)).0 c.requires.live
@@ -40,12 +40,12 @@ returns-in_default-clause-polls g c = polls_none _ c.args.self.now _ (c.take_pac
 pub returns-in_err-go_on-clause-stops : goal.returns-in_err-go_on-clause-stops
 returns-in_err-go_on-clause-stops g c =
     let p = err_from_is_err_and c.from_residual-in_err-go_on.result c.from_residual-in_err-go_on.ensures.1 in
-    from_err c.from_residual-in_err-go_on.result _ c.in_err-go_on.field-0.0 p.0 p.1 p.2 (stops_polling _ _ _ _ c.args.self.now c.take_packet.new.self c.take_up.new.self c.go_on.new.self c.bytes.result c.in-Some.handled c.in_err-go_on.field-0.0 c.requires.live (some_is c.in_ok-handled.field-0 c.in-Some.handled _ c.in_ok-handled.ensures.took c.in-Some.is) c.take_packet.ensures.fixed c.take_packet.ensures.line c.take_up.ensures c.bytes.ensures c.in_err-go_on.ensures.wanting c.in_err-go_on.ensures.due c.in_err-go_on.ensures.err
-    (to_part c.args.self.now c.take_packet.new.self c.take_up.new.self c.in-Some.handled c.go_on.new.self c.bytes.result _ _ c.take_packet.ensures.fixed c.in_ok-handled.ensures.asks c.take_up.ensures c.in_err-go_on.ensures.wanting)
+    from_err c.from_residual-in_err-go_on.result _ c.in_err-go_on.field-0.0 p.0 p.1 p.2 (stops_polling _ _ _ _ c.args.self.now c.take_packet.new.self c.take_up.new.self c.go_on.new.self c.bytes.result c.in-Some.handled c.in_err-go_on.field-0.0 c.requires.live (some_is c.in_ok-handled.field-0 c.in-Some.handled _ c.in_ok-handled.ensures.took c.in-Some.is) c.take_packet.ensures.fixed.0 c.take_packet.ensures.line c.take_up.ensures c.bytes.ensures c.in_err-go_on.ensures.wanting c.in_err-go_on.ensures.due c.in_err-go_on.ensures.err
+    (to_part c.args.self.now c.take_packet.new.self c.take_up.new.self c.in-Some.handled c.go_on.new.self c.bytes.result _ _ c.take_packet.ensures.fixed.0 c.in_ok-handled.ensures.asks c.take_up.ensures c.in_err-go_on.ensures.wanting)
     (λ e. to_kept c.args.self.now.session _ _ _ _ _ e c.in_ok-handled.ensures.asks))
 
 pub returns-in_err-go_on-clause-wants : goal.returns-in_err-go_on-clause-wants
 returns-in_err-go_on-clause-wants g c = λ e. wants_polling _ c.args.self.now c.take_packet.new.self c.take_up.new.self c.go_on.new.self c.bytes.result c.in-Some.handled c.requires.live (some_is c.in_ok-handled.field-0 c.in-Some.handled _ c.in_ok-handled.ensures.took c.in-Some.is) c.take_up.ensures c.bytes.ensures c.in_err-go_on.ensures.due
 
 pub returns-clause-asks : goal.returns-clause-asks
-returns-clause-asks g c = asks_on c.args.self.now c.take_packet.new.self c.take_up.new.self c.in-Some.handled c.go_on.new.self c.bytes.result _ _ c.take_packet.ensures.fixed c.in_ok-handled.ensures.asks c.take_up.ensures c.in_ok-go_on.ensures.ok
+returns-clause-asks g c = asks_on c.args.self.now c.take_packet.new.self c.take_up.new.self c.in-Some.handled c.go_on.new.self c.bytes.result _ _ c.take_packet.ensures.fixed.0 c.in_ok-handled.ensures.asks c.take_up.ensures c.in_ok-go_on.ensures.ok

@@ -30,7 +30,7 @@ returns-clause-live g c =
     }
 
 pub returns-clause-reads : goal.returns-clause-reads
-returns-clause-reads g c = reads_taken _ c.args.self.now (record c.take_packet.new.self { delivered = c.queue_payload.new.delivered }) c.take_up.new.self c.go_on.new.self c.bytes.result c.in-Some.handled c.requires.live (took_queued _ c.args.self.now c.take_packet.new.self (record c.take_packet.new.self { delivered = c.queue_payload.new.delivered }) c.in-Some.handled (some_is c.in_ok-handled.field-0 c.in-Some.handled _ c.in_ok-handled.ensures.took c.in-Some.is) refl (c.in_ok-queue_payload.ensures.kept ∙ ap (λ (b : List ℕ). c.take_packet.new.self.delivered.items ++ kept_by c.in-Some.handled b) c.handed.ensures)) c.take_packet.ensures.fixed c.take_packet.ensures.line c.take_up.ensures c.bytes.ensures c.in_ok-go_on.ensures.ok
+returns-clause-reads g c = reads_taken _ c.args.self.now (record c.take_packet.new.self { delivered = c.queue_payload.new.delivered }) c.take_up.new.self c.go_on.new.self c.bytes.result c.in-Some.handled c.requires.live (took_queued _ c.args.self.now c.take_packet.new.self (record c.take_packet.new.self { delivered = c.queue_payload.new.delivered }) c.in-Some.handled (some_is c.in_ok-handled.field-0 c.in-Some.handled _ c.in_ok-handled.ensures.took c.in-Some.is) refl (c.in_ok-queue_payload.ensures.kept ∙ ap (λ (b : List ℕ). c.take_packet.new.self.delivered.items ++ kept_by c.in-Some.handled b) c.handed.ensures)) c.take_packet.ensures.fixed.0 c.take_packet.ensures.line c.take_up.ensures c.bytes.ensures c.in_ok-go_on.ensures.ok
 
 pub returns-in_default-clause-live : goal.returns-in_default-clause-live
 returns-in_default-clause-live g c = live_unlent c.args.self.now _ (c.take_packet.ensures.none (c.in_ok-handled.was ∙ ap (λ (o : Option Handled). Ok o) c.in_default.is)).0 c.requires.live
@@ -48,8 +48,8 @@ returns-in_err-queue_payload-clause-stops g c =
 pub returns-in_err-go_on-clause-stops : goal.returns-in_err-go_on-clause-stops
 returns-in_err-go_on-clause-stops g c =
     let p = err_from_is_err_and c.from_residual-in_err-go_on.result c.from_residual-in_err-go_on.ensures.1 in
-    from_err c.from_residual-in_err-go_on.result _ c.in_err-go_on.field-0.0 p.0 p.1 p.2 (stops_wanting _ _ _ _ c.args.self.now (record c.take_packet.new.self { delivered = c.queue_payload.new.delivered }) c.take_up.new.self c.go_on.new.self c.bytes.result c.in-Some.handled c.in_err-go_on.field-0.0 c.requires.live (took_queued _ c.args.self.now c.take_packet.new.self (record c.take_packet.new.self { delivered = c.queue_payload.new.delivered }) c.in-Some.handled (some_is c.in_ok-handled.field-0 c.in-Some.handled _ c.in_ok-handled.ensures.took c.in-Some.is) refl (c.in_ok-queue_payload.ensures.kept ∙ ap (λ (b : List ℕ). c.take_packet.new.self.delivered.items ++ kept_by c.in-Some.handled b) c.handed.ensures)) c.take_packet.ensures.fixed c.take_packet.ensures.line c.take_up.ensures c.bytes.ensures c.in_err-go_on.ensures.wanting c.in_err-go_on.ensures.err
-    (to_part c.args.self.now (record c.take_packet.new.self { delivered = c.queue_payload.new.delivered }) c.take_up.new.self c.in-Some.handled c.go_on.new.self c.bytes.result _ _ c.take_packet.ensures.fixed c.in_ok-handled.ensures.asks c.take_up.ensures c.in_err-go_on.ensures.wanting))
+    from_err c.from_residual-in_err-go_on.result _ c.in_err-go_on.field-0.0 p.0 p.1 p.2 (stops_wanting _ _ _ _ c.args.self.now (record c.take_packet.new.self { delivered = c.queue_payload.new.delivered }) c.take_up.new.self c.go_on.new.self c.bytes.result c.in-Some.handled c.in_err-go_on.field-0.0 c.requires.live (took_queued _ c.args.self.now c.take_packet.new.self (record c.take_packet.new.self { delivered = c.queue_payload.new.delivered }) c.in-Some.handled (some_is c.in_ok-handled.field-0 c.in-Some.handled _ c.in_ok-handled.ensures.took c.in-Some.is) refl (c.in_ok-queue_payload.ensures.kept ∙ ap (λ (b : List ℕ). c.take_packet.new.self.delivered.items ++ kept_by c.in-Some.handled b) c.handed.ensures)) c.take_packet.ensures.fixed.0 c.take_packet.ensures.line c.take_up.ensures c.bytes.ensures c.in_err-go_on.ensures.wanting c.in_err-go_on.ensures.err
+    (to_part c.args.self.now (record c.take_packet.new.self { delivered = c.queue_payload.new.delivered }) c.take_up.new.self c.in-Some.handled c.go_on.new.self c.bytes.result _ _ c.take_packet.ensures.fixed.0 c.in_ok-handled.ensures.asks c.take_up.ensures c.in_err-go_on.ensures.wanting))
 
 pub returns-clause-asks : goal.returns-clause-asks
-returns-clause-asks g c = asks_on c.args.self.now (record c.take_packet.new.self { delivered = c.queue_payload.new.delivered }) c.take_up.new.self c.in-Some.handled c.go_on.new.self c.bytes.result _ _ c.take_packet.ensures.fixed c.in_ok-handled.ensures.asks c.take_up.ensures c.in_ok-go_on.ensures.ok
+returns-clause-asks g c = asks_on c.args.self.now (record c.take_packet.new.self { delivered = c.queue_payload.new.delivered }) c.take_up.new.self c.in-Some.handled c.go_on.new.self c.bytes.result _ _ c.take_packet.ensures.fixed.0 c.in_ok-handled.ensures.asks c.take_up.ensures c.in_ok-go_on.ensures.ok

@@ -1,5 +1,4 @@
 use Rattle.std.proofs.Common.{refl, sym, ◌∙◌, subst}
-use Rattle.ssh_kex.specs.Stepping.{says_of}
 use Rattle.ssh_kex.specs.declared.config.Config.{Config}
 use Rattle.ssh_transport.specs.Handling.{IsHeard}
 use Rattle.ssh_transport.proofs.Asking.{between_join, between_same, to_later}
@@ -12,6 +11,7 @@ use Rattle.ssh_transport.proofs.Refusing.{from_err}
 use Rattle.ssh_transport.proofs.Stopping.{stops_after}
 use Rattle.ssh_transport.proofs.Weaker.{kept_weaker}
 use Rattle.ssh_transport.proofs.connection.Connection.read_packets.Goals as goal
+use Rattle.ssh_kex.specs.Stepping.{says_of}
 
 pub packets-init : goal.packets-init
 packets-init g c = record {
@@ -31,12 +31,12 @@ packets-preserved g c = record {
   live = c.in_ok-read_packet.ensures.live;
   heard = subst IsHeard (sym c.in_ok-read_packet.ensures.reads.line) c.packets.invariant.heard;
   reads = reads_after
-      (λ (x : Config). says_of g.A.Agreement.lawful g.A.Agreement.offered g.A.Agreement.client_makes g.A.Agreement.server_makes g.A.Agreement.agrees g.H.HostKeys.lawful g.H.HostKeys.signs g.H.HostKeys.judges g.H.HostKeys.accepts g.H.HostKeys.trusts g.H.HostKeys.makes g.G.GroupLookup.lawful g.G.GroupLookup.group x c.args.parts.now.agreement c.args.parts.now.hosts c.args.parts.now.groups)
-      (λ (x : Config). says_of g.A.Agreement.lawful g.A.Agreement.offered g.A.Agreement.client_makes g.A.Agreement.server_makes g.A.Agreement.agrees g.H.HostKeys.lawful g.H.HostKeys.signs g.H.HostKeys.judges g.H.HostKeys.accepts g.H.HostKeys.trusts g.H.HostKeys.makes g.G.GroupLookup.lawful g.G.GroupLookup.group x c.packets.parts.agreement c.packets.parts.hosts c.packets.parts.groups)
-      (λ (x : Config). kept_weaker _ _ _ _ _ _ _ _ _ _ g.H.HostKeys.makes _ _ _ _ _ _ _ _ _ _ _ _ _ _ _ _ _ _ _ c.packets.invariant.agreement c.packets.invariant.hosts c.packets.invariant.groups)
+      (λ (x : Config). says_of g.A.Agreement g.H.HostKeys g.G.GroupLookup x c.args.parts.now.agreement c.args.parts.now.hosts c.args.parts.now.groups)
+      (λ (x : Config). says_of g.A.Agreement g.H.HostKeys g.G.GroupLookup x c.packets.parts.agreement c.packets.parts.hosts c.packets.parts.groups)
+      (λ (x : Config). kept_weaker g.A.Agreement g.H.HostKeys g.G.GroupLookup _ _ _ _ _ _ _ c.packets.invariant.agreement c.packets.invariant.hosts c.packets.invariant.groups)
       c.args.self.now c.packets.self c.read_packet.new.self c.packets.invariant.fixed.1 c.packets.invariant.reads c.in_ok-read_packet.ensures.reads;
-  fixed = (c.read_packet.ensures.fixed.0 ∙ c.packets.invariant.fixed.0, c.read_packet.ensures.fixed.1 ∙ c.packets.invariant.fixed.1);
-  unfailed = c.read_packet.ensures.unfailed ∙ c.packets.invariant.unfailed;
+  fixed = (c.read_packet.ensures.fixed.0.0 ∙ c.packets.invariant.fixed.0, c.read_packet.ensures.fixed.0.1 ∙ c.packets.invariant.fixed.1);
+  unfailed = c.read_packet.ensures.fixed.1 ∙ c.packets.invariant.unfailed;
   asks = between_join c.args.self.now.session c.packets.self.session c.read_packet.new.self.session _ _ _ c.packets.invariant.fixed.0 c.packets.invariant.asks c.in_ok-read_packet.ensures.asks;
   agreement = agreement_after _ _ _ _ _ _ _ _ c.packets.invariant.agreement c.read_packet.ensures.keeps.agreement;
   hosts = hosts_after _ _ _ _ _ _ _ _ _ _ _ _ c.packets.invariant.hosts c.read_packet.ensures.keeps.hosts;
@@ -45,20 +45,20 @@ packets-preserved g c = record {
 
 pub returns-clause-reads : goal.returns-clause-reads
 returns-clause-reads g c = reads_after
-    (λ (x : Config). says_of g.A.Agreement.lawful g.A.Agreement.offered g.A.Agreement.client_makes g.A.Agreement.server_makes g.A.Agreement.agrees g.H.HostKeys.lawful g.H.HostKeys.signs g.H.HostKeys.judges g.H.HostKeys.accepts g.H.HostKeys.trusts g.H.HostKeys.makes g.G.GroupLookup.lawful g.G.GroupLookup.group x c.args.parts.now.agreement c.args.parts.now.hosts c.args.parts.now.groups)
-    (λ (x : Config). says_of g.A.Agreement.lawful g.A.Agreement.offered g.A.Agreement.client_makes g.A.Agreement.server_makes g.A.Agreement.agrees g.H.HostKeys.lawful g.H.HostKeys.signs g.H.HostKeys.judges g.H.HostKeys.accepts g.H.HostKeys.trusts g.H.HostKeys.makes g.G.GroupLookup.lawful g.G.GroupLookup.group x c.packets.parts.agreement c.packets.parts.hosts c.packets.parts.groups)
-    (λ (x : Config). kept_weaker _ _ _ _ _ _ _ _ _ _ g.H.HostKeys.makes _ _ _ _ _ _ _ _ _ _ _ _ _ _ _ _ _ _ _ c.packets.invariant.agreement c.packets.invariant.hosts c.packets.invariant.groups)
+    (λ (x : Config). says_of g.A.Agreement g.H.HostKeys g.G.GroupLookup x c.args.parts.now.agreement c.args.parts.now.hosts c.args.parts.now.groups)
+    (λ (x : Config). says_of g.A.Agreement g.H.HostKeys g.G.GroupLookup x c.packets.parts.agreement c.packets.parts.hosts c.packets.parts.groups)
+    (λ (x : Config). kept_weaker g.A.Agreement g.H.HostKeys g.G.GroupLookup _ _ _ _ _ _ _ c.packets.invariant.agreement c.packets.invariant.hosts c.packets.invariant.groups)
     c.args.self.now c.packets.self c.read_packet.new.self c.packets.invariant.fixed.1 c.packets.invariant.reads c.in_ok-read_packet.ensures.reads
 
 pub returns-in_err-read_packet-clause-stops : goal.returns-in_err-read_packet-clause-stops
 returns-in_err-read_packet-clause-stops g c =
     let p = err_from_is_err_and c.from_residual.result c.from_residual.ensures.1 in
     from_err c.from_residual.result _ c.in_err-read_packet.field-0.0 p.0 p.1 p.2 (stops_after
-    (λ (x : Config). says_of g.A.Agreement.lawful g.A.Agreement.offered g.A.Agreement.client_makes g.A.Agreement.server_makes g.A.Agreement.agrees g.H.HostKeys.lawful g.H.HostKeys.signs g.H.HostKeys.judges g.H.HostKeys.accepts g.H.HostKeys.trusts g.H.HostKeys.makes g.G.GroupLookup.lawful g.G.GroupLookup.group x c.args.parts.now.agreement c.args.parts.now.hosts c.args.parts.now.groups)
-    (λ (x : Config). says_of g.A.Agreement.lawful g.A.Agreement.offered g.A.Agreement.client_makes g.A.Agreement.server_makes g.A.Agreement.agrees g.H.HostKeys.lawful g.H.HostKeys.signs g.H.HostKeys.judges g.H.HostKeys.accepts g.H.HostKeys.trusts g.H.HostKeys.makes g.G.GroupLookup.lawful g.G.GroupLookup.group x c.packets.parts.agreement c.packets.parts.hosts c.packets.parts.groups)
+    (λ (x : Config). says_of g.A.Agreement g.H.HostKeys g.G.GroupLookup x c.args.parts.now.agreement c.args.parts.now.hosts c.args.parts.now.groups)
+    (λ (x : Config). says_of g.A.Agreement g.H.HostKeys g.G.GroupLookup x c.packets.parts.agreement c.packets.parts.hosts c.packets.parts.groups)
     _ _ _ _
-    (λ (x : Config). kept_denying g.A.Agreement.lawful g.A.Agreement.offered g.A.Agreement.client_makes g.A.Agreement.server_makes g.A.Agreement.agrees g.H.HostKeys.lawful g.H.HostKeys.signs g.H.HostKeys.judges g.H.HostKeys.accepts g.H.HostKeys.trusts g.H.HostKeys.makes g.G.GroupLookup.lawful g.G.GroupLookup.group x c.args.parts.now.agreement c.packets.parts.agreement c.read_packet.new.parts.agreement c.args.parts.now.hosts c.packets.parts.hosts c.read_packet.new.parts.hosts c.args.parts.now.groups c.packets.parts.groups c.read_packet.new.parts.groups g.A.Agreement.obliging g.A.Agreement.refusals g.A.Agreement.calls g.H.HostKeys.refused_sign g.H.HostKeys.refused_verify g.H.HostKeys.refused_check g.H.HostKeys.calls g.G.GroupLookup.obliging g.G.GroupLookup.refusals g.G.GroupLookup.calls c.packets.invariant.agreement c.packets.invariant.hosts c.packets.invariant.groups)
-    (λ (x : ServerHost) u. kept_untrusting g.H.HostKeys.lawful g.H.HostKeys.signs g.H.HostKeys.judges g.H.HostKeys.accepts g.H.HostKeys.trusts g.H.HostKeys.refused_sign g.H.HostKeys.refused_verify g.H.HostKeys.refused_check g.H.HostKeys.calls c.args.parts.now.hosts c.packets.parts.hosts c.read_packet.new.parts.hosts x c.packets.invariant.hosts u)
+    (λ (x : Config). kept_denying g.A.Agreement g.H.HostKeys g.G.GroupLookup x c.args.parts.now.agreement c.packets.parts.agreement c.read_packet.new.parts.agreement c.args.parts.now.hosts c.packets.parts.hosts c.read_packet.new.parts.hosts c.args.parts.now.groups c.packets.parts.groups c.read_packet.new.parts.groups c.packets.invariant.agreement c.packets.invariant.hosts c.packets.invariant.groups)
+    (λ (x : ServerHost) u. kept_untrusting g.H.HostKeys c.args.parts.now.hosts c.packets.parts.hosts c.read_packet.new.parts.hosts x c.packets.invariant.hosts u)
     _ _ c.args.self.now c.packets.self c.read_packet.new.self c.in_err-read_packet.field-0.0 (to_later c.args.self.now.session c.packets.self.session _ _ _ c.packets.invariant.fixed.0 c.packets.invariant.asks) c.packets.invariant.fixed.1 c.packets.invariant.reads c.in_err-read_packet.ensures.stops)
 
 pub returns-clause-asks : goal.returns-clause-asks

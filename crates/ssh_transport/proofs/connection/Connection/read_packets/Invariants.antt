@@ -1,25 +1,25 @@
 use Rattle.std.proofs.Common.{◌≡◌, length}
-use Rattle.ssh_kex.specs.Parts.{KeepsAgreement, KeepsGroups, KeepsHosts}
-use Rattle.ssh_kex.specs.Stepping.{says_of}
-use Rattle.ssh_rules.specs.Asking.{counted_by}
 use Rattle.ssh_transport.specs.Asking.{AsksBetween}
 use Rattle.ssh_transport.specs.Handling.{IsHeard}
 use Rattle.ssh_transport.specs.Kept.{IsLive}
 use Rattle.ssh_transport.specs.Saying.{IsFixed}
 use Rattle.ssh_transport.specs.Taking.{Reads}
 use Rattle.ssh_transport.proofs.connection.Connection.read_packets.Given as goal
+use Rattle.ssh_kex.specs.Members.{AgreementKept, GroupsKept, HostsKept}
+use Rattle.ssh_kex.specs.Stepping.{says_of}
+use Rattle.ssh_rules.specs.Asking.{counted_by}
 
 abbrev pub invariant-packets : goal.invariant-packets
 invariant-packets g l = record {
   live : IsLive l.self;
   heard : IsHeard l.self.session.line;
-  reads : Reads (says_of g.A.Agreement.lawful g.A.Agreement.offered g.A.Agreement.client_makes g.A.Agreement.server_makes g.A.Agreement.agrees g.H.HostKeys.lawful g.H.HostKeys.signs g.H.HostKeys.judges g.H.HostKeys.accepts g.H.HostKeys.trusts g.H.HostKeys.makes g.G.GroupLookup.lawful g.G.GroupLookup.group l.fn.self.session.config.now l.fn.parts.agreement l.fn.parts.hosts l.fn.parts.groups) l.fn.self l.self;
+  reads : Reads (says_of g.A.Agreement g.H.HostKeys g.G.GroupLookup l.fn.self.session.config.now l.fn.parts.agreement l.fn.parts.hosts l.fn.parts.groups) l.fn.self l.self;
   fixed : IsFixed l.fn.self.session l.self.session;
   unfailed : l.self.failed ≡ l.fn.self.failed;
-  asks : AsksBetween l.fn.self.session l.self.session (counted_by g.A.Agreement.calls g.H.HostKeys.calls g.G.GroupLookup.calls l.fn.parts.agreement l.fn.parts.hosts l.fn.parts.groups) (counted_by g.A.Agreement.calls g.H.HostKeys.calls g.G.GroupLookup.calls l.parts.agreement l.parts.hosts l.parts.groups);
-  agreement : KeepsAgreement g.A.Agreement.lawful g.A.Agreement.obliging g.A.Agreement.offered g.A.Agreement.refusals g.A.Agreement.calls l.fn.parts.agreement l.parts.agreement;
-  hosts : KeepsHosts g.H.HostKeys.lawful g.H.HostKeys.signs g.H.HostKeys.judges g.H.HostKeys.accepts g.H.HostKeys.trusts g.H.HostKeys.refused_sign g.H.HostKeys.refused_verify g.H.HostKeys.refused_check g.H.HostKeys.calls l.fn.parts.hosts l.parts.hosts;
-  groups : KeepsGroups g.G.GroupLookup.lawful g.G.GroupLookup.obliging g.G.GroupLookup.group g.G.GroupLookup.refusals g.G.GroupLookup.calls l.fn.parts.groups l.parts.groups;
+  asks : AsksBetween l.fn.self.session l.self.session (counted_by g.A.Agreement g.H.HostKeys g.G.GroupLookup l.fn.parts.agreement l.fn.parts.hosts l.fn.parts.groups) (counted_by g.A.Agreement g.H.HostKeys g.G.GroupLookup l.parts.agreement l.parts.hosts l.parts.groups);
+  agreement : AgreementKept g.A.Agreement l.fn.parts.agreement l.parts.agreement;
+  hosts : HostsKept g.H.HostKeys l.fn.parts.hosts l.parts.hosts;
+  groups : GroupsKept g.G.GroupLookup l.fn.parts.groups l.parts.groups;
 }
 
 abbrev pub decreases-packets : goal.decreases-packets

@@ -1,7 +1,6 @@
 use Rattle.std.proofs.Common.{Err, arith, ap, refl, sym, ◌∙◌, subst}
 use Rattle.ssh_wire.specs.declared.error.Error.{Error}
 use Rattle.ssh_wire.specs.declared.error.Error.TheVariants.{Memory}
-use Rattle.ssh_kex.specs.Stepping.{says_of}
 use Rattle.ssh_kex.specs.declared.config.Config.{Config}
 use Rattle.ssh_kex.specs.declared.exchange.ServerHost.{ServerHost}
 use Rattle.ssh_transport.specs.Handling.{IsHeard}
@@ -16,6 +15,7 @@ use Rattle.ssh_transport.proofs.Taking.{packet_shorter, polls_after, polls_at, r
 use Rattle.ssh_transport.proofs.Wanting.{wants_after}
 use Rattle.ssh_transport.proofs.Weaker.{kept_weaker}
 use Rattle.ssh_transport.proofs.connection.Connection.read_payload.Goals as goal
+use Rattle.ssh_kex.specs.Stepping.{says_of}
 
 pub packets-init : goal.packets-init
 packets-init g c = record {
@@ -35,15 +35,15 @@ packets-init g c = record {
 pub packets-preserved : goal.packets-preserved
 packets-preserved g c =
     let one = polls_at _ c.packets.self c.poll_packet.new.self c.in_ok-poll_packet.field-0 Packet c.in-Packet.is c.in_ok-poll_packet.ensures.polls in
-    let all = polls_after (λ (x : Config). says_of g.A.Agreement.lawful g.A.Agreement.offered g.A.Agreement.client_makes g.A.Agreement.server_makes g.A.Agreement.agrees g.H.HostKeys.lawful g.H.HostKeys.signs g.H.HostKeys.judges g.H.HostKeys.accepts g.H.HostKeys.trusts g.H.HostKeys.makes g.G.GroupLookup.lawful g.G.GroupLookup.group x c.args.parts.now.agreement c.args.parts.now.hosts c.args.parts.now.groups) (λ (x : Config). says_of g.A.Agreement.lawful g.A.Agreement.offered g.A.Agreement.client_makes g.A.Agreement.server_makes g.A.Agreement.agrees g.H.HostKeys.lawful g.H.HostKeys.signs g.H.HostKeys.judges g.H.HostKeys.accepts g.H.HostKeys.trusts g.H.HostKeys.makes g.G.GroupLookup.lawful g.G.GroupLookup.group x c.packets.parts.agreement c.packets.parts.hosts c.packets.parts.groups) (λ (x : Config). kept_weaker _ _ _ _ _ _ _ _ _ _ g.H.HostKeys.makes _ _ _ _ _ _ _ _ _ _ _ _ _ _ _ _ _ _ _ c.packets.invariant.agreement c.packets.invariant.hosts c.packets.invariant.groups) c.args.self.now c.packets.self c.poll_packet.new.self Packet c.packets.invariant.fixed.1 c.packets.invariant.reads c.packets.invariant.unqueued one in
+    let all = polls_after (λ (x : Config). says_of g.A.Agreement g.H.HostKeys g.G.GroupLookup x c.args.parts.now.agreement c.args.parts.now.hosts c.args.parts.now.groups) (λ (x : Config). says_of g.A.Agreement g.H.HostKeys g.G.GroupLookup x c.packets.parts.agreement c.packets.parts.hosts c.packets.parts.groups) (λ (x : Config). kept_weaker g.A.Agreement g.H.HostKeys g.G.GroupLookup _ _ _ _ _ _ _ c.packets.invariant.agreement c.packets.invariant.hosts c.packets.invariant.groups) c.args.self.now c.packets.self c.poll_packet.new.self Packet c.packets.invariant.fixed.1 c.packets.invariant.reads c.packets.invariant.unqueued one in
     record {
       live = c.in_ok-poll_packet.ensures.live;
       heard = subst IsHeard (sym one.0.line) c.packets.invariant.heard;
       reads = all.0;
       unqueued = all.1;
       shorter = packet_shorter c.in_ok-poll_packet.field-0 Packet _ _ _ c.in-Packet.is refl c.in_ok-poll_packet.ensures.shorter c.packets.invariant.shorter;
-      fixed = (c.poll_packet.ensures.fixed.0 ∙ c.packets.invariant.fixed.0, c.poll_packet.ensures.fixed.1 ∙ c.packets.invariant.fixed.1);
-      unfailed = c.poll_packet.ensures.unfailed ∙ c.packets.invariant.unfailed;
+      fixed = (c.poll_packet.ensures.fixed.0.0 ∙ c.packets.invariant.fixed.0, c.poll_packet.ensures.fixed.0.1 ∙ c.packets.invariant.fixed.1);
+      unfailed = c.poll_packet.ensures.fixed.1 ∙ c.packets.invariant.unfailed;
       asks = between_join c.args.self.now.session c.packets.self.session c.poll_packet.new.self.session _ _ _ c.packets.invariant.fixed.0 c.packets.invariant.asks c.in_ok-poll_packet.ensures.asks;
       agreement = agreement_after _ _ _ _ _ _ _ _ c.packets.invariant.agreement c.poll_packet.ensures.keeps.agreement;
       hosts = hosts_after _ _ _ _ _ _ _ _ _ _ _ _ c.packets.invariant.hosts c.poll_packet.ensures.keeps.hosts;
@@ -51,20 +51,20 @@ packets-preserved g c =
     }
 
 pub returns-in-Nothing-clause-reads : goal.returns-in-Nothing-clause-reads
-returns-in-Nothing-clause-reads g c = polls_after (λ (x : Config). says_of g.A.Agreement.lawful g.A.Agreement.offered g.A.Agreement.client_makes g.A.Agreement.server_makes g.A.Agreement.agrees g.H.HostKeys.lawful g.H.HostKeys.signs g.H.HostKeys.judges g.H.HostKeys.accepts g.H.HostKeys.trusts g.H.HostKeys.makes g.G.GroupLookup.lawful g.G.GroupLookup.group x c.args.parts.now.agreement c.args.parts.now.hosts c.args.parts.now.groups) (λ (x : Config). says_of g.A.Agreement.lawful g.A.Agreement.offered g.A.Agreement.client_makes g.A.Agreement.server_makes g.A.Agreement.agrees g.H.HostKeys.lawful g.H.HostKeys.signs g.H.HostKeys.judges g.H.HostKeys.accepts g.H.HostKeys.trusts g.H.HostKeys.makes g.G.GroupLookup.lawful g.G.GroupLookup.group x c.packets.parts.agreement c.packets.parts.hosts c.packets.parts.groups) (λ (x : Config). kept_weaker _ _ _ _ _ _ _ _ _ _ g.H.HostKeys.makes _ _ _ _ _ _ _ _ _ _ _ _ _ _ _ _ _ _ _ c.packets.invariant.agreement c.packets.invariant.hosts c.packets.invariant.groups) c.args.self.now c.packets.self c.poll_packet.new.self Nothing c.packets.invariant.fixed.1 c.packets.invariant.reads c.packets.invariant.unqueued (polls_at _ c.packets.self c.poll_packet.new.self c.in_ok-poll_packet.field-0 Nothing c.in-Nothing.is c.in_ok-poll_packet.ensures.polls)
+returns-in-Nothing-clause-reads g c = polls_after (λ (x : Config). says_of g.A.Agreement g.H.HostKeys g.G.GroupLookup x c.args.parts.now.agreement c.args.parts.now.hosts c.args.parts.now.groups) (λ (x : Config). says_of g.A.Agreement g.H.HostKeys g.G.GroupLookup x c.packets.parts.agreement c.packets.parts.hosts c.packets.parts.groups) (λ (x : Config). kept_weaker g.A.Agreement g.H.HostKeys g.G.GroupLookup _ _ _ _ _ _ _ c.packets.invariant.agreement c.packets.invariant.hosts c.packets.invariant.groups) c.args.self.now c.packets.self c.poll_packet.new.self Nothing c.packets.invariant.fixed.1 c.packets.invariant.reads c.packets.invariant.unqueued (polls_at _ c.packets.self c.poll_packet.new.self c.in_ok-poll_packet.field-0 Nothing c.in-Nothing.is c.in_ok-poll_packet.ensures.polls)
 
 pub returns-in-Payload-clause-reads : goal.returns-in-Payload-clause-reads
-returns-in-Payload-clause-reads g c = polls_after (λ (x : Config). says_of g.A.Agreement.lawful g.A.Agreement.offered g.A.Agreement.client_makes g.A.Agreement.server_makes g.A.Agreement.agrees g.H.HostKeys.lawful g.H.HostKeys.signs g.H.HostKeys.judges g.H.HostKeys.accepts g.H.HostKeys.trusts g.H.HostKeys.makes g.G.GroupLookup.lawful g.G.GroupLookup.group x c.args.parts.now.agreement c.args.parts.now.hosts c.args.parts.now.groups) (λ (x : Config). says_of g.A.Agreement.lawful g.A.Agreement.offered g.A.Agreement.client_makes g.A.Agreement.server_makes g.A.Agreement.agrees g.H.HostKeys.lawful g.H.HostKeys.signs g.H.HostKeys.judges g.H.HostKeys.accepts g.H.HostKeys.trusts g.H.HostKeys.makes g.G.GroupLookup.lawful g.G.GroupLookup.group x c.packets.parts.agreement c.packets.parts.hosts c.packets.parts.groups) (λ (x : Config). kept_weaker _ _ _ _ _ _ _ _ _ _ g.H.HostKeys.makes _ _ _ _ _ _ _ _ _ _ _ _ _ _ _ _ _ _ _ c.packets.invariant.agreement c.packets.invariant.hosts c.packets.invariant.groups) c.args.self.now c.packets.self c.poll_packet.new.self Payload c.packets.invariant.fixed.1 c.packets.invariant.reads c.packets.invariant.unqueued (polls_at _ c.packets.self c.poll_packet.new.self c.in_ok-poll_packet.field-0 Payload c.in-Payload.is c.in_ok-poll_packet.ensures.polls)
+returns-in-Payload-clause-reads g c = polls_after (λ (x : Config). says_of g.A.Agreement g.H.HostKeys g.G.GroupLookup x c.args.parts.now.agreement c.args.parts.now.hosts c.args.parts.now.groups) (λ (x : Config). says_of g.A.Agreement g.H.HostKeys g.G.GroupLookup x c.packets.parts.agreement c.packets.parts.hosts c.packets.parts.groups) (λ (x : Config). kept_weaker g.A.Agreement g.H.HostKeys g.G.GroupLookup _ _ _ _ _ _ _ c.packets.invariant.agreement c.packets.invariant.hosts c.packets.invariant.groups) c.args.self.now c.packets.self c.poll_packet.new.self Payload c.packets.invariant.fixed.1 c.packets.invariant.reads c.packets.invariant.unqueued (polls_at _ c.packets.self c.poll_packet.new.self c.in_ok-poll_packet.field-0 Payload c.in-Payload.is c.in_ok-poll_packet.ensures.polls)
 
 pub returns-in_err-poll_packet-clause-stops : goal.returns-in_err-poll_packet-clause-stops
 returns-in_err-poll_packet-clause-stops g c =
     let p = err_from_is_err_and c.from_residual.result c.from_residual.ensures.1 in
-    from_err c.from_residual.result _ c.in_err-poll_packet.field-0.0 p.0 p.1 p.2 (stops_after (λ (x : Config). says_of g.A.Agreement.lawful g.A.Agreement.offered g.A.Agreement.client_makes g.A.Agreement.server_makes g.A.Agreement.agrees g.H.HostKeys.lawful g.H.HostKeys.signs g.H.HostKeys.judges g.H.HostKeys.accepts g.H.HostKeys.trusts g.H.HostKeys.makes g.G.GroupLookup.lawful g.G.GroupLookup.group x c.args.parts.now.agreement c.args.parts.now.hosts c.args.parts.now.groups) (λ (x : Config). says_of g.A.Agreement.lawful g.A.Agreement.offered g.A.Agreement.client_makes g.A.Agreement.server_makes g.A.Agreement.agrees g.H.HostKeys.lawful g.H.HostKeys.signs g.H.HostKeys.judges g.H.HostKeys.accepts g.H.HostKeys.trusts g.H.HostKeys.makes g.G.GroupLookup.lawful g.G.GroupLookup.group x c.packets.parts.agreement c.packets.parts.hosts c.packets.parts.groups) _ _ _ _
-    (λ (x : Config). kept_denying g.A.Agreement.lawful g.A.Agreement.offered g.A.Agreement.client_makes g.A.Agreement.server_makes g.A.Agreement.agrees g.H.HostKeys.lawful g.H.HostKeys.signs g.H.HostKeys.judges g.H.HostKeys.accepts g.H.HostKeys.trusts g.H.HostKeys.makes g.G.GroupLookup.lawful g.G.GroupLookup.group x c.args.parts.now.agreement c.packets.parts.agreement c.poll_packet.new.parts.agreement c.args.parts.now.hosts c.packets.parts.hosts c.poll_packet.new.parts.hosts c.args.parts.now.groups c.packets.parts.groups c.poll_packet.new.parts.groups g.A.Agreement.obliging g.A.Agreement.refusals g.A.Agreement.calls g.H.HostKeys.refused_sign g.H.HostKeys.refused_verify g.H.HostKeys.refused_check g.H.HostKeys.calls g.G.GroupLookup.obliging g.G.GroupLookup.refusals g.G.GroupLookup.calls c.packets.invariant.agreement c.packets.invariant.hosts c.packets.invariant.groups)
-    (λ (x : ServerHost) u. kept_untrusting g.H.HostKeys.lawful g.H.HostKeys.signs g.H.HostKeys.judges g.H.HostKeys.accepts g.H.HostKeys.trusts g.H.HostKeys.refused_sign g.H.HostKeys.refused_verify g.H.HostKeys.refused_check g.H.HostKeys.calls c.args.parts.now.hosts c.packets.parts.hosts c.poll_packet.new.parts.hosts x c.packets.invariant.hosts u)
+    from_err c.from_residual.result _ c.in_err-poll_packet.field-0.0 p.0 p.1 p.2 (stops_after (λ (x : Config). says_of g.A.Agreement g.H.HostKeys g.G.GroupLookup x c.args.parts.now.agreement c.args.parts.now.hosts c.args.parts.now.groups) (λ (x : Config). says_of g.A.Agreement g.H.HostKeys g.G.GroupLookup x c.packets.parts.agreement c.packets.parts.hosts c.packets.parts.groups) _ _ _ _
+    (λ (x : Config). kept_denying g.A.Agreement g.H.HostKeys g.G.GroupLookup x c.args.parts.now.agreement c.packets.parts.agreement c.poll_packet.new.parts.agreement c.args.parts.now.hosts c.packets.parts.hosts c.poll_packet.new.parts.hosts c.args.parts.now.groups c.packets.parts.groups c.poll_packet.new.parts.groups c.packets.invariant.agreement c.packets.invariant.hosts c.packets.invariant.groups)
+    (λ (x : ServerHost) u. kept_untrusting g.H.HostKeys c.args.parts.now.hosts c.packets.parts.hosts c.poll_packet.new.parts.hosts x c.packets.invariant.hosts u)
     _ _ c.args.self.now c.packets.self c.poll_packet.new.self c.in_err-poll_packet.field-0.0 (to_later c.args.self.now.session c.packets.self.session _ _ _ c.packets.invariant.fixed.0 c.packets.invariant.asks) c.packets.invariant.fixed.1 c.packets.invariant.reads c.in_err-poll_packet.ensures.stops)
 
 pub returns-in_err-poll_packet-clause-wants : goal.returns-in_err-poll_packet-clause-wants
 returns-in_err-poll_packet-clause-wants g c = λ e.
     let p = err_from_is_err_and c.from_residual.result c.from_residual.ensures.1 in
-    wants_after (λ (x : Config). says_of g.A.Agreement.lawful g.A.Agreement.offered g.A.Agreement.client_makes g.A.Agreement.server_makes g.A.Agreement.agrees g.H.HostKeys.lawful g.H.HostKeys.signs g.H.HostKeys.judges g.H.HostKeys.accepts g.H.HostKeys.trusts g.H.HostKeys.makes g.G.GroupLookup.lawful g.G.GroupLookup.group x c.args.parts.now.agreement c.args.parts.now.hosts c.args.parts.now.groups) (λ (x : Config). says_of g.A.Agreement.lawful g.A.Agreement.offered g.A.Agreement.client_makes g.A.Agreement.server_makes g.A.Agreement.agrees g.H.HostKeys.lawful g.H.HostKeys.signs g.H.HostKeys.judges g.H.HostKeys.accepts g.H.HostKeys.trusts g.H.HostKeys.makes g.G.GroupLookup.lawful g.G.GroupLookup.group x c.packets.parts.agreement c.packets.parts.hosts c.packets.parts.groups) (λ (x : Config). kept_weaker _ _ _ _ _ _ _ _ _ _ g.H.HostKeys.makes _ _ _ _ _ _ _ _ _ _ _ _ _ _ _ _ _ _ _ c.packets.invariant.agreement c.packets.invariant.hosts c.packets.invariant.groups) c.args.self.now c.packets.self c.packets.invariant.fixed.1 c.packets.invariant.reads c.packets.invariant.unqueued (c.poll_packet.ensures.wants (c.in_err-poll_packet.was ∙ ap (λ (x : Error). Err x) (sym p.2 ∙ which_error c.from_residual.result p.0 Memory p.1 e)))
+    wants_after (λ (x : Config). says_of g.A.Agreement g.H.HostKeys g.G.GroupLookup x c.args.parts.now.agreement c.args.parts.now.hosts c.args.parts.now.groups) (λ (x : Config). says_of g.A.Agreement g.H.HostKeys g.G.GroupLookup x c.packets.parts.agreement c.packets.parts.hosts c.packets.parts.groups) (λ (x : Config). kept_weaker g.A.Agreement g.H.HostKeys g.G.GroupLookup _ _ _ _ _ _ _ c.packets.invariant.agreement c.packets.invariant.hosts c.packets.invariant.groups) c.args.self.now c.packets.self c.packets.invariant.fixed.1 c.packets.invariant.reads c.packets.invariant.unqueued (c.poll_packet.ensures.wants (c.in_err-poll_packet.was ∙ ap (λ (x : Error). Err x) (sym p.2 ∙ which_error c.from_residual.result p.0 Memory p.1 e)))

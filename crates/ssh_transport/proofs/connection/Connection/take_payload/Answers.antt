@@ -1,7 +1,6 @@
 use Rattle.std.proofs.Common.{Bool, Err, Ok, ap, refl, ◌∙◌, sym}
 use Rattle.ssh_wire.specs.declared.error.Error.{Error}
 use Rattle.ssh_wire.specs.declared.error.Error.TheVariants.{Memory}
-use Rattle.ssh_kex.specs.Stepping.{says_of}
 use Rattle.ssh_kex.specs.declared.config.Config.{Config}
 use Rattle.ssh_transport.specs.States.{emptied}
 use Rattle.std.proofs.lemmas.Result.{err_from_is_err_and}
@@ -13,9 +12,10 @@ use Rattle.ssh_transport.proofs.Kept.{live_emptied}
 use Rattle.ssh_transport.proofs.Refusing.{from_err, if_err, which_error}
 use Rattle.ssh_transport.proofs.Wanting.{may_end, may_want}
 use Rattle.ssh_transport.proofs.connection.Connection.take_payload.Goals as goal
+use Rattle.ssh_kex.specs.Stepping.{says_of}
 
 pub returns-then-is_heard-clause-takes : goal.returns-then-is_heard-clause-takes
-returns-then-is_heard-clause-takes g c = takes_polled (λ (x : Config). says_of g.A.Agreement.lawful g.A.Agreement.offered g.A.Agreement.client_makes g.A.Agreement.server_makes g.A.Agreement.agrees g.H.HostKeys.lawful g.H.HostKeys.signs g.H.HostKeys.judges g.H.HostKeys.accepts g.H.HostKeys.trusts g.H.HostKeys.makes g.G.GroupLookup.lawful g.G.GroupLookup.group x c.args.parts.now.agreement c.args.parts.now.hosts c.args.parts.now.groups) c.args.self.now c.hear.new.self c.read_payload.new.self c.read_payload.result c.in_ok-is_heard.ensures.heard (c.hear.ensures.whole (c.in_ok-is_heard.was ∙ ap (λ (b : Bool). Ok b) c.if-is_heard.true)) c.hear.ensures.unqueued c.read_payload.ensures.reads
+returns-then-is_heard-clause-takes g c = takes_polled (λ (x : Config). says_of g.A.Agreement g.H.HostKeys g.G.GroupLookup x c.args.parts.now.agreement c.args.parts.now.hosts c.args.parts.now.groups) c.args.self.now c.hear.new.self c.read_payload.new.self c.read_payload.result c.in_ok-is_heard.ensures.heard (c.hear.ensures.whole (c.in_ok-is_heard.was ∙ ap (λ (b : Bool). Ok b) c.if-is_heard.true)) c.hear.ensures.unqueued c.read_payload.ensures.reads
 
 pub returns-clause-takes : goal.returns-clause-takes
 returns-clause-takes g c = takes_nothing _ c.args.self.now c.hear.new.self c.in_ok-is_heard.ensures.heard (c.hear.ensures.part (c.in_ok-is_heard.was ∙ ap (λ (b : Bool). Ok b) c.if-is_heard.false)).0 c.hear.ensures.unqueued
@@ -31,21 +31,21 @@ returns-in_err-is_heard-clause-wants g c = λ e.
     may_end _ c.args.self.now (c.hear.ensures.ended (c.in_err-is_heard.was ∙ ap (λ (x : Error). Err x) (sym p.2 ∙ which_error c.from_residual.result p.0 Memory p.1 e)))
 
 pub returns-then-is_heard-clause-fails : goal.returns-then-is_heard-clause-fails
-returns-then-is_heard-clause-fails g c = if_err c.read_payload.result _ _ (λ e h. fails_read (λ (x : Config). says_of g.A.Agreement.lawful g.A.Agreement.offered g.A.Agreement.client_makes g.A.Agreement.server_makes g.A.Agreement.agrees g.H.HostKeys.lawful g.H.HostKeys.signs g.H.HostKeys.judges g.H.HostKeys.accepts g.H.HostKeys.trusts g.H.HostKeys.makes g.G.GroupLookup.lawful g.G.GroupLookup.group x c.args.parts.now.agreement c.args.parts.now.hosts c.args.parts.now.groups) _ _ _ _
-    (emptied c.args.self.now) c.hear.new.self c.read_payload.new.self c.args.self.now.reader.waiting e (to_later c.args.self.now.session c.hear.new.self.session _ _ _ c.hear.ensures.fixed.0 (between_heard (emptied c.args.self.now) c.hear.new.self c.args.self.now.reader.waiting _ c.in_ok-is_heard.ensures.heard)) c.in_ok-is_heard.ensures.heard
+returns-then-is_heard-clause-fails g c = if_err c.read_payload.result _ _ (λ e h. fails_read (λ (x : Config). says_of g.A.Agreement g.H.HostKeys g.G.GroupLookup x c.args.parts.now.agreement c.args.parts.now.hosts c.args.parts.now.groups) _ _ _ _
+    (emptied c.args.self.now) c.hear.new.self c.read_payload.new.self c.args.self.now.reader.waiting e (to_later c.args.self.now.session c.hear.new.self.session _ _ _ c.hear.ensures.fixed.0.0 (between_heard (emptied c.args.self.now) c.hear.new.self c.args.self.now.reader.waiting _ c.in_ok-is_heard.ensures.heard)) c.in_ok-is_heard.ensures.heard
     (c.hear.ensures.whole (c.in_ok-is_heard.was ∙ ap (λ (b : Bool). Ok b) c.if-is_heard.true)) h) c.read_payload.ensures.stops
 
 pub returns-then-is_heard-clause-wants : goal.returns-then-is_heard-clause-wants
-returns-then-is_heard-clause-wants g c = λ e. may_want (λ (x : Config). says_of g.A.Agreement.lawful g.A.Agreement.offered g.A.Agreement.client_makes g.A.Agreement.server_makes g.A.Agreement.agrees g.H.HostKeys.lawful g.H.HostKeys.signs g.H.HostKeys.judges g.H.HostKeys.accepts g.H.HostKeys.trusts g.H.HostKeys.makes g.G.GroupLookup.lawful g.G.GroupLookup.group x c.args.parts.now.agreement c.args.parts.now.hosts c.args.parts.now.groups) c.args.self.now c.hear.new.self c.in_ok-is_heard.ensures.heard (c.hear.ensures.whole (c.in_ok-is_heard.was ∙ ap (λ (b : Bool). Ok b) c.if-is_heard.true)) c.hear.ensures.unqueued (c.read_payload.ensures.wants e)
+returns-then-is_heard-clause-wants g c = λ e. may_want (λ (x : Config). says_of g.A.Agreement g.H.HostKeys g.G.GroupLookup x c.args.parts.now.agreement c.args.parts.now.hosts c.args.parts.now.groups) c.args.self.now c.hear.new.self c.in_ok-is_heard.ensures.heard (c.hear.ensures.whole (c.in_ok-is_heard.was ∙ ap (λ (b : Bool). Ok b) c.if-is_heard.true)) c.hear.ensures.unqueued (c.read_payload.ensures.wants e)
 
 pub returns-then-is_heard-clause-asks : goal.returns-then-is_heard-clause-asks
-returns-then-is_heard-clause-asks g c = where_ok c.read_payload.result _ _ (λ a. between_join c.args.self.now.session c.hear.new.self.session c.read_payload.new.self.session _ _ _ c.hear.ensures.fixed.0 (between_heard (emptied c.args.self.now) c.hear.new.self c.args.self.now.reader.waiting _ c.in_ok-is_heard.ensures.heard) a) c.read_payload.ensures.asks
+returns-then-is_heard-clause-asks g c = where_ok c.read_payload.result _ _ (λ a. between_join c.args.self.now.session c.hear.new.self.session c.read_payload.new.self.session _ _ _ c.hear.ensures.fixed.0.0 (between_heard (emptied c.args.self.now) c.hear.new.self c.args.self.now.reader.waiting _ c.in_ok-is_heard.ensures.heard) a) c.read_payload.ensures.asks
 
 pub returns-clause-asks : goal.returns-clause-asks
 returns-clause-asks g c = between_heard (emptied c.args.self.now) c.hear.new.self c.args.self.now.reader.waiting _ c.in_ok-is_heard.ensures.heard
 
 pub returns-then-is_heard-clause-drawn : goal.returns-then-is_heard-clause-drawn
-returns-then-is_heard-clause-drawn g c = first_polled (says_of g.A.Agreement.lawful g.A.Agreement.offered g.A.Agreement.client_makes g.A.Agreement.server_makes g.A.Agreement.agrees g.H.HostKeys.lawful g.H.HostKeys.signs g.H.HostKeys.judges g.H.HostKeys.accepts g.H.HostKeys.trusts g.H.HostKeys.makes g.G.GroupLookup.lawful g.G.GroupLookup.group c.hear.new.self.session.config.now c.args.parts.now.agreement c.args.parts.now.hosts c.args.parts.now.groups) c.args.self.now c.hear.new.self c.read_payload.new.self _ c.read_payload.result (c.hear.ensures.drawn (c.in_ok-is_heard.was ∙ ap (λ (b : Bool). Ok b) c.if-is_heard.true)) c.read_payload.ensures.reads
+returns-then-is_heard-clause-drawn g c = first_polled (says_of g.A.Agreement g.H.HostKeys g.G.GroupLookup c.hear.new.self.session.config.now c.args.parts.now.agreement c.args.parts.now.hosts c.args.parts.now.groups) c.args.self.now c.hear.new.self c.read_payload.new.self _ c.read_payload.result (c.hear.ensures.drawn (c.in_ok-is_heard.was ∙ ap (λ (b : Bool). Ok b) c.if-is_heard.true)) c.read_payload.ensures.reads
 
 pub returns-clause-drawn : goal.returns-clause-drawn
 returns-clause-drawn g c = first_awaited c.args.self.now c.args.self.now c.hear.new.self _ refl (c.hear.ensures.still (c.in_ok-is_heard.was ∙ ap (λ (b : Bool). Ok b) c.if-is_heard.false))

@@ -1,9 +1,9 @@
 use Rattle.ssh_kex.specs.declared.exchange.ServerHost.{ServerHost}
+use Rattle.ssh_rules.specs.Asking.{counted_by}
 use Rattle.ssh_transport.proofs.Appending.{appends_done, appends_still}
 use Rattle.ssh_transport.proofs.Asking.{ended_asks, ends_on, ends_refused, moves_on, refused_asks, step_ended}
 use Rattle.ssh_transport.proofs.Moving.{ok_if}
 use Rattle.ssh_transport.proofs.Saying.{on_err}
-use Rattle.ssh_rules.specs.Asking.{counted_by}
 use Rattle.std.proofs.Common.{refl}
 use Rattle.ssh_transport.proofs.Denying.{kept_untrusting}
 use Rattle.ssh_transport.proofs.Refusing.{distrusted_later, done_at, if_err, moves_host}
@@ -12,7 +12,7 @@ use Rattle.ssh_transport.proofs.session.Session.step.Goals as goal
 pub returns-in-Done-clause-refuses : goal.returns-in-Done-clause-refuses
 returns-in-Done-clause-refuses g c = if_err c.end_exchange.result _ _ (λ e h. moves_host _ _ _ c.args.kex c.args.incoming c.args.self.now.writer c.step.new.output c.in-Done.server_host c.in-Done.newkeys e
     (done_at _ c.args.kex c.args.incoming c.args.self.now.writer c.in_ok-kex.field-0 c.in-Done.server_host c.in-Done.newkeys c.step.new.output c.in-Done.is c.in_ok-kex.ensures.goes)
-    (distrusted_later _ _ c.in-Done.server_host e (λ (x : ServerHost) u. kept_untrusting g.H.HostKeys.lawful g.H.HostKeys.signs g.H.HostKeys.judges g.H.HostKeys.accepts g.H.HostKeys.trusts g.H.HostKeys.refused_sign g.H.HostKeys.refused_verify g.H.HostKeys.refused_check g.H.HostKeys.calls _ _ _ x c.step.ensures.keeps.hosts u) h)) c.end_exchange.ensures.refused
+    (distrusted_later _ _ c.in-Done.server_host e (λ (x : ServerHost) u. kept_untrusting g.H.HostKeys _ _ _ x c.step.ensures.keeps.hosts u) h)) c.end_exchange.ensures.refused
 
 pub returns-in-Done-clause-appends : goal.returns-in-Done-clause-appends
 returns-in-Done-clause-appends g c = appends_still c.args.self.now _ c.end_exchange.new.self c.end_exchange.result
@@ -32,7 +32,7 @@ pub returns-in-Done-clause-asks : goal.returns-in-Done-clause-asks
 returns-in-Done-clause-asks g c = ok_if c.end_exchange.result _ _ (λ h i. ended_asks (record c.args.self.now { writer = c.step.new.output }) c.end_exchange.new.self c.in-Done.newkeys h c.args.kex _ _ i (λ records. ends_on c.args.kex c.args.incoming c.args.self.now.writer c.step.new.output c.in-Done.server_host c.in-Done.newkeys records _ _
     (done_at _ c.args.kex c.args.incoming c.args.self.now.writer c.in_ok-kex.field-0 c.in-Done.server_host c.in-Done.newkeys c.step.new.output c.in-Done.is c.in_ok-kex.ensures.goes)
     (record {
-      mid = counted_by g.A.Agreement.calls g.H.HostKeys.calls g.G.GroupLookup.calls c.step.new.parts.agreement c.step.new.parts.hosts c.step.new.parts.groups;
+      mid = counted_by g.A.Agreement g.H.HostKeys g.G.GroupLookup c.step.new.parts.agreement c.step.new.parts.hosts c.step.new.parts.groups;
       step = step_ended _ _ c.step.result c.in_ok-kex.field-0 c.in-Done.server_host c.in-Done.newkeys _ _ c.in_ok-kex.was c.in-Done.is (record { agreement_later = c.step.ensures.keeps.agreement.calls_later; hosts_later = c.step.ensures.keeps.hosts.calls_later; lookups_later = c.step.ensures.keeps.groups.calls_later; agreement = c.step.ensures.agreement_calls; hosts = c.step.ensures.hosts_calls; lookups = c.step.ensures.groups_calls });
       agreement = refl;
       hosts_later = c.end_exchange.ensures.keeps.calls_later;
@@ -44,7 +44,7 @@ pub returns-in-Done-clause-asked : goal.returns-in-Done-clause-asked
 returns-in-Done-clause-asked g c = on_err c.end_exchange.result _ (ends_refused c.args.kex c.args.incoming c.args.self.now.writer c.step.new.output c.in-Done.server_host c.in-Done.newkeys _ _
     (done_at _ c.args.kex c.args.incoming c.args.self.now.writer c.in_ok-kex.field-0 c.in-Done.server_host c.in-Done.newkeys c.step.new.output c.in-Done.is c.in_ok-kex.ensures.goes)
     (record {
-      mid = counted_by g.A.Agreement.calls g.H.HostKeys.calls g.G.GroupLookup.calls c.step.new.parts.agreement c.step.new.parts.hosts c.step.new.parts.groups;
+      mid = counted_by g.A.Agreement g.H.HostKeys g.G.GroupLookup c.step.new.parts.agreement c.step.new.parts.hosts c.step.new.parts.groups;
       step = step_ended _ _ c.step.result c.in_ok-kex.field-0 c.in-Done.server_host c.in-Done.newkeys _ _ c.in_ok-kex.was c.in-Done.is (record { agreement_later = c.step.ensures.keeps.agreement.calls_later; hosts_later = c.step.ensures.keeps.hosts.calls_later; lookups_later = c.step.ensures.keeps.groups.calls_later; agreement = c.step.ensures.agreement_calls; hosts = c.step.ensures.hosts_calls; lookups = c.step.ensures.groups_calls });
       agreement = refl;
       hosts_later = c.end_exchange.ensures.keeps.calls_later;

@@ -1,20 +1,20 @@
 use Rattle.std.proofs.lemmas.Result.{err_from_is_err_and}
-use Rattle.ssh_kex.specs.Stepping.{says_of}
 use Rattle.ssh_kex.specs.declared.config.Config.{Config}
 use Rattle.ssh_transport.proofs.Moving.{handles_taken, if_ok, ok_if, open_moved}
 use Rattle.ssh_transport.proofs.Appending.{appends_taken}
 use Rattle.ssh_transport.proofs.Asking.{by_answer, message_asks, message_refused_asks, where_err}
 use Rattle.ssh_transport.proofs.Refusing.{from_err, if_err, refuses_none, refuses_taken}
 use Rattle.ssh_transport.proofs.session.Session.take_message.Goals as goal
+use Rattle.ssh_kex.specs.Stepping.{says_of}
 
 pub returns-clause-handled : goal.returns-clause-handled
-returns-clause-handled g c = if_ok c.step.result _ _ (λ h m. handles_taken (λ (x : Config). says_of g.A.Agreement.lawful g.A.Agreement.offered g.A.Agreement.client_makes g.A.Agreement.server_makes g.A.Agreement.agrees g.H.HostKeys.lawful g.H.HostKeys.signs g.H.HostKeys.judges g.H.HostKeys.accepts g.H.HostKeys.trusts g.H.HostKeys.makes g.G.GroupLookup.lawful g.G.GroupLookup.group x c.args.parts.now.agreement c.args.parts.now.hosts c.args.parts.now.groups) c.args.self.now c.take_kex.new.self c.step.new.self c.in_ok-kex.kex _ c.args.message_type h c.requires.begins.valid c.requires.opened c.requires.kind c.requires.kex c.requires.passes c.in_ok-kex.ensures.taken m) c.step.ensures.moves
+returns-clause-handled g c = if_ok c.step.result _ _ (λ h m. handles_taken (λ (x : Config). says_of g.A.Agreement g.H.HostKeys g.G.GroupLookup x c.args.parts.now.agreement c.args.parts.now.hosts c.args.parts.now.groups) c.args.self.now c.take_kex.new.self c.step.new.self c.in_ok-kex.kex _ c.args.message_type h c.requires.begins.valid c.requires.opened c.requires.kind c.requires.kex c.requires.passes c.in_ok-kex.ensures.taken m) c.step.ensures.moves
 
 pub returns-clause-opened : goal.returns-clause-opened
 returns-clause-opened g c = ok_if c.step.result _ _ (λ h m. open_moved _ c.args.self.now c.take_kex.new.self c.step.new.self c.in_ok-kex.kex _ h c.requires.opened c.requires.begun c.in_ok-kex.ensures.taken m) c.step.ensures.moves
 
 pub returns-clause-refuses : goal.returns-clause-refuses
-returns-clause-refuses g c = if_err c.step.result _ _ (λ e h. refuses_taken (λ (x : Config). says_of g.A.Agreement.lawful g.A.Agreement.offered g.A.Agreement.client_makes g.A.Agreement.server_makes g.A.Agreement.agrees g.H.HostKeys.lawful g.H.HostKeys.signs g.H.HostKeys.judges g.H.HostKeys.accepts g.H.HostKeys.trusts g.H.HostKeys.makes g.G.GroupLookup.lawful g.G.GroupLookup.group x c.args.parts.now.agreement c.args.parts.now.hosts c.args.parts.now.groups) _ _ c.args.self.now c.take_kex.new.self c.in_ok-kex.kex c.args.incoming c.args.message_type e c.requires.opened c.requires.kind c.requires.kex c.requires.passes c.in_ok-kex.ensures.kexinit c.in_ok-kex.ensures.taken h) c.step.ensures.refuses
+returns-clause-refuses g c = if_err c.step.result _ _ (λ e h. refuses_taken (λ (x : Config). says_of g.A.Agreement g.H.HostKeys g.G.GroupLookup x c.args.parts.now.agreement c.args.parts.now.hosts c.args.parts.now.groups) _ _ c.args.self.now c.take_kex.new.self c.in_ok-kex.kex c.args.incoming c.args.message_type e c.requires.opened c.requires.kind c.requires.kex c.requires.passes c.in_ok-kex.ensures.kexinit c.in_ok-kex.ensures.taken h) c.step.ensures.refuses
 
 pub returns-clause-appends : goal.returns-clause-appends
 returns-clause-appends g c = appends_taken c.args.self.now c.take_kex.new.self c.step.new.self c.in_ok-kex.kex c.step.result c.in_ok-kex.ensures.taken c.step.ensures.appends
