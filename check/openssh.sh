@@ -11,10 +11,11 @@ case ${1:-} in
 --help) sed -n '2,/^[^#]/s/^# \{0,1\}//p' "$0"; exit ;;
 esac
 top=$(cd "$(dirname "${BASH_SOURCE[0]}")/.." && pwd)
+PATH=$PATH:/usr/sbin
 for program in ssh sshd ssh-keygen; do
-  PATH=$PATH:/usr/sbin command -v $program >/dev/null || { echo "openssh: passed over, since there is no $program"; exit 0; }
+  command -v $program >/dev/null || { echo "openssh: passed over, since there is no $program"; exit 0; }
 done
-sshd=$(PATH=$PATH:/usr/sbin command -v sshd)
+sshd=$(command -v sshd)
 
 # Builds the program where it is stale.
 pipe=${SSHPIPE:-$top/crates/sshpipe/out/sshpipe}
@@ -89,7 +90,8 @@ by_sshd() {
     "KexAlgorithms $1" "HostKeyAlgorithms $2" "Ciphers $3" "MACs $4" >"$room/config"
   rm -f "$room/fifo"
   mkfifo "$room/fifo"
-  timeout "$seconds" "$pipe" client "$room/$5.pub" $6 <"$room/fifo" 2>"$room/log" \
+  # shellcheck disable=SC2094 # both ends of one fifo
+  timeout "$seconds" "$pipe" client "$room/$5.pub" ${6:+"$6"} <"$room/fifo" 2>"$room/log" \
     | timeout "$seconds" "$sshd" -i -e -d -f "$room/config" 2>"$room/sshd.log" | let_through "${7:-}" >"$room/fifo"
   status=${PIPESTATUS[0]}
 }
@@ -144,8 +146,8 @@ outcome="status $status"
 row 'the input has ended' "$outcome" "$release, cut off" server $kex rsa-sha2-512 aes128-ctr hmac-sha2-256 0
 
 # Dropbear's client and server, with a limit that begins exchanges anew. OpenSSH takes part in none before a login.
-if (PATH=$PATH:/usr/sbin; command -v dbclient && command -v dropbear && command -v dropbearconvert) >/dev/null; then
-  dropbear=$(PATH=$PATH:/usr/sbin command -v dropbear)
+if { command -v dbclient && command -v dropbear && command -v dropbearconvert; } >/dev/null; then
+  dropbear=$(command -v dropbear)
   release=$("$dropbear" -V 2>&1 | sed -n '1s/ /_/p')
   dropbearconvert openssh dropbear "$room/host" "$room/host_dropbear" >/dev/null 2>&1
   for limit in '' 17; do
