@@ -2,7 +2,8 @@
 # Usage: check/planted.sh [CRATE..]
 # Tries the edits that stand in crates/NAME/planted/, of all crates that have some if none is named. The gate tries
 # those in must-fail/; these are more of the same, for whoever changes a contract. It works on a copy of the
-# repository, and prints each edit that the proofs didn't refuse and each that couldn't be tried.
+# repository, and prints each edit that the proofs didn't refuse, each that couldn't be tried, and each that was refused
+# only since a proof names what it took away: such an edit says little of the contract.
 set -u
 case ${1:-} in
 --help) sed -n '2,/^[^#]/s/^# \{0,1\}//p' "$0"; exit ;;
@@ -28,7 +29,7 @@ for name in "$@"; do
   fi
   (cd "crates/$name" && rt lib) >"$copy/log" 2>&1
   rt must-fail "$name" >"$copy/log" 2>&1 || status=1
-  grep -E 'NOT REFUSED|BAD EDIT|NOT TRIED' "$copy/log"
+  grep -E 'NOT REFUSED|BAD EDIT|NOT TRIED|this says little' "$copy/log"
   edits=$(find "crates/$name/must-fail" -name '*.edit' | wc -l)
   echo "$name: $(grep -c ': refused, as it must be' "$copy/log") of $edits planted edits refused"
 done
