@@ -1,6 +1,7 @@
 -- A side's trace from its new transport on.
-use Rattle.std.proofs.Common.{◌≡◌, ℕ, List, [], Option, Some, None, IfSome, refl, ap, ◌∙◌, subst}
+use Rattle.std.proofs.Common.{◌≡◌, ℕ, List, [], Option, Some, None, IfSome, refl, ap, ◌∙◌, subst, sym}
 use Rattle.std.specs.Prelude.{Result, Ok, Err}
+use Rattle.rand_core.specs.Stream.{Stream}
 use Rattle.ssh_wire.specs.declared.error.ConfigFault.{ConfigFault}
 use Rattle.ssh_wire.specs.declared.error.Error.{Error}
 use Rattle.ssh_wire.specs.declared.error.Error.TheVariants.{InvalidConfig}
@@ -10,6 +11,8 @@ use Rattle.ssh_rules.specs.Asking.{PartCalls}
 use Rattle.ssh_rules.specs.Attacking.{AttackedEnd, AttacksSide, Tells}
 use Rattle.ssh_rules.specs.Standing.{IsNew, Standing}
 use Rattle.ssh_rules.specs.declared.link.AttackStep.{AttackStep}
+use Rattle.ssh_transport.specs.Drawing.{BeginsDrawn, StaysDrawn}
+use Rattle.ssh_transport.proofs.Lemmas.{drawn_new, drawn_wire}
 use Rattle.ssh_attack.specs.AttackEnds.{attacked_end}
 use Rattle.ssh_attack.specs.declared.attack_end.AttackEnd.{AttackEnd}
 use Rattle.ssh_rules.proofs.Lemmas.{first_end}
@@ -28,3 +31,8 @@ side_started T side config steps answers old first calls new n e k d h =
 pub passed : (o : Option ConfigFault) (t : Standing) → IfSome o (λ f. (let r : Result Standing Error = Ok t in r) ≡ Err (InvalidConfig f)) → o ≡ None
 passed None t h = refl
 passed (Some f) t h = cc
+
+-- its first KEXINIT is drawn from the generator at the start
+pub side_drawn : (side : Side) (config : Config) (first old new : Standing) (stream stream' : Stream) (wire : List ℕ) → IsNew side config first → old ≡ first → StaysDrawn old new stream stream' → wire ≡ new.output → BeginsDrawn side config stream wire
+side_drawn side config first old new stream stream' wire n e h w =
+    subst (BeginsDrawn side config stream) (sym w) (drawn_wire side config stream stream' new (h side config stream (drawn_new side config stream old (e ∙ n))))

@@ -1,6 +1,6 @@
 //! The run of two sides that are fed any bytes.
 
-ghost use Rattle.std.specs.Prelude.{◌≡◌, ◌⊎◌, Err, IfErr, IfOk, IfSome, Some};
+ghost use Rattle.std.specs.Prelude.{◌≡◌, ◌⊎◌, Err, IfErr, IfOk, IfSome, OnOk, Some};
 ghost use Rattle.ssh_wire.specs.declared.error.ConfigFault.{ConfigFault};
 ghost use Rattle.ssh_kex.specs.Parts.{between};
 ghost use Rattle.ssh_rules.specs.AttackCauses.{IsAttackedRun};
@@ -8,6 +8,7 @@ ghost use Rattle.ssh_rules.specs.Attacking.{AttacksEnd, AttacksSide, attacked_re
 ghost use Rattle.ssh_rules.specs.Valid as valid;
 ghost use Rattle.ssh_rules.specs.Valid.{first_config_fault};
 ghost use Rattle.ssh_attack.specs.AttackEnds.{attacked_end, none_asked};
+ghost use Rattle.ssh_transport.specs.Drawing.{AreDrawn, StaysDrawn};
 ghost use Rattle.ssh_wire.specs.declared.error.Error.TheVariants.{InvalidConfig, Memory};
 ghost use Rattle.ssh_wire.specs.declared.side.Side.TheVariants.{Client, Server};
 
@@ -51,6 +52,8 @@ pub fn run_attacked<A: Agreement, H: HostKeys, G: GroupLookup, R: Rng>(
         server_parts.new) client.now server.now steps.now) }
     ensures client_keeps { ⟦<Parts<A, H, G, R> as Handed>⟧.keeps client_parts.old client_parts.new }
     ensures server_keeps { ⟦<Parts<A, H, G, R> as Handed>⟧.keeps server_parts.old server_parts.new }
+    ensures drawn { IfOk result (λ r. AreDrawn client.now server.now (R.stream client_parts.old.rng)
+        (R.stream server_parts.old.rng) r.client.wire r.server.wire) }
 {
     sizes_are_u32(client);
     sizes_are_u32(server);
@@ -83,6 +86,7 @@ impl<'c> Attack<'c> {
     }
 
     /// Carries out all steps, and keeps what each was answered. Memory.
+    #[tactic(auto, using(ssh_transport::proofs::Lemmas::drawn_same))]
     fn run<A: Agreement, H: HostKeys, G: GroupLookup, R: Rng>(
         &mut self,
         alloc: Global,
@@ -101,6 +105,10 @@ impl<'c> Attack<'c> {
             (attacked_end self.new.server (⟦<Parts<A, H, G, R> as Asked>⟧.calls server_parts.new))) }
         ensures client_keeps { ⟦<Parts<A, H, G, R> as Handed>⟧.keeps client_parts.old client_parts.new }
         ensures server_keeps { ⟦<Parts<A, H, G, R> as Handed>⟧.keeps server_parts.old server_parts.new }
+        ensures client_draws { OnOk result (StaysDrawn self.old.client.transport self.new.client.transport
+            (R.stream client_parts.old.rng) (R.stream client_parts.new.rng)) }
+        ensures server_draws { OnOk result (StaysDrawn self.old.server.transport self.new.server.transport
+            (R.stream server_parts.old.rng) (R.stream server_parts.new.rng)) }
     {
         let mut answers = Vec::with_capacity(alloc, steps.len())?;
         for step in steps {
@@ -114,6 +122,7 @@ impl<'c> Attack<'c> {
     }
 
     /// Carries out one step.
+    #[tactic(auto, using(ssh_transport::proofs::Lemmas::drawn_same))]
     fn step<A: Agreement, H: HostKeys, G: GroupLookup, R: Rng>(
         &mut self,
         client_parts: &mut Parts<A, H, G, R>,
@@ -130,6 +139,10 @@ impl<'c> Attack<'c> {
             (attacked_end self.new.server (⟦<Parts<A, H, G, R> as Asked>⟧.calls server_parts.new)) }
         ensures client_keeps { ⟦<Parts<A, H, G, R> as Handed>⟧.keeps client_parts.old client_parts.new }
         ensures server_keeps { ⟦<Parts<A, H, G, R> as Handed>⟧.keeps server_parts.old server_parts.new }
+        ensures client_draws { (result ≡ Err Memory → ⊥) → StaysDrawn self.old.client.transport
+            self.new.client.transport (R.stream client_parts.old.rng) (R.stream client_parts.new.rng) }
+        ensures server_draws { (result ≡ Err Memory → ⊥) → StaysDrawn self.old.server.transport
+            self.new.server.transport (R.stream server_parts.old.rng) (R.stream server_parts.new.rng) }
     {
         match step {
             AttackStep::Submit(Side::Client, payload) => {

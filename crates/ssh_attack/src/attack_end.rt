@@ -24,6 +24,7 @@ pub(crate) struct AttackEnd<'c> {
 impl<'c> AttackEnd<'c> {
     ghost use Rattle.ssh_rules.specs.Attacking.{FeedsEnd, RekeysBy, SubmitsBy};
     ghost use Rattle.ssh_attack.specs.AttackEnds.{attacked_end};
+    ghost use Rattle.ssh_transport.specs.Drawing.{StaysDrawn};
     ghost use Rattle.ssh_wire.specs.declared.error.Error.TheVariants.{Memory};
 
     /// A side that has sent its id line.
@@ -50,6 +51,8 @@ impl<'c> AttackEnd<'c> {
             (attacked_end self.old (⟦<Parts<A, H, G, R> as Asked>⟧.calls parts.old)) payload.now result
             (attacked_end self.new (⟦<Parts<A, H, G, R> as Asked>⟧.calls parts.new)) }
         ensures keeps { ⟦<Parts<A, H, G, R> as Handed>⟧.keeps parts.old parts.new }
+        ensures draws { (result ≡ Err Memory → ⊥) → StaysDrawn self.old.transport self.new.transport
+            (R.stream parts.old.rng) (R.stream parts.new.rng) }
     {
         self.transport.submit(parts, payload)
     }
@@ -64,6 +67,8 @@ impl<'c> AttackEnd<'c> {
             (attacked_end self.old (⟦<Parts<A, H, G, R> as Asked>⟧.calls parts.old)) result
             (attacked_end self.new (⟦<Parts<A, H, G, R> as Asked>⟧.calls parts.new)) }
         ensures keeps { ⟦<Parts<A, H, G, R> as Handed>⟧.keeps parts.old parts.new }
+        ensures draws { (result ≡ Err Memory → ⊥) → StaysDrawn self.old.transport self.new.transport
+            (R.stream parts.old.rng) (R.stream parts.new.rng) }
     {
         self.transport.rekey(parts)
     }
@@ -79,6 +84,8 @@ impl<'c> AttackEnd<'c> {
             (⟦<Parts<A, H, G, R> as Asked>⟧.calls parts.old)) bytes.now result
             (attacked_end self.new (⟦<Parts<A, H, G, R> as Asked>⟧.calls parts.new)) }
         ensures keeps { ⟦<Parts<A, H, G, R> as Handed>⟧.keeps parts.old parts.new }
+        ensures draws { (result ≡ Err Memory → ⊥) → StaysDrawn self.old.transport self.new.transport
+            (R.stream parts.old.rng) (R.stream parts.new.rng) }
     {
         see_bytes(bytes);
         let Some(taken) = self.taken.checked_add(bytes.len() as u64) else {

@@ -6,4 +6,5 @@ pub mod RefusedPlans
 pub mod SmallGroups
 pub mod AttackedPlans
 pub mod WholeSources
+pub mod Seeds
 pub mod SureStatuses

@@ -1,7 +1,9 @@
 -- The sides of a link, as their calls leave them.
 use Rattle.std.specs.Prelude.{◌≡◌, false}
+use Rattle.rand_core.specs.Stream.{Stream}
 use Rattle.ssh_rules.specs.declared.link.Mark.{Mark}
 use Rattle.ssh_rules.specs.declared.link.SideMark.{SideMark}
+use Rattle.ssh_transport.specs.Drawing.{StaysDrawn}
 use Rattle.ssh_run.specs.Carrying.{CarriedEnd, CarriedLink, both_marks, side_mark}
 use Rattle.ssh_run.specs.declared.link.Carrier.{Carrier}
 use Rattle.ssh_run.specs.declared.link_end.LinkEnd.{LinkEnd}
@@ -30,3 +32,9 @@ end_mark end = side_mark (carried_end end)
 -- where both sides stand
 abbrev pub link_mark : Carrier → Mark
 link_mark link = both_marks (link_of link)
+
+-- Each side's first KEXINIT is drawn from the generator that was handed in at the start, if it was so before. The
+-- streams are those of both generators before and behind, the client's first.
+pub record BothStayDrawn (old new : CarriedLink) (client client' server server' : Stream) : Type 0 where
+  pub of_client : StaysDrawn old.client.transport new.client.transport client client'
+  pub of_server : StaysDrawn old.server.transport new.server.transport server server'

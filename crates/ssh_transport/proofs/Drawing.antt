@@ -1,6 +1,7 @@
 -- What a side sends of itself is padded, and its cookie drawn, by what the generator gives next.
-use Rattle.std.proofs.Common.{◌≡◌, ℕ, ◌<◌, ◌++◌, List, length, Some, None, Bool, true, false, Result, Ok, Err, IfOk, OnOk, OnErr, sym, ap, ◌∙◌, subst, inr}
+use Rattle.std.proofs.Common.{◌≡◌, ℕ, ◌<◌, ◌++◌, List, length, Some, None, Bool, true, false, Result, Ok, Err, IfErr, IfOk, IsOk, OnOk, OnErr, is_ok, refl, sym, ap, ◌∙◌, subst, inl, inr}
 use Rattle.rand_core.specs.Stream.{Stream}
+use Rattle.ssh_wire.specs.Reading.{IdReading}
 use Rattle.ssh_wire.specs.declared.error.Error.{Error}
 use Rattle.ssh_wire.specs.declared.side.Side.{Side}
 use Rattle.ssh_wire.specs.declared.side.Side.TheVariants.{Client, Server}
@@ -8,15 +9,20 @@ use Rattle.ssh_negotiate.specs.Reading.{behind_cookie, kexinit_drawn}
 use Rattle.ssh_negotiate.specs.declared.kex.KexCause.{KexCause}
 use Rattle.ssh_packet.specs.Sealing.{IsAdmissible, item_of}
 use Rattle.ssh_packet.specs.Writing.{Sends, Writer}
+use Rattle.ssh_kex.specs.Refusals.{Denies}
 use Rattle.ssh_kex.specs.Setting.{Says}
 use Rattle.ssh_kex.specs.Stages.{Machine}
 use Rattle.ssh_kex.specs.declared.config.Config.{Config}
+use Rattle.ssh_kex.specs.declared.exchange.ServerHost.{ServerHost}
 use Rattle.ssh_rules.specs.Log.{sent_bytes}
+use Rattle.ssh_rules.specs.Machine.{SideState}
+use Rattle.ssh_rules.specs.Standing.{RefusalCause, Standing, is_outside}
 use Rattle.ssh_transport.specs.Drawing.{AtMostNext, DrawsFirst, GoesNext, OpensDrawn, kexinit_packet, packet_with, writing_at}
 use Rattle.ssh_transport.specs.Kexinits.{setting_between}
 use Rattle.ssh_transport.specs.Saying.{GoesOn, IsUnsaid}
 use Rattle.ssh_transport.specs.States.{is_silent, standing_of, stands_of, with_more}
-use Rattle.ssh_transport.specs.Stopping.{IsAsBefore, WantsKeys}
+use Rattle.ssh_transport.specs.Stopping.{IsAsBefore, Stops, WantsKeys}
+use Rattle.ssh_transport.specs.Submitting.{Breaks, HoldsAlone}
 use Rattle.ssh_transport.specs.Taking.{PollsOne, Reads, read_by}
 use Rattle.ssh_transport.specs.declared.connection.Connection.{Connection}
 use Rattle.ssh_transport.specs.declared.session.Session.{Session}
@@ -82,22 +88,82 @@ drawn_answer {T} c c' s' P (Err x) done d e h = subst (λ (y : Result T Error). 
 -- ---- the first KEXINIT of a side, which its call began
 
 -- what goes behind it leaves it there
-first_goes : (c heard c' : Connection) (stream : Stream) (sent : List ℕ) → OpensDrawn c.session heard.session stream → c'.session.writer.output ≡ heard.session.writer.output ++ sent → DrawsFirst (standing_of c) (standing_of c') stream
-first_goes c heard c' stream sent h e = λ silent begun. (sent, e ∙ ap (λ (o : List ℕ). o ++ sent) (h silent))
+first_goes : (done : Type 0) (c heard c' : Connection) (stream stream' : Stream) (sent : List ℕ) → OpensDrawn c.session heard.session stream → c'.session.writer.output ≡ heard.session.writer.output ++ sent → DrawsFirst done (standing_of c) (standing_of c') stream stream'
+first_goes done c heard c' stream stream' sent h e = λ silent. inr (sent, e ∙ ap (λ (o : List ℕ). o ++ sent) (h silent))
 
-pub first_read : (says : Says) (c kept heard c' : Connection) (more : List ℕ) (stream : Stream) (answer : Result (Unit {0}) Error) → kept ≡ record c { reader = kept.reader } → OpensDrawn kept.session heard.session stream → OnOk answer (Reads says (with_more heard more) c') → OnOk answer (DrawsFirst (standing_of c) (standing_of c') stream)
-first_read says c kept heard c' more stream (Ok u) e h r = first_goes c heard c' stream (sent_bytes heard.session.side (record { sealing = heard.session.writer.sealing; number = heard.session.writer.number }) r.events) (subst (λ (s : Session). OpensDrawn s heard.session stream) (ap (λ (x : Connection). x.session) e) h) r.output
-first_read says c kept heard c' more stream (Err x) e h r = tt
+-- also where a packet behind the line is refused
+pub first_read : (says : Says) (denies : Denies) (untrusted : ServerHost → Type 0) (asked : RefusalCause → SideState → Type 0) (c kept heard c' : Connection) (more : List ℕ) (stream stream' : Stream) (answer : Result (Unit {0}) Error) → kept ≡ record c { reader = kept.reader } → OpensDrawn kept.session heard.session stream
+    → OnOk answer (Reads says (with_more heard more) c') → IfErr answer (λ e. Stops says denies untrusted asked (with_more heard more) e c') → DrawsFirst (IsOk answer) (standing_of c) (standing_of c') stream stream'
+first_read says denies untrusted asked c kept heard c' more stream stream' (Ok u) e h r s = first_goes _ c heard c' stream stream' (sent_bytes heard.session.side (record { sealing = heard.session.writer.sealing; number = heard.session.writer.number }) r.events) (subst (λ (s : Session). OpensDrawn s heard.session stream) (ap (λ (x : Connection). x.session) e) h) r.output
+first_read says denies untrusted asked c kept heard c' more stream stream' (Err x) e h r s = first_goes _ c heard c' stream stream' (sent_bytes heard.session.side (record { sealing = heard.session.writer.sealing; number = heard.session.writer.number }) s.events) (subst (λ (s : Session). OpensDrawn s heard.session stream) (ap (λ (x : Connection). x.session) e) h) s.output
 
-pub first_polled : (says : Says) (c heard c' : Connection) (stream : Stream) (answer : Result Bool Error) → OpensDrawn c.session heard.session stream → IfOk answer (λ lends. PollsOne says heard (read_by lends) c') → OnOk answer (DrawsFirst (standing_of c) (standing_of c') stream)
-first_polled says c heard c' stream (Ok true) h r = first_goes c heard c' stream _ h r.goes.output
-first_polled says c heard c' stream (Ok false) h r = first_goes c heard c' stream _ h r.0.output
-first_polled says c heard c' stream (Err x) h r = tt
+pub first_polled : (says : Says) (denies : Denies) (untrusted : ServerHost → Type 0) (asked : RefusalCause → SideState → Type 0) (c heard c' : Connection) (stream stream' : Stream) (answer : Result Bool Error) → OpensDrawn c.session heard.session stream → IfOk answer (λ lends. PollsOne says heard (read_by lends) c')
+    → IfErr answer (λ e. Stops says denies untrusted asked heard e c') → DrawsFirst (IsOk answer) (standing_of c) (standing_of c') stream stream'
+first_polled says denies untrusted asked c heard c' stream stream' (Ok true) h r s = first_goes _ c heard c' stream stream' _ h r.goes.output
+first_polled says denies untrusted asked c heard c' stream stream' (Ok false) h r s = first_goes _ c heard c' stream stream' _ h r.0.output
+first_polled says denies untrusted asked c heard c' stream stream' (Err x) h r s = first_goes _ c heard c' stream stream' _ h s.output
 
 -- before the end of the other's version line none is begun
-pub first_awaited : (c kept heard : Connection) (stream : Stream) → kept ≡ record c { reader = kept.reader } → heard.session ≡ record kept.session { line = heard.session.line } → DrawsFirst (standing_of c) (standing_of heard) stream
-first_awaited c kept heard stream e s = λ silent begun. absurd (let f : true ≡ false = sym silent ∙ (sym (ap (λ (x : Connection). is_silent (stands_of x.session.finished.items x.session.kex)) e) ∙ (sym (ap (λ (x : Session). is_silent (stands_of x.finished.items x.kex)) s) ∙ begun)) in cc)
+pub first_awaited : (done : Type 0) (c kept heard : Connection) (stream stream' : Stream) → kept ≡ record c { reader = kept.reader } → heard.session ≡ record kept.session { line = heard.session.line } → stream' ≡ stream → DrawsFirst done (standing_of c) (standing_of heard) stream stream'
+first_awaited done c kept heard stream stream' e s r = λ silent. inl (record {
+  output = same (λ (x : Session). x.writer.output) (λ x l. refl);
+  silent = λ d. same (λ (x : Session). is_silent (stands_of x.finished.items x.kex)) (λ x l. refl) ∙ silent;
+  writing = λ d. same (λ (x : Session). writing_at x.writer) (λ x l. refl);
+  undrawn = λ d. r;
+}) where
+  same : {T : Type 0} (f : Session → T) → ((x : Session) (l : IdReading) → f (record x { line = l }) ≡ f x) → f heard.session ≡ f c.session
+  same {T} f k = ap f s ∙ k kept.session heard.session.line ∙ ap (λ (x : Connection). f x.session) e
 
-pub first_answer : {T : Type 0} (c taken c' : Connection) (stream : Stream) (answer done : Result T Error) → done ≡ answer → OnOk answer (c' ≡ taken) → OnOk answer (DrawsFirst (standing_of c) (standing_of taken) stream) → OnOk done (DrawsFirst (standing_of c) (standing_of c') stream)
-first_answer {T} c taken c' stream (Ok u) done d e h = subst (λ (y : Result T Error). OnOk y (DrawsFirst (standing_of c) (standing_of c') stream)) (sym d) (subst (λ (x : Connection). DrawsFirst (standing_of c) (standing_of x) stream) (sym e) h)
-first_answer {T} c taken c' stream (Err x) done d e h = subst (λ (y : Result T Error). OnOk y (DrawsFirst (standing_of c) (standing_of c') stream)) (sym d) tt
+-- a line that isn't heard, or behind which there was no memory, leaves all unsaid
+pub first_unheard : {T : Type 0} (answer : Result T Error) (error : Error) (c kept heard : Connection) (stream stream' : Stream) → answer ≡ Err error → kept ≡ record c { reader = kept.reader } → IsAsBefore kept.session heard.session → DrawsFirst (IsOk answer) (standing_of c) (standing_of heard) stream stream'
+first_unheard {T} answer error c kept heard stream stream' a e s = λ silent. inl (record {
+  output = s.output ∙ ap (λ (x : Connection). x.session.writer.output) e;
+  silent = λ d. absurd (none d);
+  writing = λ d. absurd (none d);
+  undrawn = λ d. absurd (none d);
+}) where
+  none : IsOk answer → ⊥
+  none d = (let f : true ≡ false = sym d ∙ ap (λ (x : Result T Error). is_ok x) a in cc)
+
+-- a call on a transport that is dead
+pub first_still : (done : Type 0) (t : Standing) (stream : Stream) → DrawsFirst done t t stream stream
+first_still done t stream = λ silent. inl (record { output = refl; silent = λ d. silent; writing = λ d. refl; undrawn = λ d. refl })
+
+-- a refusal is the end of a transport
+pub first_answer : {T : Type 0} (c taken c' : Connection) (stream stream' : Stream) (answer : Result T Error) → OnOk answer (c' ≡ taken) → OnErr answer (IsAsBefore taken.session c'.session) → OnErr answer (Breaks (standing_of taken) (standing_of c'))
+    → DrawsFirst (IsOk answer) (standing_of c) (standing_of taken) stream stream' → DrawsFirst (c'.failed ≡ false) (standing_of c) (standing_of c') stream stream'
+first_answer {T} c taken c' stream stream' (Ok u) e r b h = λ silent. elim (h silent) [
+  | inl k ↦ inl (record {
+    output = ap (λ (x : Connection). x.session.writer.output) e ∙ k.output;
+    silent = λ d. ap (λ (x : Connection). is_silent (stands_of x.session.finished.items x.session.kex)) e ∙ k.silent refl;
+    writing = λ d. ap (λ (x : Connection). writing_at x.session.writer) e ∙ k.writing refl;
+    undrawn = λ d. k.undrawn refl;
+  })
+  | inr k ↦ inr (k.0, ap (λ (x : Connection). x.session.writer.output) e ∙ k.1)
+]
+first_answer {T} c taken c' stream stream' (Err x) e r b h = λ silent. elim (h silent) [
+  | inl k ↦ inl (record {
+    output = r.output ∙ k.output;
+    silent = λ d. absurd (dead d);
+    writing = λ d. absurd (dead d);
+    undrawn = λ d. absurd (dead d);
+  })
+  | inr k ↦ inr (k.0, r.output ∙ k.1)
+] where
+  dead : c'.failed ≡ false → ⊥
+  dead d = (let f : true ≡ false = sym b.failed ∙ d in cc)
+
+-- ---- a payload that is held
+
+pub on_done : {T : Type 0} (answer done : Result T Error) (P : Type 0) → done ≡ answer → OnOk answer P → OnOk done P
+on_done {T} answer done P d h = subst (λ (y : Result T Error). OnOk y P) (sym d) h
+
+-- it is all that changes
+pub held_answer : (c c' : Connection) (s' : Session) (answer done : Result (Unit {0}) Error) → done ≡ answer → OnOk answer (c' ≡ record c { session = s' }) → OnErr answer (IsAsBefore s' c'.session) → s' ≡ record c.session { held = s'.held }
+    → HoldsAlone done (standing_of c) (standing_of c')
+held_answer c c' s' (Ok u) done d e r h =
+    let same : standing_of c' ≡ record (standing_of c) { state = record (standing_of c).state { held = (standing_of c').state.held } } =
+    subst (λ (x : Connection). standing_of x ≡ record (standing_of c) { state = record (standing_of c).state { held = (standing_of x).state.held } }) (sym e)
+    (subst (λ (x : Session). standing_of (record c { session = x }) ≡ record (standing_of c) { state = record (standing_of c).state { held = x.held.items } }) (sym h) refl) in
+    (ap (λ (t : Standing). t.output) same, on_done (let r : Result (Unit {0}) Error = Ok u in r) done _ d same)
+held_answer c c' s' (Err x) done d e r h = (r.output ∙ ap (λ (x : Session). x.writer.output) h, on_done (let r : Result (Unit {0}) Error = Err x in r) done _ d tt)

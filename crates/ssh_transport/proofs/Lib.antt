@@ -4,6 +4,7 @@ pub mod Asking
 pub mod Configs
 pub mod Denying
 pub mod Drawing
+pub mod Drawn
 pub mod Failing
 pub mod Handling
 pub mod Heard

@@ -31,13 +31,13 @@ LendsFor (Err x) handed (Err e) = e.now ≡ x
 alive : (old : Standing) (lends : Bool) (P : Type 0) → (old.failed ≡ true → Ok lends ≡ Err Disconnect) → old.failed ≡ true → P
 alive old lends P h f = absurd (let e = h f in cc)
 
-polls_as : (says : Says) (denies : Denies) (untrusted : ServerHost → Type 0) (n n' : PartCalls) (stream : Stream) (old new : Standing) (handed : List ℕ) (answer : Result Bool Error) (result : Result (Option (Bor (List ℕ))) (Bor Error)) → LendsFor answer handed result
+polls_as : (says : Says) (denies : Denies) (untrusted : ServerHost → Type 0) (n n' : PartCalls) (stream stream' : Stream) (old new : Standing) (handed : List ℕ) (answer : Result Bool Error) (result : Result (Option (Bor (List ℕ))) (Bor Error)) → LendsFor answer handed result
     → (old.failed ≡ true → answer ≡ Err Disconnect) → (old.failed ≡ true → new ≡ old) → (new.side ≡ old.side) × (new.config ≡ old.config)
     → (old.failed ≡ false → OnOk answer (new.failed ≡ false)) → (old.failed ≡ false → OnErr answer ((new.failed ≡ true) × (unfinished new ≡ [])))
     → new.delivered ≡ old.delivered → IfOk answer (λ lends. Polls says old (lent_by lends handed) new) → (old.failed ≡ false → IfErr answer (λ e. RefusesPiece says denies untrusted old [] e new))
-    → OnOk answer (AsksWithin old.side old.state new.state n n') → (old.failed ≡ false → OnErr answer (RefusesAsking says old [] new n n')) → OnOk answer (DrawsFirst old new stream)
-    → PollsAs says denies untrusted n n' stream old result new
-polls_as says denies untrusted n n' stream old new handed (Ok true) (Ok (Some p)) rel dead same stays lives ends unqueued polled refused asks asked drawn = record {
+    → OnOk answer (AsksWithin old.side old.state new.state n n') → (old.failed ≡ false → OnErr answer (RefusesAsking says old [] new n n')) → DrawsFirst (new.failed ≡ false) old new stream stream'
+    → PollsAs says denies untrusted n n' stream stream' old result new
+polls_as says denies untrusted n n' stream stream' old new handed (Ok true) (Ok (Some p)) rel dead same stays lives ends unqueued polled refused asks asked drawn = record {
   dead = λ f. alive old true _ dead f;
   stays = stays;
   lives = lives;
@@ -50,10 +50,10 @@ polls_as says denies untrusted n n' stream old new handed (Ok true) (Ok (Some p)
   asks_refused = λ f. tt;
   drawn = drawn;
 }
-polls_as says denies untrusted n n' stream old new handed (Ok true) (Ok None) rel dead same stays lives ends unqueued polled refused asks asked drawn = absurd rel
-polls_as says denies untrusted n n' stream old new handed (Ok true) (Err e) rel dead same stays lives ends unqueued polled refused asks asked drawn = absurd rel
-polls_as says denies untrusted n n' stream old new handed (Ok false) (Ok (Some p)) rel dead same stays lives ends unqueued polled refused asks asked drawn = absurd rel
-polls_as says denies untrusted n n' stream old new handed (Ok false) (Ok None) rel dead same stays lives ends unqueued polled refused asks asked drawn = record {
+polls_as says denies untrusted n n' stream stream' old new handed (Ok true) (Ok None) rel dead same stays lives ends unqueued polled refused asks asked drawn = absurd rel
+polls_as says denies untrusted n n' stream stream' old new handed (Ok true) (Err e) rel dead same stays lives ends unqueued polled refused asks asked drawn = absurd rel
+polls_as says denies untrusted n n' stream stream' old new handed (Ok false) (Ok (Some p)) rel dead same stays lives ends unqueued polled refused asks asked drawn = absurd rel
+polls_as says denies untrusted n n' stream stream' old new handed (Ok false) (Ok None) rel dead same stays lives ends unqueued polled refused asks asked drawn = record {
   dead = λ f. alive old false _ dead f;
   stays = stays;
   lives = lives;
@@ -66,9 +66,9 @@ polls_as says denies untrusted n n' stream old new handed (Ok false) (Ok None) r
   asks_refused = λ f. tt;
   drawn = drawn;
 }
-polls_as says denies untrusted n n' stream old new handed (Ok false) (Err e) rel dead same stays lives ends unqueued polled refused asks asked drawn = absurd rel
-polls_as says denies untrusted n n' stream old new handed (Err x) (Ok o) rel dead same stays lives ends unqueued polled refused asks asked drawn = absurd rel
-polls_as says denies untrusted n n' stream old new handed (Err x) (Err e) rel dead same stays lives ends unqueued polled refused asks asked drawn = record {
+polls_as says denies untrusted n n' stream stream' old new handed (Ok false) (Err e) rel dead same stays lives ends unqueued polled refused asks asked drawn = absurd rel
+polls_as says denies untrusted n n' stream stream' old new handed (Err x) (Ok o) rel dead same stays lives ends unqueued polled refused asks asked drawn = absurd rel
+polls_as says denies untrusted n n' stream stream' old new handed (Err x) (Err e) rel dead same stays lives ends unqueued polled refused asks asked drawn = record {
   dead = λ f. (sym_is rel (dead f), same f);
   stays = stays;
   lives = λ f. tt;
@@ -79,7 +79,7 @@ polls_as says denies untrusted n n' stream old new handed (Err x) (Err e) rel de
   asks = tt;
   few = tt;
   asks_refused = asked;
-  drawn = tt;
+  drawn = drawn;
 } where
   sym_is : e.now ≡ x → (let r : Result Bool Error = Err x in r) ≡ Err Disconnect → e.now ≡ Disconnect
   sym_is a b = cc
@@ -95,11 +95,11 @@ pub lends_refusal : (answer : Result Bool Error) (handed : List ℕ) (x : Error)
 lends_refusal answer handed x b e h = subst (λ (a : Result Bool Error). LendsFor a handed (Err b)) (sym e) h
 
 -- of the value that its caller sees
-pub polls_seen : (says : Config → Says) (denies : Denies) (untrusted : ServerHost → Type 0) (n n' : PartCalls) (stream : Stream) (old t new : Standing) (handed : List ℕ) (answer : Result Bool Error) (result : Result (Option (Bor (List ℕ))) (Bor Error)) → old ≡ t → LendsFor answer handed result
+pub polls_seen : (says : Config → Says) (denies : Denies) (untrusted : ServerHost → Type 0) (n n' : PartCalls) (stream stream' : Stream) (old t new : Standing) (handed : List ℕ) (answer : Result Bool Error) (result : Result (Option (Bor (List ℕ))) (Bor Error)) → old ≡ t → LendsFor answer handed result
     → (old.failed ≡ true → answer ≡ Err Disconnect) → (old.failed ≡ true → new ≡ old) → (new.side ≡ old.side) × (new.config ≡ old.config)
     → (old.failed ≡ false → OnOk answer (new.failed ≡ false)) → (old.failed ≡ false → OnErr answer ((new.failed ≡ true) × (unfinished new ≡ [])))
     → new.delivered ≡ old.delivered → IfOk answer (λ lends. Polls (says old.config) old (lent_by lends handed) new) → (old.failed ≡ false → IfErr answer (λ e. RefusesPiece (says old.config) denies untrusted old [] e new))
-    → OnOk answer (AsksWithin old.side old.state new.state n n') → (old.failed ≡ false → OnErr answer (RefusesAsking (says old.config) old [] new n n')) → OnOk answer (DrawsFirst old new stream)
-    → PollsAs (says t.config) denies untrusted n n' stream t result new
-polls_seen says denies untrusted n n' stream old t new handed answer result same rel dead kept stays lives ends unqueued polled refused asks asked drawn =
-    subst (λ (x : Standing). PollsAs (says x.config) denies untrusted n n' stream x result new) same (polls_as (says old.config) denies untrusted n n' stream old new handed answer result rel dead kept stays lives ends unqueued polled refused asks asked drawn)
+    → OnOk answer (AsksWithin old.side old.state new.state n n') → (old.failed ≡ false → OnErr answer (RefusesAsking (says old.config) old [] new n n')) → DrawsFirst (new.failed ≡ false) old new stream stream'
+    → PollsAs (says t.config) denies untrusted n n' stream stream' t result new
+polls_seen says denies untrusted n n' stream stream' old t new handed answer result same rel dead kept stays lives ends unqueued polled refused asks asked drawn =
+    subst (λ (x : Standing). PollsAs (says x.config) denies untrusted n n' stream stream' x result new) same (polls_as (says old.config) denies untrusted n n' stream stream' old new handed answer result rel dead kept stays lives ends unqueued polled refused asks asked drawn)

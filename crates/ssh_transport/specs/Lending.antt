@@ -32,9 +32,9 @@ queued_by None t = t
 queued_by (Some payload) t = queued t payload
 
 -- What a call that lends the next payload leaves, when the loan is over. The parts were asked so often before and so
--- often behind it, and the generator gave these words next.
+-- often behind it, and its generator was at one stream and then at the other.
 pub record PollsAs (says : Says) (denies : Denies) (untrusted : ServerHost → Type 0) (calls calls' : PartCalls)
-    (stream : Stream) (old : Standing) (result : Result (Option (Bor (List ℕ))) (Bor Error)) (new : Standing) : Type 0 where
+    (stream stream' : Stream) (old : Standing) (result : Result (Option (Bor (List ℕ))) (Bor Error)) (new : Standing) : Type 0 where
   pub dead : old.failed ≡ true → IsRefusedWith result Disconnect × (new ≡ old)
   pub stays : (new.side ≡ old.side) × (new.config ≡ old.config)
   pub lives : old.failed ≡ false → OnOk result (new.failed ≡ false)
@@ -45,9 +45,9 @@ pub record PollsAs (says : Says) (denies : Denies) (untrusted : ServerHost → T
   pub asks : OnOk result (AsksWithin old.side old.state new.state calls calls')
   pub few : IfOk result (λ lent. AsksFew says old (queued_by (payload_in lent) new) calls calls')
   pub asks_refused : old.failed ≡ false → OnErr result (RefusesAsking says old [] new calls calls')
-  pub drawn : OnOk result (DrawsFirst old new stream)
+  pub drawn : DrawsFirst (new.failed ≡ false) old new stream stream'
 
-abbrev pub LendsPoll : Says → Denies → (ServerHost → Type 0) → (calls calls' : PartCalls) → Stream → MutBor Standing
-    → Result (Option (Bor (List ℕ))) (Bor Error) → Fml
-LendsPoll says denies untrusted calls calls' stream s result =
-    Rests (the_row (record { mir = named 1; lft = [] })) s (PollsAs says denies untrusted calls calls' stream s.now result)
+abbrev pub LendsPoll : Says → Denies → (ServerHost → Type 0) → (calls calls' : PartCalls) → (stream stream' : Stream)
+    → MutBor Standing → Result (Option (Bor (List ℕ))) (Bor Error) → Fml
+LendsPoll says denies untrusted calls calls' stream stream' s result =
+    Rests (the_row (record { mir = named 1; lft = [] })) s (PollsAs says denies untrusted calls calls' stream stream' s.now result)

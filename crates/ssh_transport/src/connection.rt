@@ -44,14 +44,14 @@ impl<'c> Connection<'c> {
     ghost use Rattle.ssh_packet.specs.Reading.{window_length};
     ghost use Rattle.ssh_rules.specs.Standing.{IsNew, Rekeyed, Submitted, WaitsInPart, input_room, is_outside, unfinished, with_input};
     ghost use Rattle.ssh_wire.specs.Reading.{waiting_length};
-    ghost use Rattle.ssh_transport.specs.Drawing.{AtMostNext, DrawsFirstIn, GoesNext, OpensDrawn, kexinit_packet, packet_with};
+    ghost use Rattle.ssh_transport.specs.Drawing.{AtMostNext, DrawsFirstIn, DrawsFirstOn, GoesNext, OpensDrawn, kexinit_packet, packet_with};
     ghost use Rattle.ssh_transport.specs.Handling.{IsHeard, IsOpen};
     ghost use Rattle.ssh_transport.specs.Hearing.{EndsBy};
     ghost use Rattle.ssh_transport.specs.Kept.{IsKept, IsLive};
     ghost use Rattle.ssh_transport.specs.Saying.{IsFixed, IsFixedIn, nothing_said};
     ghost use Rattle.ssh_transport.specs.States.{CanBegin, IsUnheard, WaitsBehind, emptied, reading_spot, standing_of, with_more};
     ghost use Rattle.ssh_transport.specs.Stopping.{HearsNothing, IsAsBefore};
-    ghost use Rattle.ssh_transport.specs.Submitting.{Breaks};
+    ghost use Rattle.ssh_transport.specs.Submitting.{AnswersAlone, Breaks, DrawsAlone, HoldsAlone};
     ghost use Rattle.ssh_transport.specs.Taking.{Hears, IfPacket, Reads, Takes, TakesUp, read_by};
 
     /// A side that has written its version line. InvalidConfig where the configuration may not be used; Memory.
@@ -87,14 +87,13 @@ impl<'c> Connection<'c> {
     ) -> Result<(), Error>
         requires { IsKept self.old }
         ensures kept { IsKept self.new }
-        ensures dead { self.old.failed ≡ true → (result ≡ Err Disconnect) × (self.new ≡ self.old)
-            × (parts.new ≡ parts.old) }
+        ensures dead { self.old.failed ≡ true → AnswersAlone (Err Disconnect) result self.old self.new parts.old parts.new }
         ensures stays { IsFixed self.old.session self.new.session }
         ensures lives { self.old.failed ≡ false → OnOk result (self.new.failed ≡ false) }
         ensures ends { self.old.failed ≡ false → OnErr result ((self.new.failed ≡ true)
             × (unfinished (standing_of self.new) ≡ [])) }
         ensures fed { OnOk result (⟦<Parts<A, H, G, R> as Served>⟧.feeds self.old parts.old piece.now self.new) }
-        ensures drawn { OnOk result (DrawsFirstIn self.old self.new (R.stream parts.old.rng)) }
+        ensures drawn { DrawsFirstOn self.old self.new (R.stream parts.old.rng) (R.stream parts.new.rng) }
         ensures refused { self.old.failed ≡ false → IfErr result
             (λ e. ⟦<Parts<A, H, G, R> as Served>⟧.refuses_piece self.old parts.old parts.new piece.now e self.new) }
         ensures keeps { ⟦<Parts<A, H, G, R> as Handed>⟧.keeps parts.old parts.new }
@@ -120,15 +119,14 @@ impl<'c> Connection<'c> {
     ) -> Result<bool, Error>
         requires { IsKept self.old }
         ensures kept { IsKept self.new }
-        ensures dead { self.old.failed ≡ true → (result ≡ Err Disconnect) × (self.new ≡ self.old)
-            × (parts.new ≡ parts.old) }
+        ensures dead { self.old.failed ≡ true → AnswersAlone (Err Disconnect) result self.old self.new parts.old parts.new }
         ensures stays { IsFixed self.old.session self.new.session }
         ensures lives { self.old.failed ≡ false → OnOk result (self.new.failed ≡ false) }
         ensures ends { self.old.failed ≡ false → OnErr result ((self.new.failed ≡ true)
             × (unfinished (standing_of self.new) ≡ [])) }
         ensures polled { IfOk result (λ lends. ⟦<Parts<A, H, G, R> as Served>⟧.polls self.old parts.old lends
             self.new) }
-        ensures drawn { OnOk result (DrawsFirstIn self.old self.new (R.stream parts.old.rng)) }
+        ensures drawn { DrawsFirstOn self.old self.new (R.stream parts.old.rng) (R.stream parts.new.rng) }
         ensures refused { self.old.failed ≡ false → IfErr result
             (λ e. ⟦<Parts<A, H, G, R> as Served>⟧.refuses_piece self.old parts.old parts.new [] e self.new) }
         ensures wants { self.old.failed ≡ false → result ≡ Err Memory → ⟦<Parts<A, H, G, R> as Served>⟧.may_want
@@ -160,7 +158,7 @@ impl<'c> Connection<'c> {
         ensures settled { OnOk result (WaitsBehind self.new.session.line self.new.reader.waiting) }
         ensures takes { IfOk result (λ lends. ⟦<Parts<A, H, G, R> as Served>⟧.takes_payload self.old parts.old lends
             self.new) }
-        ensures drawn { OnOk result (DrawsFirstIn self.old self.new (R.stream parts.old.rng)) }
+        ensures drawn { DrawsFirstIn result self.old self.new (R.stream parts.old.rng) (R.stream parts.new.rng) }
         ensures fails { IfErr result (λ e. ⟦<Parts<A, H, G, R> as Served>⟧.fails self.old parts.old parts.new
             self.old.reader.waiting e self.new) }
         ensures wants { result ≡ Err Memory → ⟦<Parts<A, H, G, R> as Served>⟧.may_want self.old parts.old }
@@ -245,25 +243,25 @@ impl<'c> Connection<'c> {
     ) -> Result<(), Error>
         requires { IsKept self.old }
         ensures kept { IsKept self.new }
-        ensures dead { self.old.failed ≡ true → (result ≡ Err Disconnect) × (self.new ≡ self.old)
-            × (parts.new ≡ parts.old) }
+        ensures dead { self.old.failed ≡ true → AnswersAlone (Err Disconnect) result self.old self.new parts.old parts.new }
         ensures size { self.old.failed ≡ false → IsTrue (is_bad_size (length payload.now))
-            → (result ≡ Err (PacketSize (length payload.now))) × (self.new ≡ self.old) × (parts.new ≡ parts.old) }
+            → AnswersAlone (Err (PacketSize (length payload.now))) result self.old self.new parts.old parts.new }
         ensures inconsistent { self.old.failed ≡ false → is_bad_size (length payload.now) ≡ false
             → is_payload_type (message_type payload.now) ≡ false
-            → (result ≡ Err Inconsistent) × (self.new ≡ self.old) × (parts.new ≡ parts.old) }
+            → AnswersAlone (Err Inconsistent) result self.old self.new parts.old parts.new }
         ensures sent { OnOk result (Submitted nothing_said (standing_of self.old) payload.now (standing_of self.new)) }
         ensures drawn { is_outside (standing_of self.old).state.stands ≡ true → OnOk result
             (GoesNext (standing_of self.old).output (packet_with (standing_of self.old).state.writing payload.now
             (R.stream parts.old.rng)) (standing_of self.new).output) }
+        ensures held { is_outside (standing_of self.old).state.stands ≡ false → (parts.new ≡ parts.old)
+            × HoldsAlone result (standing_of self.old) (standing_of self.new) }
         ensures leaves { self.old.failed ≡ false → is_good_payload payload.now ≡ true → OnErr result
             (((standing_of self.new).state.records ≡ (standing_of self.old).state.records)
             × AtMostNext (standing_of self.old).output (packet_with (standing_of self.old).state.writing payload.now
             (R.stream parts.old.rng)) (standing_of self.new).output) }
         ensures memory { self.old.failed ≡ false → is_good_payload payload.now ≡ true
             → OnErr result ((result ≡ Err Memory) × Breaks (standing_of self.old) (standing_of self.new)) }
-        ensures parts { (parts.new.agreement ≡ parts.old.agreement) × (parts.new.hosts ≡ parts.old.hosts)
-            × (parts.new.groups ≡ parts.old.groups) }
+        ensures parts { DrawsAlone parts.old parts.new }
     {
         if self.failed {
             return Err(Error::Disconnect);
@@ -286,8 +284,7 @@ impl<'c> Connection<'c> {
     ) -> Result<(), Error>
         requires { IsKept self.old }
         ensures kept { IsKept self.new }
-        ensures dead { self.old.failed ≡ true → (result ≡ Err Disconnect) × (self.new ≡ self.old)
-            × (parts.new ≡ parts.old) }
+        ensures dead { self.old.failed ≡ true → AnswersAlone (Err Disconnect) result self.old self.new parts.old parts.new }
         ensures begun { OnOk result (Rekeyed nothing_said (standing_of self.old) (standing_of self.new)) }
         ensures drawn { is_outside (standing_of self.old).state.stands ≡ true → OnOk result
             ((standing_of self.new).output ≡ (standing_of self.old).output ++ kexinit_packet (standing_of self.old).side
@@ -296,11 +293,10 @@ impl<'c> Connection<'c> {
             (((standing_of self.new).state.records ≡ (standing_of self.old).state.records)
             × ((standing_of self.new).output ≡ (standing_of self.old).output)) }
         ensures inside { self.old.failed ≡ false → is_outside (standing_of self.old).state.stands ≡ false
-            → (result ≡ Ok tt) × (self.new ≡ self.old) × (parts.new ≡ parts.old) }
+            → AnswersAlone (Ok tt) result self.old self.new parts.old parts.new }
         ensures memory { self.old.failed ≡ false → OnErr result ((result ≡ Err Memory) × Breaks (standing_of self.old)
             (standing_of self.new)) }
-        ensures parts { (parts.new.agreement ≡ parts.old.agreement) × (parts.new.hosts ≡ parts.old.hosts)
-            × (parts.new.groups ≡ parts.old.groups) }
+        ensures parts { DrawsAlone parts.old parts.new }
     {
         if self.failed {
             return Err(Error::Disconnect);
@@ -347,7 +343,7 @@ impl<'c> Connection<'c> {
         ensures settled { OnOk result (WaitsBehind self.new.session.line self.new.reader.waiting) }
         ensures took { OnOk result (⟦<Parts<A, H, G, R> as Served>⟧.takes self.old parts.old
             (self.old.reader.waiting ++ piece.now) self.new) }
-        ensures drawn { OnOk result (DrawsFirstIn self.old self.new (R.stream parts.old.rng)) }
+        ensures drawn { DrawsFirstIn result self.old self.new (R.stream parts.old.rng) (R.stream parts.new.rng) }
         ensures fails { IfErr result (λ e. ⟦<Parts<A, H, G, R> as Served>⟧.fails self.old parts.old parts.new
             (self.old.reader.waiting ++ piece.now) e self.new) }
         ensures fixed { IsFixedIn self.old self.new }
@@ -407,8 +403,8 @@ impl<'c> Connection<'c> {
         ensures ended { result ≡ Err Memory → EndsBy self.old.session.side self.old.session.line
             self.old.reader.waiting }
         ensures drawn { result ≡ Ok true → OpensDrawn self.old.session self.new.session (R.stream rng.old) }
-        ensures still { result ≡ Ok false → self.new.session ≡ record self.old.session
-            { line = self.new.session.line } }
+        ensures still { result ≡ Ok false → (self.new.session ≡ record self.old.session
+            { line = self.new.session.line }) × (rng.new ≡ rng.old) }
         ensures fixed { IsFixedIn self.old self.new }
     {
         let Some(used) = self.session.hear(rng, self.reader.unread())? else {

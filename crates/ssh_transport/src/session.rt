@@ -1,6 +1,6 @@
 //! What a side says: its version line, its messages of exchanges, the payloads that it seals or holds.
 
-ghost use Rattle.std.specs.Prelude.{◌≡◌, [], ◌++◌, ◌+◌, ◌<◌, ◌≤◌, ◌-◌, if◌then◌else◌, ◌^◌, ◌||◌, ◌&&◌, ◌⊎◌, ℕ, nat_le, not, List, Some, Ok, Err, true, false, IfErr, IfOk, IfSome, OnErr, OnOk, length, take};
+ghost use Rattle.std.specs.Prelude.{◌≡◌, [], ◌++◌, ◌+◌, ◌<◌, ◌≤◌, ◌-◌, if◌then◌else◌, ◌^◌, ◌||◌, ◌&&◌, ◌⊎◌, ℕ, nat_le, not, List, None, Some, Ok, Err, true, false, IfErr, IfOk, IfSome, OnErr, OnOk, length, take};
 ghost use Rattle.ssh_rules.specs.MessageTypes.{is_payload_type, is_violation};
 ghost use Rattle.ssh_transport.specs.Asking.{asks_trust};
 ghost use Rattle.ssh_transport.specs.Drawing.{AtMostNext, GoesNext, OpensDrawn, WritesKexinit, packet_with, writing_at};
@@ -124,6 +124,7 @@ impl<'c> Session<'c> {
         ensures opened { IsOpen self.old → OnOk result (IsOpen self.new) }
         ensures line { IfOk result (λ used. HearsLine self.old piece.now used self.new) }
         ensures drawn { IfOk result (λ used. IfSome used (λ _. OpensDrawn self.old self.new (R.stream rng.old))) }
+        ensures undrawn { result ≡ Ok None → rng.new ≡ rng.old }
         ensures unheard { IfErr result (λ e. HearsNot self.old piece.now e self.new) }
         ensures ended { IsUnheard self.old → result ≡ Err Memory → EndsBy self.old.side self.old.line piece.now }
     {
@@ -202,6 +203,8 @@ impl<'c> Session<'c> {
         ensures drawn { is_outside (stands_of self.old.finished.items self.old.kex) ≡ true → OnOk result
             (GoesNext self.old.writer.output (packet_with (writing_at self.old.writer) payload.now (R.stream rng.old))
             self.new.writer.output) }
+        ensures held { is_outside (stands_of self.old.finished.items self.old.kex) ≡ false → (rng.new ≡ rng.old)
+            × (self.new ≡ record self.old { held = self.new.held }) }
         ensures leaves { OnErr result ((self.new.finished.items ≡ self.old.finished.items)
             × AtMostNext self.old.writer.output (packet_with (writing_at self.old.writer) payload.now
             (R.stream rng.old)) self.new.writer.output) }

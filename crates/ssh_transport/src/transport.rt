@@ -49,7 +49,7 @@ impl<'c> Transport<'c> {
     ghost use Rattle.ssh_rules.specs.Standing.{IsNew, Rekeyed, Submitted, TakesInput, input_room, is_outside, most_unfinished, unfinished, with_input};
     ghost use Rattle.ssh_transport.specs.Drawing.{AtMostNext, DrawsFirst, GoesNext, kexinit_packet, packet_with};
     ghost use Rattle.ssh_transport.specs.Lending.{IsRefusedWith, LendsPoll};
-    ghost use Rattle.ssh_transport.specs.Submitting.{Breaks};
+    ghost use Rattle.ssh_transport.specs.Submitting.{AnswersAlone, Breaks, DrawsAlone, HoldsAlone};
 
     /// A client that has written its version line. InvalidConfig names the first test that refuses its configuration:
     ///
@@ -102,14 +102,14 @@ impl<'c> Transport<'c> {
         parts: &mut Parts<A, H, G, R>,
         piece: &[u8],
     ) -> Result<(), Error>
-        ensures dead { self.old.failed ≡ true → (result ≡ Err Disconnect) × (self.new ≡ self.old)
-            × (parts.new ≡ parts.old) }
+        ensures dead { self.old.failed ≡ true → AnswersAlone (Err Disconnect) result self.old self.new parts.old parts.new }
         ensures stays { (self.new.side ≡ self.old.side) × (self.new.config ≡ self.old.config) }
         ensures lives { self.old.failed ≡ false → OnOk result (self.new.failed ≡ false) }
         ensures ends { self.old.failed ≡ false → OnErr result ((self.new.failed ≡ true) × (unfinished self.new ≡ [])) }
         ensures fed { OnOk result (TakesInput (⟦<Parts<A, H, G, R> as Handed>⟧.says self.old.config parts.old) self.old
             piece.now self.new) }
-        ensures drawn { OnOk result (DrawsFirst self.old self.new (R.stream parts.old.rng)) }
+        ensures drawn { DrawsFirst (self.new.failed ≡ false) self.old self.new (R.stream parts.old.rng)
+            (R.stream parts.new.rng) }
         ensures refused { self.old.failed ≡ false → IfErr result
             (λ e. RefusesPiece (⟦<Parts<A, H, G, R> as Handed>⟧.says self.old.config parts.old)
             (⟦<Parts<A, H, G, R> as Handed>⟧.denies parts.old parts.new)
@@ -163,7 +163,7 @@ impl<'c> Transport<'c> {
             (⟦<Parts<A, H, G, R> as Handed>⟧.denies parts.old parts.new)
             (⟦<Parts<A, H, G, R> as Asked>⟧.distrusts parts.old parts.new)
             (⟦<Parts<A, H, G, R> as Asked>⟧.calls parts.old) (⟦<Parts<A, H, G, R> as Asked>⟧.calls parts.new)
-            (R.stream parts.old.rng) self.entry result) }
+            (R.stream parts.old.rng) (R.stream parts.new.rng) self.entry result) }
         ensures dead { self.old.failed ≡ true → IsRefusedWith result Disconnect × (parts.new ≡ parts.old) }
         ensures memory { self.old.failed ≡ false → IsRefusedWith result Memory → MayWant
             (⟦<Parts<A, H, G, R> as Handed>⟧.says self.old.config parts.old) self.old }
@@ -190,24 +190,24 @@ impl<'c> Transport<'c> {
         parts: &mut Parts<A, H, G, R>,
         payload: &[u8],
     ) -> Result<(), Error>
-        ensures dead { self.old.failed ≡ true → (result ≡ Err Disconnect) × (self.new ≡ self.old)
-            × (parts.new ≡ parts.old) }
+        ensures dead { self.old.failed ≡ true → AnswersAlone (Err Disconnect) result self.old self.new parts.old parts.new }
         ensures size { self.old.failed ≡ false → IsTrue (is_bad_size (length payload.now))
-            → (result ≡ Err (PacketSize (length payload.now))) × (self.new ≡ self.old) × (parts.new ≡ parts.old) }
+            → AnswersAlone (Err (PacketSize (length payload.now))) result self.old self.new parts.old parts.new }
         ensures inconsistent { self.old.failed ≡ false → is_bad_size (length payload.now) ≡ false
             → is_payload_type (message_type payload.now) ≡ false
-            → (result ≡ Err Inconsistent) × (self.new ≡ self.old) × (parts.new ≡ parts.old) }
+            → AnswersAlone (Err Inconsistent) result self.old self.new parts.old parts.new }
         ensures sent { OnOk result (Submitted (⟦<Parts<A, H, G, R> as Handed>⟧.says self.old.config parts.old) self.old
             payload.now self.new) }
         ensures drawn { is_outside self.old.state.stands ≡ true → OnOk result (GoesNext self.old.output
             (packet_with self.old.state.writing payload.now (R.stream parts.old.rng)) self.new.output) }
+        ensures held { is_outside self.old.state.stands ≡ false → (parts.new ≡ parts.old)
+            × HoldsAlone result self.old self.new }
         ensures leaves { self.old.failed ≡ false → is_good_payload payload.now ≡ true → OnErr result
             ((self.new.state.records ≡ self.old.state.records) × AtMostNext self.old.output
             (packet_with self.old.state.writing payload.now (R.stream parts.old.rng)) self.new.output) }
         ensures memory { self.old.failed ≡ false → is_good_payload payload.now ≡ true
             → OnErr result ((result ≡ Err Memory) × Breaks self.old self.new) }
-        ensures parts { (parts.new.agreement ≡ parts.old.agreement) × (parts.new.hosts ≡ parts.old.hosts)
-            × (parts.new.groups ≡ parts.old.groups) }
+        ensures parts { DrawsAlone parts.old parts.new }
     {
         self.connection.submit(parts, payload)
     }
@@ -218,8 +218,7 @@ impl<'c> Transport<'c> {
         &mut self,
         parts: &mut Parts<A, H, G, R>,
     ) -> Result<(), Error>
-        ensures dead { self.old.failed ≡ true → (result ≡ Err Disconnect) × (self.new ≡ self.old)
-            × (parts.new ≡ parts.old) }
+        ensures dead { self.old.failed ≡ true → AnswersAlone (Err Disconnect) result self.old self.new parts.old parts.new }
         ensures begun { OnOk result (Rekeyed (⟦<Parts<A, H, G, R> as Handed>⟧.says self.old.config parts.old) self.old
             self.new) }
         ensures drawn { is_outside self.old.state.stands ≡ true → OnOk result (self.new.output
@@ -228,10 +227,9 @@ impl<'c> Transport<'c> {
         ensures leaves { self.old.failed ≡ false → OnErr result
             ((self.new.state.records ≡ self.old.state.records) × (self.new.output ≡ self.old.output)) }
         ensures inside { self.old.failed ≡ false → is_outside self.old.state.stands ≡ false
-            → (result ≡ Ok tt) × (self.new ≡ self.old) × (parts.new ≡ parts.old) }
+            → AnswersAlone (Ok tt) result self.old self.new parts.old parts.new }
         ensures memory { self.old.failed ≡ false → OnErr result ((result ≡ Err Memory) × Breaks self.old self.new) }
-        ensures parts { (parts.new.agreement ≡ parts.old.agreement) × (parts.new.hosts ≡ parts.old.hosts)
-            × (parts.new.groups ≡ parts.old.groups) }
+        ensures parts { DrawsAlone parts.old parts.new }
     {
         self.connection.rekey(parts)
     }

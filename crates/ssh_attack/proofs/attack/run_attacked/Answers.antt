@@ -1,4 +1,5 @@
-use Rattle.std.proofs.Common.{inl, refl, sym, subst}
+use Rattle.ssh_attack.proofs.Starting.{side_drawn}
+use Rattle.std.proofs.Common.{ap, inl, refl, sym, subst}
 use Rattle.std.proofs.lemmas.Result.{err_from_is_err_and}
 use Rattle.ssh_rules.specs.AttackCauses.{IsAttackedRun}
 use Rattle.ssh_kex.specs.declared.config.Config.{Config}
@@ -24,3 +25,9 @@ returns-clause-run g c =
     (side_started (λ (q : Config). tells_by g.A.Agreement g.H.HostKeys g.G.GroupLookup q c.args.client_parts.now.agreement c.run.new.client_parts.agreement c.args.client_parts.now.hosts c.run.new.client_parts.hosts c.args.client_parts.now.groups c.run.new.client_parts.groups) Client c.args.client.now c.args.steps.now c.in_ok-answers.answers.items c.new.result c.in_ok-client.field-0 (counted_by g.A.Agreement g.H.HostKeys g.G.GroupLookup c.args.client_parts.now.agreement c.args.client_parts.now.hosts c.args.client_parts.now.groups) (attacked_end c.run.new.self.client (counted_by g.A.Agreement g.H.HostKeys g.G.GroupLookup c.run.new.client_parts.agreement c.run.new.client_parts.hosts c.run.new.client_parts.groups)) c.in_ok-client.ensures.made c.new.ensures.transport c.new.ensures.taken c.new.ensures.delivered c.in_ok-answers.ensures.client)
     (side_started (λ (q : Config). tells_by g.A.Agreement g.H.HostKeys g.G.GroupLookup q c.args.server_parts.now.agreement c.run.new.server_parts.agreement c.args.server_parts.now.hosts c.run.new.server_parts.hosts c.args.server_parts.now.groups c.run.new.server_parts.groups) Server c.args.server.now c.args.steps.now c.in_ok-answers.answers.items c.new-2.result c.in_ok-server.field-0 (counted_by g.A.Agreement g.H.HostKeys g.G.GroupLookup c.args.server_parts.now.agreement c.args.server_parts.now.hosts c.args.server_parts.now.groups) (attacked_end c.run.new.self.server (counted_by g.A.Agreement g.H.HostKeys g.G.GroupLookup c.run.new.server_parts.agreement c.run.new.server_parts.hosts c.run.new.server_parts.groups)) c.in_ok-server.ensures.made c.new-2.ensures.transport c.new-2.ensures.taken c.new-2.ensures.delivered c.in_ok-answers.ensures.server)
     refl refl)
+
+pub returns-clause-drawn : goal.returns-clause-drawn
+returns-clause-drawn g c = record {
+  from_client = side_drawn Client c.args.client.now c.in_ok-client.field-0 c.new.result.transport c.run.new.self.client.transport _ _ _ c.in_ok-client.ensures.made c.new.ensures.transport c.in_ok-answers.ensures.client_draws (ap (λ r. r.client.wire) c.in_ok-report.ensures);
+  from_server = side_drawn Server c.args.server.now c.in_ok-server.field-0 c.new-2.result.transport c.run.new.self.server.transport _ _ _ c.in_ok-server.ensures.made c.new-2.ensures.transport c.in_ok-answers.ensures.server_draws (ap (λ r. r.server.wire) c.in_ok-report.ensures);
+}

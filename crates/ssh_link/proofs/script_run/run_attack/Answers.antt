@@ -4,6 +4,7 @@ use Rattle.ssh_link.specs.PlanParts.{IsInvalidPlan, IsValidPlan}
 use Rattle.ssh_link.specs.PlanRun.{IsAttackedPlan}
 use Rattle.ssh_script.specs.Plans.{Plan}
 use Rattle.ssh_link.proofs.AttackedPlans.{Begins, passed, told_attack}
+use Rattle.ssh_link.proofs.Seeds.{seeded_told}
 use Rattle.ssh_link.proofs.script_run.run_attack.Goals as goal
 
 pub returns : goal.returns
@@ -20,7 +21,8 @@ returns c =
           (told_attack plan c.as_slice.result.now begin start _ _ _ _ c.run_attacked.result c.as_slice.ensures.value
           client.bits client.agreement client.hosts client.groups client.trusted client.agreement_unasked client.hosts_unasked client.groups_unasked
           server.bits server.agreement server.hosts server.groups server.trusted server.agreement_unasked server.hosts_unasked server.groups_unasked
-          c.run_attacked.ensures.run);
+          c.run_attacked.ensures.run
+          (seeded_told (λ x. x.client.wire) (λ x. x.server.wire) plan p.rng q.rng c.run_attacked.result client.rng server.rng c.run_attacked.ensures.drawn));
       valid = subst (λ x. OnOk c.run_attacked.result (IsValidPlan x)) c.script.view_is (passed _ c.run_attacked.result c.run_attacked.ensures.configs);
       causes = subst (λ x. IfErr c.run_attacked.result (λ e. (e ≡ Memory) ⊎ IsInvalidPlan x e)) c.script.view_is c.run_attacked.ensures.refused;
     }

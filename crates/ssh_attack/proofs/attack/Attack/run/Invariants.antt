@@ -5,6 +5,7 @@ use Rattle.ssh_attack.specs.AttackEnds.{attacked_end}
 use Rattle.ssh_attack.proofs.attack.Attack.run.Given as goal
 use Rattle.ssh_kex.specs.Members.{AgreementKept, GroupsKept, HostsKept}
 use Rattle.ssh_rules.specs.Asking.{counted_by}
+use Rattle.ssh_transport.specs.Drawing.{StaysDrawn}
 
 abbrev pub invariant-loop-step : goal.invariant-loop-step
 invariant-loop-step g l = record {
@@ -19,4 +20,6 @@ invariant-loop-step g l = record {
   server_agreement : AgreementKept g.A.Agreement l.fn.server_parts.agreement l.server_parts.agreement;
   server_hosts : HostsKept g.H.HostKeys l.fn.server_parts.hosts l.server_parts.hosts;
   server_groups : GroupsKept g.G.GroupLookup l.fn.server_parts.groups l.server_parts.groups;
+  client_draws : StaysDrawn l.fn.self.client.transport l.self.client.transport (g.R.Rng.stream l.fn.client_parts.rng) (g.R.Rng.stream l.client_parts.rng);
+  server_draws : StaysDrawn l.fn.self.server.transport l.self.server.transport (g.R.Rng.stream l.fn.server_parts.rng) (g.R.Rng.stream l.server_parts.rng);
 }

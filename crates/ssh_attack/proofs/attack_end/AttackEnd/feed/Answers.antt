@@ -1,6 +1,11 @@
-use Rattle.std.proofs.Common.{rules}
+use Rattle.ssh_transport.proofs.Lemmas.{drawn_fed, drawn_taken}
+use Rattle.std.proofs.Common.{ap, rules}
 use Rattle.ssh_attack.proofs.Feeding.{fed_live}
 use Rattle.ssh_attack.proofs.attack_end.AttackEnd.feed.Goals as goal
 
 pub returns-in_ok-append-clause-feeds : goal.returns-in_ok-append-clause-feeds
 returns-in_ok-append-clause-feeds g c = λ m. fed_live _ _ _ c.feed-answer.new.self c.args.bytes.now c.feed-answer.result m (search rules) c.see_bytes.ensures (search rules) c.take_delivered.ensures.left (search rules) c.feed-answer.ensures.fed c.feed-answer.ensures.few c.feed-answer.ensures.refused_few
+
+pub returns-in_ok-append-clause-draws : goal.returns-in_ok-append-clause-draws
+returns-in_ok-append-clause-draws g c = λ m. drawn_taken c.args.self.now.transport c.feed-answer.new.self c.take_delivered.new.self _ _ c.take_delivered.ensures.left (drawn_fed _ _ _ c.args.self.now.transport c.feed-answer.new.self _ _ _ c.feed-answer.result
+    (λ f. let d = c.feed-answer.ensures.dead f in (d.1, ap (λ p. g.R.Rng.stream p.rng) d.2)) c.feed-answer.ensures.stays c.feed-answer.ensures.fed c.feed-answer.ensures.refused c.feed-answer.ensures.drawn)

@@ -1,3 +1,4 @@
+use Rattle.ssh_run.proofs.Drawn.{both_join}
 use Rattle.std.proofs.Common.{◌∙◌, arith}
 use Rattle.std.proofs.lemmas.Result.{err_from_is_err_and}
 use Rattle.ssh_transport.proofs.Lemmas.{agreement_after, hosts_after, groups_after}
@@ -18,6 +19,7 @@ loop-self-preserved g c = record {
   server_agreement = agreement_after _ _ _ _ _ _ _ _ c.loop-self.invariant.server_agreement c.turn.ensures.server_keeps.agreement;
   server_hosts = hosts_after _ _ _ _ _ _ _ _ _ _ _ _ c.loop-self.invariant.server_hosts c.turn.ensures.server_keeps.hosts;
   server_groups = groups_after _ _ _ _ _ _ _ _ c.loop-self.invariant.server_groups c.turn.ensures.server_keeps.groups;
+  draws = both_join _ _ _ _ _ _ _ _ _ c.loop-self.invariant.draws c.in_ok-turn.ensures.draws;
 }
 
 pub returns-in_err-turn-clause-refused : goal.returns-in_err-turn-clause-refused

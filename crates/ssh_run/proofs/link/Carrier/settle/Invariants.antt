@@ -1,6 +1,6 @@
 use Rattle.std.proofs.Common.{◌≡◌, ◌-◌, ◌≤◌}
 use Rattle.ssh_run.specs.Asking.{SideAsks}
-use Rattle.ssh_run.specs.LinkEnds.{link_of}
+use Rattle.ssh_run.specs.LinkEnds.{BothStayDrawn, link_of}
 use Rattle.ssh_run.specs.RefusedCarrying.{settle_turns}
 use Rattle.ssh_run.proofs.LinkSoFar.{TurnsSoFar}
 use Rattle.ssh_run.proofs.link.Carrier.settle.Given as goal
@@ -24,6 +24,7 @@ invariant-loop-self g l = record {
   server_agreement : AgreementKept g.A.Agreement l.fn.server_parts.agreement l.server_parts.agreement;
   server_hosts : HostsKept g.H.HostKeys l.fn.server_parts.hosts l.server_parts.hosts;
   server_groups : GroupsKept g.G.GroupLookup l.fn.server_parts.groups l.server_parts.groups;
+  draws : BothStayDrawn (link_of l.fn.self) (link_of l.self) (g.R.Rng.stream l.fn.client_parts.rng) (g.R.Rng.stream l.client_parts.rng) (g.R.Rng.stream l.fn.server_parts.rng) (g.R.Rng.stream l.server_parts.rng);
 }
 
 abbrev pub decreases-loop-self : goal.decreases-loop-self

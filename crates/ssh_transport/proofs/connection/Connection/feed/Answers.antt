@@ -1,4 +1,5 @@
-use Rattle.ssh_transport.proofs.Drawing.{first_answer}
+use Rattle.ssh_transport.specs.States.{standing_of}
+use Rattle.ssh_transport.proofs.Drawing.{first_answer, first_still}
 use Rattle.ssh_transport.proofs.Failing.{asked_answer, asks_answer, piece_answer, refused_answer}
 use Rattle.ssh_transport.proofs.Inputs.{fed_answer}
 use Rattle.ssh_transport.proofs.connection.Connection.feed.Goals as goal
@@ -19,4 +20,7 @@ pub returns-clause-refused_few : goal.returns-clause-refused_few
 returns-clause-refused_few g c = λ f. piece_answer _ _ _ _ _ c.args.self.now c.take-taken.new.self c.fail_on.new.self c.args.piece.now c.take-taken.result c.fail_on.result c.fail_on.ensures.result c.take-taken.ensures.fixed.0 c.fail_on.ensures.breaks c.fail_on.ensures.rests c.take-taken.ensures.fails
 
 pub returns-clause-drawn : goal.returns-clause-drawn
-returns-clause-drawn g c = first_answer c.args.self.now c.take-taken.new.self c.fail_on.new.self _ c.take-taken.result c.fail_on.result c.fail_on.ensures.result c.fail_on.ensures.same c.take-taken.ensures.drawn
+returns-clause-drawn g c = first_answer c.args.self.now c.take-taken.new.self c.fail_on.new.self _ _ c.take-taken.result c.fail_on.ensures.same c.fail_on.ensures.rests c.fail_on.ensures.breaks c.take-taken.ensures.drawn
+
+pub returns-then-self-clause-drawn : goal.returns-then-self-clause-drawn
+returns-then-self-clause-drawn g c = first_still _ (standing_of c.args.self.now) _

@@ -1,4 +1,4 @@
-use Rattle.std.proofs.Common.{ℕ, ◌<◌, ◌^◌, List, [], Err, None, Some, ap, ◌∙◌, refl, sym, subst}
+use Rattle.std.proofs.Common.{ℕ, ◌<◌, ◌^◌, List, [], Err, None, Ok, Option, Some, ap, ◌∙◌, refl, sym, subst}
 use Rattle.ssh_wire.specs.declared.error.Error.{Error}
 use Rattle.ssh_wire.specs.declared.error.Error.TheVariants.{Memory}
 use Rattle.ssh_packet.specs.Reading.{Reader}
@@ -72,4 +72,4 @@ pub returns-clause-drawn : goal.returns-clause-drawn
 returns-clause-drawn g c = λ e. some_of c.in_ok-used.field-0 c.in-Some.used (OpensDrawn c.args.self.now.session c.hear.new.self (g.R.Rng.stream c.args.rng.now)) c.in-Some.is c.in_ok-used.ensures.drawn
 
 pub returns-in_default-clause-still : goal.returns-in_default-clause-still
-returns-in_default-clause-still g c = λ e. (heard_at c.args.self.now c.hear.new.self c.unread.result.now c.in_ok-used.field-0 None c.unread.ensures c.in_default.is c.in_ok-used.ensures.line).2
+returns-in_default-clause-still g c = λ e. ((heard_at c.args.self.now c.hear.new.self c.unread.result.now c.in_ok-used.field-0 None c.unread.ensures c.in_default.is c.in_ok-used.ensures.line).2, c.hear.ensures.undrawn (c.in_ok-used.was ∙ ap (λ (o : Option ℕ). Ok o) c.in_default.is))

@@ -1,5 +1,5 @@
-use Rattle.ssh_transport.specs.States.{emptied}
-use Rattle.ssh_transport.proofs.Drawing.{first_answer}
+use Rattle.ssh_transport.specs.States.{emptied, standing_of}
+use Rattle.ssh_transport.proofs.Drawing.{first_answer, first_still}
 use Rattle.ssh_transport.proofs.Failing.{asked_answer, asks_answer, fails_alone, refused_answer}
 use Rattle.ssh_transport.proofs.Inputs.{polled_answer}
 use Rattle.ssh_transport.proofs.connection.Connection.poll.Goals as goal
@@ -17,4 +17,7 @@ pub returns-clause-asked : goal.returns-clause-asked
 returns-clause-asked g c = λ f. asked_answer _ _ _ _ _ c.args.self.now c.take_payload-polled.new.self c.fail_on.new.self _ c.take_payload-polled.result c.fail_on.result c.fail_on.ensures.result c.take_payload-polled.ensures.fixed.0 c.fail_on.ensures.breaks c.fail_on.ensures.rests (fails_alone _ _ _ _ (emptied c.args.self.now) c.take_payload-polled.new.self c.args.self.now.reader.waiting c.take_payload-polled.result c.take_payload-polled.ensures.fails)
 
 pub returns-clause-drawn : goal.returns-clause-drawn
-returns-clause-drawn g c = first_answer c.args.self.now c.take_payload-polled.new.self c.fail_on.new.self _ c.take_payload-polled.result c.fail_on.result c.fail_on.ensures.result c.fail_on.ensures.same c.take_payload-polled.ensures.drawn
+returns-clause-drawn g c = first_answer c.args.self.now c.take_payload-polled.new.self c.fail_on.new.self _ _ c.take_payload-polled.result c.fail_on.ensures.same c.fail_on.ensures.rests c.fail_on.ensures.breaks c.take_payload-polled.ensures.drawn
+
+pub returns-then-self-clause-drawn : goal.returns-then-self-clause-drawn
+returns-then-self-clause-drawn g c = first_still _ (standing_of c.args.self.now) _

@@ -1,8 +1,8 @@
-use Rattle.std.proofs.Common.{ℕ, List, sym, subst}
+use Rattle.std.proofs.Common.{ℕ, List, ap, sym, subst}
 use Rattle.ssh_transport.specs.Saying.{IsSettled}
 use Rattle.ssh_transport.specs.States.{standing_of}
 use Rattle.ssh_transport.specs.Drawing.{AtMostNext, GoesNext, packet_with, writing_at}
-use Rattle.ssh_transport.proofs.Drawing.{drawn_answer, left_answer}
+use Rattle.ssh_transport.proofs.Drawing.{drawn_answer, held_answer, left_answer}
 use Rattle.ssh_transport.proofs.Opened.{on_both}
 use Rattle.ssh_transport.proofs.Submitting.{broken_answer, kept_behind, sent_answer}
 use Rattle.ssh_transport.proofs.connection.Connection.submit.Goals as goal
@@ -24,3 +24,8 @@ returns-clause-drawn g c = λ o. drawn_answer c.args.self.now c.fail_on.new.self
 
 pub returns-clause-leaves : goal.returns-clause-leaves
 returns-clause-leaves g c = λ f v. left_answer c.args.self.now c.fail_on.new.self c.submit-sent.new.self (λ (a b : List ℕ). AtMostNext a (packet_with (writing_at c.args.self.now.session.writer) c.args.payload.now (g.R.Rng.stream c.args.parts.now.rng)) b) c.submit-sent.result c.fail_on.result c.fail_on.ensures.result c.fail_on.ensures.rests c.submit-sent.ensures.leaves
+
+pub returns-clause-held : goal.returns-clause-held
+returns-clause-held g c = λ o.
+    let h = c.submit-sent.ensures.held o in
+    (ap (λ (r : g.row.R.Denot). record c.args.parts.now { rng = r }) h.0, held_answer c.args.self.now c.fail_on.new.self c.submit-sent.new.self c.submit-sent.result c.fail_on.result c.fail_on.ensures.result c.fail_on.ensures.same c.fail_on.ensures.rests h.1)

@@ -3,7 +3,7 @@ use Rattle.ssh_kex.specs.declared.config.Config.{Config}
 use Rattle.ssh_transport.specs.States.{emptied, reading_spot, with_more}
 use Rattle.std.proofs.lemmas.Result.{err_from_is_err_and}
 use Rattle.ssh_transport.proofs.Asking.{between_heard, between_join, to_later, to_still, where_ok}
-use Rattle.ssh_transport.proofs.Drawing.{first_awaited, first_read}
+use Rattle.ssh_transport.proofs.Drawing.{first_awaited, first_read, first_unheard}
 use Rattle.ssh_transport.proofs.Failing.{fails_kept, fails_read}
 use Rattle.ssh_transport.proofs.Heard.{all_kept, hears_all, hears_kept, part_nothing}
 use Rattle.ssh_transport.proofs.Inputs.{kept_all, takes_none, takes_read}
@@ -43,7 +43,14 @@ pub returns-clause-asks : goal.returns-clause-asks
 returns-clause-asks g c = between_heard (emptied c.args.self.now) c.hear.new.self _ _ (hears_all c.args.self.now c.keep-kept.new.self c.hear.new.self c.args.piece.now [] c.keep-kept.result _ c.keep-kept.ensures.rest c.keep-kept.ensures.taken (all_kept c.args.self.now c.keep-kept.new.self c.args.piece.now [] c.keep-kept.result _ c.keep-kept.ensures.rest c.keep-kept.ensures.taken c.keep-kept.ensures.within c.keep-kept.ensures.all (c.hear.ensures.part (c.in_ok-is_heard.was ∙ ap (λ (b : Bool). Ok b) c.if-is_heard.false)).1) c.in_ok-is_heard.ensures.heard)
 
 pub returns-then-is_heard-clause-drawn : goal.returns-then-is_heard-clause-drawn
-returns-then-is_heard-clause-drawn g c = first_read _ c.args.self.now c.keep-kept.new.self c.hear.new.self c.read_all.new.self _ _ c.read_all.result c.keep-kept.ensures.rest (c.hear.ensures.drawn (c.in_ok-is_heard.was ∙ ap (λ (b : Bool). Ok b) c.if-is_heard.true)) c.read_all.ensures.reads
+returns-then-is_heard-clause-drawn g c = first_read (says_of g.A.Agreement g.H.HostKeys g.G.GroupLookup c.hear.new.self.session.config.now c.args.parts.now.agreement c.args.parts.now.hosts c.args.parts.now.groups) _ _ _ c.args.self.now c.keep-kept.new.self c.hear.new.self c.read_all.new.self _ _ _ c.read_all.result c.keep-kept.ensures.rest (c.hear.ensures.drawn (c.in_ok-is_heard.was ∙ ap (λ (b : Bool). Ok b) c.if-is_heard.true)) c.read_all.ensures.reads c.read_all.ensures.stops
 
 pub returns-clause-drawn : goal.returns-clause-drawn
-returns-clause-drawn g c = first_awaited c.args.self.now c.keep-kept.new.self c.hear.new.self _ c.keep-kept.ensures.rest (c.hear.ensures.still (c.in_ok-is_heard.was ∙ ap (λ (b : Bool). Ok b) c.if-is_heard.false))
+returns-clause-drawn g c =
+    let s = c.hear.ensures.still (c.in_ok-is_heard.was ∙ ap (λ (b : Bool). Ok b) c.if-is_heard.false) in
+    first_awaited _ c.args.self.now c.keep-kept.new.self c.hear.new.self _ _ c.keep-kept.ensures.rest s.0 (ap (λ (r : g.row.R.Denot). g.R.Rng.stream r) s.1)
+
+pub returns-in_err-is_heard-clause-drawn : goal.returns-in_err-is_heard-clause-drawn
+returns-in_err-is_heard-clause-drawn g c =
+    let p = err_from_is_err_and c.from_residual.result c.from_residual.ensures.1 in
+    first_unheard c.from_residual.result p.0 c.args.self.now c.keep-kept.new.self c.hear.new.self _ _ p.1 c.keep-kept.ensures.rest c.in_err-is_heard.ensures.fails.not.0

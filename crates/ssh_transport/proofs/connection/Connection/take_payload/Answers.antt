@@ -5,7 +5,7 @@ use Rattle.ssh_kex.specs.declared.config.Config.{Config}
 use Rattle.ssh_transport.specs.States.{emptied}
 use Rattle.std.proofs.lemmas.Result.{err_from_is_err_and}
 use Rattle.ssh_transport.proofs.Asking.{between_heard, between_join, to_later, to_still, where_ok}
-use Rattle.ssh_transport.proofs.Drawing.{first_awaited, first_polled}
+use Rattle.ssh_transport.proofs.Drawing.{first_awaited, first_polled, first_unheard}
 use Rattle.ssh_transport.proofs.Failing.{fails_hearing, fails_read}
 use Rattle.ssh_transport.proofs.Inputs.{takes_nothing, takes_polled}
 use Rattle.ssh_transport.proofs.Kept.{live_emptied}
@@ -45,7 +45,14 @@ pub returns-clause-asks : goal.returns-clause-asks
 returns-clause-asks g c = between_heard (emptied c.args.self.now) c.hear.new.self c.args.self.now.reader.waiting _ c.in_ok-is_heard.ensures.heard
 
 pub returns-then-is_heard-clause-drawn : goal.returns-then-is_heard-clause-drawn
-returns-then-is_heard-clause-drawn g c = first_polled (says_of g.A.Agreement g.H.HostKeys g.G.GroupLookup c.hear.new.self.session.config.now c.args.parts.now.agreement c.args.parts.now.hosts c.args.parts.now.groups) c.args.self.now c.hear.new.self c.read_payload.new.self _ c.read_payload.result (c.hear.ensures.drawn (c.in_ok-is_heard.was ∙ ap (λ (b : Bool). Ok b) c.if-is_heard.true)) c.read_payload.ensures.reads
+returns-then-is_heard-clause-drawn g c = first_polled (says_of g.A.Agreement g.H.HostKeys g.G.GroupLookup c.hear.new.self.session.config.now c.args.parts.now.agreement c.args.parts.now.hosts c.args.parts.now.groups) _ _ _ c.args.self.now c.hear.new.self c.read_payload.new.self _ _ c.read_payload.result (c.hear.ensures.drawn (c.in_ok-is_heard.was ∙ ap (λ (b : Bool). Ok b) c.if-is_heard.true)) c.read_payload.ensures.reads c.read_payload.ensures.stops
 
 pub returns-clause-drawn : goal.returns-clause-drawn
-returns-clause-drawn g c = first_awaited c.args.self.now c.args.self.now c.hear.new.self _ refl (c.hear.ensures.still (c.in_ok-is_heard.was ∙ ap (λ (b : Bool). Ok b) c.if-is_heard.false))
+returns-clause-drawn g c =
+    let s = c.hear.ensures.still (c.in_ok-is_heard.was ∙ ap (λ (b : Bool). Ok b) c.if-is_heard.false) in
+    first_awaited _ c.args.self.now c.args.self.now c.hear.new.self _ _ refl s.0 (ap (λ (r : g.row.R.Denot). g.R.Rng.stream r) s.1)
+
+pub returns-in_err-is_heard-clause-drawn : goal.returns-in_err-is_heard-clause-drawn
+returns-in_err-is_heard-clause-drawn g c =
+    let p = err_from_is_err_and c.from_residual.result c.from_residual.ensures.1 in
+    first_unheard c.from_residual.result p.0 c.args.self.now c.args.self.now c.hear.new.self _ _ p.1 refl c.in_err-is_heard.ensures.fails.not.0

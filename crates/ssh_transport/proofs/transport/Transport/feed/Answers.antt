@@ -28,4 +28,4 @@ pub returns-clause-refused_few : goal.returns-clause-refused_few
 returns-clause-refused_few g c = subst (λ (t : Standing). t.failed ≡ false → IfErr c.feed.result (λ e. RefusesPieceAsking (says_of g.A.Agreement g.H.HostKeys g.G.GroupLookup t.config c.args.parts.now.agreement c.args.parts.now.hosts c.args.parts.now.groups) (denies_of g.A.Agreement g.H.HostKeys g.G.GroupLookup c.args.parts.now.agreement c.feed.new.parts.agreement c.args.parts.now.hosts c.feed.new.parts.hosts c.args.parts.now.groups c.feed.new.parts.groups) (untrusted_of g.H.HostKeys c.args.parts.now.hosts c.feed.new.parts.hosts) t c.args.piece.now e (standing_of c.feed.new.self) (counted_by g.A.Agreement g.H.HostKeys g.G.GroupLookup c.args.parts.now.agreement c.args.parts.now.hosts c.args.parts.now.groups) (counted_by g.A.Agreement g.H.HostKeys g.G.GroupLookup c.feed.new.parts.agreement c.feed.new.parts.hosts c.feed.new.parts.groups))) c.self.view_is c.feed.ensures.refused_few
 
 pub returns-clause-drawn : goal.returns-clause-drawn
-returns-clause-drawn g c = on_ok c.feed.result _ _ (λ h. subst (λ (t : Standing). DrawsFirst t (standing_of c.feed.new.self) (g.R.Rng.stream c.args.parts.now.rng)) c.self.view_is h) c.feed.ensures.drawn
+returns-clause-drawn g c = subst (λ (t : Standing). DrawsFirst ((standing_of c.feed.new.self).failed ≡ false) t (standing_of c.feed.new.self) (g.R.Rng.stream c.args.parts.now.rng) (g.R.Rng.stream c.feed.new.parts.rng)) c.self.view_is c.feed.ensures.drawn

@@ -1,0 +1,9 @@
+use Rattle.std.proofs.Common.{ap}
+use Rattle.ssh_transport.proofs.Lemmas.{drawn_submitted}
+use Rattle.ssh_attack.proofs.Feeding.{on_err}
+use Rattle.ssh_attack.proofs.attack_end.AttackEnd.submit.Goals as goal
+
+pub returns-clause-draws : goal.returns-clause-draws
+returns-clause-draws g c = λ m. drawn_submitted _ c.args.self.now.transport c.submit.new.self c.args.payload.now _ _ c.submit.result m
+    (λ f. let d = c.submit.ensures.dead f in (d.1, ap (λ p. g.R.Rng.stream p.rng) d.2)) (λ f b. let d = c.submit.ensures.size f b in (d.1, ap (λ p. g.R.Rng.stream p.rng) d.2)) (λ f b k. let d = c.submit.ensures.inconsistent f b k in (d.1, ap (λ p. g.R.Rng.stream p.rng) d.2))
+    c.submit.ensures.sent (λ o. let h = c.submit.ensures.held o in (ap (λ p. g.R.Rng.stream p.rng) h.0, h.1.1)) (λ f k. on_err c.submit.result _ _ (λ h. h.0) (c.submit.ensures.memory f k))
