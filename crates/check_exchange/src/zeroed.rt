@@ -46,6 +46,8 @@ impl Agreement for ZeroAgreement {
 
     ghost calls = { λ zero. 0 };
 
+    ghost answered = { λ v known n. true };
+
     fn offers(&self, _name: kex::Name) -> bool {
         true
     }

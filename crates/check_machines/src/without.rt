@@ -39,6 +39,8 @@ impl<A: Agreement> Agreement for Without<A> {
 
     ghost calls = { λ v. A.calls v.inner };
 
+    ghost answered = { λ v. A.answered v.inner };
+
     ghost one_secret = { λ v s. A.one_secret v.inner s };
 
     ghost obliging_lawful = { λ v later s. A.obliging_lawful v.inner later.inner s };

@@ -1,5 +1,5 @@
 -- What a side that is fed bytes does, by what its transport did with them.
-use Rattle.std.proofs.Common.{◌≡◌, ℕ, ◌+◌, List, [], ◌++◌, length, false, IfErr, OnErr, OnOk, ap, sym, subst}
+use Rattle.std.proofs.Common.{◌≡◌, ℕ, ◌+◌, List, [], ◌++◌, length, false, IfErr, OnOk, ap, sym, subst}
 use Rattle.std.specs.Prelude.{Result, Ok, Err}
 use Rattle.ssh_wire.specs.Forms.{AreBytes}
 use Rattle.ssh_wire.specs.declared.error.Error.{Error}
@@ -21,7 +21,3 @@ fed_live t old new mid bytes (Err e) m f b n l d input few refused = record {
   taken = n;
   does = subst (λ x. FeedsBy x t old bytes (Err e) new) (sym f) (mid, refused f, record { transport = l; delivered = d }, λ x. m (ap (λ (y : Error). (let z : Result (Unit {0}) Error = Err y in z)) x));
 }
-
-pub on_err : (answer : Result (Unit {0}) Error) (P Q : Type 0) → (P → Q) → OnErr answer P → OnErr answer Q
-on_err (Ok u) P Q f h = tt
-on_err (Err x) P Q f h = f h

@@ -1,3 +1,4 @@
+pub mod Leaving
 pub mod Lifting
 pub mod Feeding
 pub mod Running

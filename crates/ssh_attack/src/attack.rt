@@ -1,19 +1,19 @@
 //! The run of two sides that are fed any bytes.
 
-ghost use Rattle.std.specs.Prelude.{◌≡◌, ◌⊎◌, Err, IfErr, IfOk, IfSome, OnOk, Some};
+ghost use Rattle.std.specs.Prelude.{◌≡◌, ◌⊎◌, Err, IfErr, IfOk, IfSome, None, OnOk, Some};
 ghost use Rattle.ssh_wire.specs.declared.error.ConfigFault.{ConfigFault};
 ghost use Rattle.ssh_kex.specs.Parts.{between};
 ghost use Rattle.ssh_rules.specs.AttackCauses.{IsAttackedRun};
 ghost use Rattle.ssh_rules.specs.Attacking.{AttacksEnd, AttacksSide, attacked_report};
 ghost use Rattle.ssh_rules.specs.Valid as valid;
 ghost use Rattle.ssh_rules.specs.Valid.{first_config_fault};
-ghost use Rattle.ssh_attack.specs.AttackEnds.{attacked_end, none_asked};
-ghost use Rattle.ssh_transport.specs.Drawing.{AreDrawn, StaysDrawn};
+ghost use Rattle.ssh_attack.specs.AttackEnds.{EndsAnswered, IsFirstEnd, attacked_end, none_asked};
+ghost use Rattle.ssh_transport.specs.Drawing.{AreDrawn};
 ghost use Rattle.ssh_wire.specs.declared.error.Error.TheVariants.{InvalidConfig, Memory};
 ghost use Rattle.ssh_wire.specs.declared.side.Side.TheVariants.{Client, Server};
 
 use crate::attack_end::AttackEnd;
-use crate::attacked::Attacked;
+use crate::attacked::{Attacked, Leaving};
 use rand_core::Rng;
 use ssh_kex::{Agreement, Config, GroupLookup, Handed, HostKeys, Parts};
 use ssh_rules::link::{AnswerList, AttackReport, AttackStep};
@@ -54,21 +54,35 @@ pub fn run_attacked<A: Agreement, H: HostKeys, G: GroupLookup, R: Rng>(
     ensures server_keeps { ⟦<Parts<A, H, G, R> as Handed>⟧.keeps server_parts.old server_parts.new }
     ensures drawn { IfOk result (λ r. AreDrawn client.now server.now (R.stream client_parts.old.rng)
         (R.stream server_parts.old.rng) r.client.wire r.server.wire) }
+    ensures answered { IfOk result (EndsAnswered steps.now (⟦<Parts<A, H, G, R> as Asked>⟧.tests client_parts.old)
+        (⟦<Parts<A, H, G, R> as Asked>⟧.tests client_parts.new) (⟦<Parts<A, H, G, R> as Asked>⟧.tests server_parts.old)
+        (⟦<Parts<A, H, G, R> as Asked>⟧.tests server_parts.new)) }
 {
     sizes_are_u32(client);
     sizes_are_u32(server);
     if let Some(fault) = first_config_fault(client, server) {
         return Err(Error::InvalidConfig(fault));
     }
-    let mut attack = Attack {
-        client: AttackEnd::new(alloc, Transport::client(alloc, client)?),
-        server: AttackEnd::new(alloc, Transport::server(alloc, server)?),
-    };
+    let mut attack = Attack::new(alloc, client, server)?;
     let answers = attack.run(alloc, client_parts, server_parts, steps)?;
     Ok(attack.report(answers)?)
 }
 
 impl<'c> Attack<'c> {
+    /// Both sides, each of which has sent its id line. Memory.
+    fn new(alloc: Global, client: &'c Config, server: &'c Config) -> Result<Attack<'c>, Error>
+        requires of_client { valid.config_fault Client client.now ≡ None }
+        requires of_server { valid.config_fault Server server.now ≡ None }
+        ensures client { IfOk result (λ attack. IsFirstEnd Client client.now attack.client) }
+        ensures server { IfOk result (λ attack. IsFirstEnd Server server.now attack.server) }
+        ensures err { IfErr result (λ e. e ≡ Memory) }
+    {
+        Ok(Attack {
+            client: AttackEnd::new(alloc, Transport::client(alloc, client)?),
+            server: AttackEnd::new(alloc, Transport::server(alloc, server)?),
+        })
+    }
+
     /// What both sides did, with these answers. Memory.
     fn report(self, answers: Vec<Result<(), Error>>) -> Result<AttackReport, AllocError>
         ensures { IfOk result (λ report. report ≡ record {
@@ -86,7 +100,7 @@ impl<'c> Attack<'c> {
     }
 
     /// Carries out all steps, and keeps what each was answered. Memory.
-    #[tactic(auto, using(ssh_transport::proofs::Lemmas::drawn_same))]
+    #[tactic(auto, using(crate::proofs::Leaving::leaves_same))]
     fn run<A: Agreement, H: HostKeys, G: GroupLookup, R: Rng>(
         &mut self,
         alloc: Global,
@@ -105,10 +119,10 @@ impl<'c> Attack<'c> {
             (attacked_end self.new.server (⟦<Parts<A, H, G, R> as Asked>⟧.calls server_parts.new))) }
         ensures client_keeps { ⟦<Parts<A, H, G, R> as Handed>⟧.keeps client_parts.old client_parts.new }
         ensures server_keeps { ⟦<Parts<A, H, G, R> as Handed>⟧.keeps server_parts.old server_parts.new }
-        ensures client_draws { OnOk result (StaysDrawn self.old.client.transport self.new.client.transport
-            (R.stream client_parts.old.rng) (R.stream client_parts.new.rng)) }
-        ensures server_draws { OnOk result (StaysDrawn self.old.server.transport self.new.server.transport
-            (R.stream server_parts.old.rng) (R.stream server_parts.new.rng)) }
+        ensures client_leaves { OnOk result (⟦<Parts<A, H, G, R> as Leaving>⟧.leaves self.old.client.transport
+            self.new.client.transport client_parts.old client_parts.new) }
+        ensures server_leaves { OnOk result (⟦<Parts<A, H, G, R> as Leaving>⟧.leaves self.old.server.transport
+            self.new.server.transport server_parts.old server_parts.new) }
     {
         let mut answers = Vec::with_capacity(alloc, steps.len())?;
         for step in steps {
@@ -122,7 +136,7 @@ impl<'c> Attack<'c> {
     }
 
     /// Carries out one step.
-    #[tactic(auto, using(ssh_transport::proofs::Lemmas::drawn_same))]
+    #[tactic(auto, using(crate::proofs::Leaving::leaves_same))]
     fn step<A: Agreement, H: HostKeys, G: GroupLookup, R: Rng>(
         &mut self,
         client_parts: &mut Parts<A, H, G, R>,
@@ -139,10 +153,10 @@ impl<'c> Attack<'c> {
             (attacked_end self.new.server (⟦<Parts<A, H, G, R> as Asked>⟧.calls server_parts.new)) }
         ensures client_keeps { ⟦<Parts<A, H, G, R> as Handed>⟧.keeps client_parts.old client_parts.new }
         ensures server_keeps { ⟦<Parts<A, H, G, R> as Handed>⟧.keeps server_parts.old server_parts.new }
-        ensures client_draws { (result ≡ Err Memory → ⊥) → StaysDrawn self.old.client.transport
-            self.new.client.transport (R.stream client_parts.old.rng) (R.stream client_parts.new.rng) }
-        ensures server_draws { (result ≡ Err Memory → ⊥) → StaysDrawn self.old.server.transport
-            self.new.server.transport (R.stream server_parts.old.rng) (R.stream server_parts.new.rng) }
+        ensures client_leaves { (result ≡ Err Memory → ⊥) → ⟦<Parts<A, H, G, R> as Leaving>⟧.leaves
+            self.old.client.transport self.new.client.transport client_parts.old client_parts.new }
+        ensures server_leaves { (result ≡ Err Memory → ⊥) → ⟦<Parts<A, H, G, R> as Leaving>⟧.leaves
+            self.old.server.transport self.new.server.transport server_parts.old server_parts.new }
     {
         match step {
             AttackStep::Submit(Side::Client, payload) => {

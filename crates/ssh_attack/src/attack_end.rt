@@ -3,7 +3,7 @@
 ghost use Rattle.std.specs.Prelude.{◌≡◌, ◌++◌, [], Err, IfOk, OnOk, length};
 ghost use Rattle.ssh_wire.specs.Forms.{AreBytes};
 
-use crate::attacked::Attacked;
+use crate::attacked::{Attacked, Leaving};
 use rand_core::Rng;
 use ssh_kex::{Agreement, GroupLookup, Handed, HostKeys, Parts};
 use ssh_rules::Asked;
@@ -24,7 +24,6 @@ pub(crate) struct AttackEnd<'c> {
 impl<'c> AttackEnd<'c> {
     ghost use Rattle.ssh_rules.specs.Attacking.{FeedsEnd, RekeysBy, SubmitsBy};
     ghost use Rattle.ssh_attack.specs.AttackEnds.{attacked_end};
-    ghost use Rattle.ssh_transport.specs.Drawing.{StaysDrawn};
     ghost use Rattle.ssh_wire.specs.declared.error.Error.TheVariants.{Memory};
 
     /// A side that has sent its id line.
@@ -51,8 +50,8 @@ impl<'c> AttackEnd<'c> {
             (attacked_end self.old (⟦<Parts<A, H, G, R> as Asked>⟧.calls parts.old)) payload.now result
             (attacked_end self.new (⟦<Parts<A, H, G, R> as Asked>⟧.calls parts.new)) }
         ensures keeps { ⟦<Parts<A, H, G, R> as Handed>⟧.keeps parts.old parts.new }
-        ensures draws { (result ≡ Err Memory → ⊥) → StaysDrawn self.old.transport self.new.transport
-            (R.stream parts.old.rng) (R.stream parts.new.rng) }
+        ensures leaves { (result ≡ Err Memory → ⊥) → ⟦<Parts<A, H, G, R> as Leaving>⟧.leaves self.old.transport
+            self.new.transport parts.old parts.new }
     {
         self.transport.submit(parts, payload)
     }
@@ -67,8 +66,8 @@ impl<'c> AttackEnd<'c> {
             (attacked_end self.old (⟦<Parts<A, H, G, R> as Asked>⟧.calls parts.old)) result
             (attacked_end self.new (⟦<Parts<A, H, G, R> as Asked>⟧.calls parts.new)) }
         ensures keeps { ⟦<Parts<A, H, G, R> as Handed>⟧.keeps parts.old parts.new }
-        ensures draws { (result ≡ Err Memory → ⊥) → StaysDrawn self.old.transport self.new.transport
-            (R.stream parts.old.rng) (R.stream parts.new.rng) }
+        ensures leaves { (result ≡ Err Memory → ⊥) → ⟦<Parts<A, H, G, R> as Leaving>⟧.leaves self.old.transport
+            self.new.transport parts.old parts.new }
     {
         self.transport.rekey(parts)
     }
@@ -84,8 +83,8 @@ impl<'c> AttackEnd<'c> {
             (⟦<Parts<A, H, G, R> as Asked>⟧.calls parts.old)) bytes.now result
             (attacked_end self.new (⟦<Parts<A, H, G, R> as Asked>⟧.calls parts.new)) }
         ensures keeps { ⟦<Parts<A, H, G, R> as Handed>⟧.keeps parts.old parts.new }
-        ensures draws { (result ≡ Err Memory → ⊥) → StaysDrawn self.old.transport self.new.transport
-            (R.stream parts.old.rng) (R.stream parts.new.rng) }
+        ensures leaves { (result ≡ Err Memory → ⊥) → ⟦<Parts<A, H, G, R> as Leaving>⟧.leaves self.old.transport
+            self.new.transport parts.old parts.new }
     {
         see_bytes(bytes);
         let Some(taken) = self.taken.checked_add(bytes.len() as u64) else {

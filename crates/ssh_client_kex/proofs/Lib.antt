@@ -1,3 +1,4 @@
+mod Answered
 mod Faults
 mod Grouped
 mod ClientLists

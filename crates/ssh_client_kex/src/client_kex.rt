@@ -19,12 +19,12 @@ ghost use Rattle.ssh_client_kex.specs.declared.client_kex.ClientState.TheVariant
 ghost use Rattle.ssh_kex.specs.declared.progress.KexProgress.TheVariants.{NeedsReply};
 ghost use Rattle.ssh_kex.specs.Drawing.{DrawnByClient, StartsFrom, ValueDrawn};
 ghost use Rattle.ssh_kex.specs.Messages.{is_gex, request_message};
-ghost use Rattle.ssh_kex.specs.Parts.{HasItsGroup, IsSmall, Setup};
+ghost use Rattle.ssh_kex.specs.Parts.{Answers, HasItsGroup, IsSmall, Setup};
 ghost use Rattle.ssh_kex.specs.Fields.{IsInside, IsOutside};
 ghost use Rattle.ssh_kex.specs.Members.{AgreementKept};
 ghost use Rattle.ssh_kex.specs.Setting.{offers_of};
-ghost use Rattle.ssh_kex.specs.Stages.{Created as created, has_ignored, names_in_stage, is_strict};
-ghost use Rattle.ssh_kex.specs.Stepping.{at_kexinit, asks_agreement, asks_hosts, asks_groups, next_of, Progresses, RefusesStep, Puts};
+ghost use Rattle.ssh_kex.specs.Stages.{Created as created, IsStageOf, has_ignored, names_in_stage, is_strict};
+ghost use Rattle.ssh_kex.specs.Stepping.{at_kexinit, answers_agreement, asks_agreement, asks_hosts, asks_groups, kexinit_answers, next_of, Progresses, RefusesStep, Puts};
 ghost use Rattle.ssh_kex.specs.Unasked.{asks_nobody, has_front, is_early};
 ghost use Rattle.ssh_kex.specs.Views.{HasShortSides};
 
@@ -131,6 +131,10 @@ impl<'c> ClientKex<'c> {
             self.entry.setting.side self.entry.stage (next_of result) }
         ensures hosts_calls { H.calls parts.new.hosts ≤ H.calls parts.old.hosts + asks_hosts self.entry.stage }
         ensures groups_calls { G.calls parts.new.groups ≤ G.calls parts.old.groups + asks_groups self.entry.stage }
+        ensures fits { IsStageOf self.entry.setting.side self.entry.stage }
+        ensures answers { OnOk result (⟦<Parts<A, H, G, R> as Handed>⟧.answers parts.old parts.new (answers_agreement
+            self.entry.setting.side self.entry.stage (next_of result)) (asks_hosts self.entry.stage) (asks_groups
+            self.entry.stage)) }
         ensures goes { IfOk result (λ p. Progresses (⟦<Parts<A, H, G, R> as Handed>⟧.says self.entry.setting.config
             parts.old)
             self.entry input.entry output.old p output.new) }
@@ -307,6 +311,7 @@ fn send_value<A: Agreement, R: Rng>(
     requires { (shape_of algorithm.old.name).skip ≡ false }
     ensures keeps { AgreementKept A.Agreement agreement.old agreement.new }
     ensures calls { A.calls agreement.new ≤ A.calls agreement.old + 1 }
+    ensures answers { OnOk result (Answers A.answered 1 agreement.old agreement.new) }
     ensures ok { OnOk result (SendsValue (λ l v. (s : Setup) → A.lawful agreement.old s
         → A.client_makes algorithm.old.name algorithm.old.group l v) algorithm.old algorithm.new client_ephemeral.new
         output.old output.new) }
@@ -380,6 +385,7 @@ fn open_with_value<'c, A: Agreement, R: Rng>(
     requires gex { is_gex names.kex ≡ false }
     ensures keeps { AgreementKept A.Agreement agreement.old agreement.new }
     ensures calls { A.calls agreement.new ≤ A.calls agreement.old + 1 }
+    ensures answers { OnOk result (Answers A.answered 1 agreement.old agreement.new) }
     ensures ok { IfOk result (λ p. OpensWithValue (λ l v. (s : Setup) → A.lawful agreement.old s
         → A.client_makes names.kex None l v) base.entry.config.now base.entry.cause base.entry.exchange names p
         output.old output.new) }
@@ -426,6 +432,8 @@ fn take_kexinit<'c, A: Agreement, R: Rng>(
     requires none { HasNoValues base.exchange }
     ensures keeps { AgreementKept A.Agreement agreement.old agreement.new }
     ensures calls { A.calls agreement.new ≤ A.calls agreement.old + at_kexinit client_side (next_of result) }
+    ensures answers { OnOk result (Answers A.answered (kexinit_answers client_side (next_of result)) agreement.old
+        agreement.new) }
     ensures ok { IfOk result (λ p. AnswersKexinit (λ n. A.offered agreement.old n ≡ true) (λ n l v. (s : Setup)
         → A.lawful agreement.old s → A.client_makes n None l v) base.entry.config.now base.entry.cause
         base.entry.exchange incoming.entry p output.old
@@ -489,6 +497,7 @@ fn answer_group<'c, A: Agreement, R: Rng>(
     requires gex { is_gex names.kex ≡ true }
     ensures keeps { AgreementKept A.Agreement agreement.old agreement.new }
     ensures calls { A.calls agreement.new ≤ A.calls agreement.old + 1 }
+    ensures answers { OnOk result (Answers A.answered 1 agreement.old agreement.new) }
     ensures ok { IfOk result (λ p. SendsOfGroup (λ l v. (s : Setup) → A.lawful agreement.old s
         → A.client_makes names.kex (Some group) l v) base.entry.config.now base.entry.cause base.entry.exchange names
         group p output.old output.new) }
@@ -542,6 +551,7 @@ fn take_group<'c, A: Agreement, R: Rng>(
     requires gex { is_gex names.kex ≡ true }
     ensures keeps { AgreementKept A.Agreement agreement.old agreement.new }
     ensures calls { A.calls agreement.new ≤ A.calls agreement.old + 1 }
+    ensures answers { OnOk result (Answers A.answered 1 agreement.old agreement.new) }
     ensures ok { IfOk result (λ p. AnswersGroup (λ g l v. (s : Setup) → A.lawful agreement.old s
         → A.client_makes names.kex (Some g) l v) base.entry.config.now base.entry.cause base.entry.exchange names
         payload.now p output.old output.new) }

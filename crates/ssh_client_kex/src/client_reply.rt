@@ -14,7 +14,7 @@ ghost use Rattle.ssh_kex.specs.Fields.{fields, reply_front};
 ghost use Rattle.ssh_kex.specs.Members.{AgreementKept, HostsKept};
 ghost use Rattle.ssh_kex.specs.Signature.{judged, or_same};
 ghost use Rattle.ssh_kex.specs.Messages.{host_with, is_gex, reply_message};
-ghost use Rattle.ssh_kex.specs.Parts.{HasItsGroup, Setup};
+ghost use Rattle.ssh_kex.specs.Parts.{Answers, HasItsGroup, Setup};
 ghost use Rattle.ssh_kex.specs.Unasked.{asks_nobody, is_early};
 ghost use Rattle.ssh_kex.specs.Views.{HasShortSides};
 
@@ -63,6 +63,7 @@ fn agree_on_reply<'a, A: Agreement>(
     requires local { algorithm.old.local ≡ Some (local_of algorithm.old.local) }
     ensures keeps { AgreementKept A.Agreement agreement.old agreement.new }
     ensures calls { A.calls agreement.new ≤ A.calls agreement.old + 1 }
+    ensures answers { OnOk result (Answers A.answered 1 agreement.old agreement.new) }
     ensures ok { IfOk result (λ r. AgreesOnReply (λ l v x. (s : Setup) (public : List ℕ) → A.lawful agreement.old s
         → A.client_makes algorithm.old.name algorithm.old.group l public
         → A.agrees algorithm.old.name algorithm.old.group public v x) algorithm.old algorithm.new payload.now r.host.now
@@ -122,6 +123,7 @@ fn verify_signature<H: HostKeys>(
     requires { length signature.now < 2 ^ 31 }
     ensures keeps { HostsKept H.HostKeys hosts.old hosts.new }
     ensures calls { H.calls hosts.new ≤ H.calls hosts.old + 1 }
+    ensures answers { OnOk result (Answers H.answered 1 hosts.old hosts.new) }
     ensures ok { OnOk result (H.accepts hosts.old host.now hash.now (judged signature.now) ≡ true) }
     ensures err { IfErr result (λ e. (e ≡ Memory) ⊎ ((e ≡ WrongServerSig)
         × (Rose (H.refused_verify hosts.old) (H.refused_verify hosts.new)
@@ -157,6 +159,7 @@ fn accept_reply<'c, H: HostKeys, R: Rng>(
     requires signature { length reply.signature.now < 2 ^ 31 }
     ensures keeps { HostsKept H.HostKeys hosts.old hosts.new }
     ensures calls { H.calls hosts.new ≤ H.calls hosts.old + 1 }
+    ensures answers { OnOk result (Answers H.answered 1 hosts.old hosts.new) }
     ensures ok { IfOk result (λ p. AcceptsReply (λ h d g. H.accepts hosts.old h d g ≡ true) base.entry.config.now
         base.entry.cause base.entry.exchange
         names algorithm.secret reply.entry.host.now reply.entry.value.now reply.entry.signature.now p output.old
@@ -208,9 +211,11 @@ pub(crate) fn take_reply<'c, A: Agreement, H: HostKeys, G, R: Rng>(
     requires value { HasValue base.exchange names algorithm }
     ensures agreement { AgreementKept A.Agreement parts.old.agreement parts.new.agreement }
     ensures agreement_calls { A.calls parts.new.agreement ≤ A.calls parts.old.agreement + 1 }
+    ensures agreement_answers { OnOk result (Answers A.answered 1 parts.old.agreement parts.new.agreement) }
     ensures hosts { HostsKept H.HostKeys parts.old.hosts parts.new.hosts }
     ensures groups { parts.new.groups ≡ parts.old.groups }
     ensures hosts_calls { H.calls parts.new.hosts ≤ H.calls parts.old.hosts + 1 }
+    ensures hosts_answer { OnOk result (Answers H.answered 1 parts.old.hosts parts.new.hosts) }
     ensures ok { IfOk result (λ p. AnswersReply (λ l v x. (s : Setup) (public : List ℕ)
         → A.lawful parts.old.agreement s → A.client_makes algorithm.name algorithm.group l public
         → A.agrees algorithm.name algorithm.group public v x)

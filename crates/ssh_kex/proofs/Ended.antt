@@ -1,6 +1,6 @@
 -- The peer's NEWKEYS ends an exchange.
-use Rattle.std.proofs.Common.{◌≡◌, [], refl, sym, subst, Option, Some, Result, Ok, Err, inl, inr}
-use Rattle.std.specs.Prelude.{IfOk, IfErr}
+use Rattle.std.proofs.Common.{◌≡◌, ℕ, ◌+◌, Bool, true, [], refl, sym, subst, arith, Option, Some, Result, Ok, Err, inl, inr}
+use Rattle.std.specs.Prelude.{IfOk, IfErr, OnOk}
 use Rattle.std.specs.Global.{Box}
 use Rattle.ssh_packet.specs.Keys.{sealing_of, opening_of}
 use Rattle.ssh_packet.specs.Writing.{Writer}
@@ -10,10 +10,12 @@ use Rattle.ssh_wire.specs.Sides.{other_side}
 use Rattle.ssh_wire.specs.declared.error.Error.{Error}
 use Rattle.ssh_wire.specs.declared.side.Side.{Side}
 use Rattle.ssh_kex.specs.Exchange.{sealing_after}
+use Rattle.ssh_kex.specs.Members.{AgreementMembers, GroupLookupMembers, HostKeysMembers}
+use Rattle.ssh_kex.specs.Parts.{Answers, PartsAnswer}
 use Rattle.ssh_kex.specs.Refusals.{Denies, RefusesMessage}
 use Rattle.ssh_kex.specs.Setting.{Says}
 use Rattle.ssh_kex.specs.Stages.{Machine, Stage, AwaitsNewkeys, Finishes}
-use Rattle.ssh_kex.specs.Stepping.{Progresses, RefusesStep}
+use Rattle.ssh_kex.specs.Stepping.{Progresses, RefusesStep, answers_agreement, asks_groups, asks_hosts, next_of}
 use Rattle.ssh_kex.specs.Views.{HasKeys, Lasts}
 use Rattle.ssh_kex.specs.declared.exchange.Exchange.{Exchange}
 use Rattle.ssh_kex.specs.declared.exchange.FinishedExchange.{FinishedExchange}
@@ -52,3 +54,10 @@ last_refused says denies m i x host made cipher e stage (inr h) =
 pub last_refused_if : (says : Says) (denies : Denies) (m : Machine) (i : Incoming) (x : Exchange) (host : Option ServerHost) (made : FinishedExchange) (cipher : Box CipherPair) (r : Result (KexProgress Machine) Error) → m.stage ≡ AwaitsNewkeys x made host → Lasts x host made cipher i.payload.now r → IfErr r (λ e. RefusesStep says denies m (Some i) e)
 last_refused_if says denies m i x host made cipher (Ok p) stage h = tt
 last_refused_if says denies m i x host made cipher (Err e) stage h = last_refused says denies m i x host made cipher e stage h
+
+-- no part is asked
+pub last_answers : {A H G : Type 0} (ma : AgreementMembers A) (mh : HostKeysMembers H) (mg : GroupLookupMembers G) (side : Side) (stage : Stage) (a : A) (h : H) (g : G) (x : Exchange) (made : FinishedExchange) (host : Option ServerHost) (r : Result (KexProgress Machine) Error) → stage ≡ AwaitsNewkeys x made host → OnOk r (PartsAnswer (Answers ma.answered (answers_agreement side stage (next_of r)) a a) (Answers mh.answered (asks_hosts stage) h h) (Answers mg.answered (asks_groups stage) g g))
+last_answers {A} {H} {G} ma mh mg side stage a h g x made host (Ok p) e = subst (λ (s : Stage). PartsAnswer (Answers ma.answered (answers_agreement side s (next_of (Ok p))) a a) (Answers mh.answered (asks_hosts s) h h) (Answers mg.answered (asks_groups s) g g)) (sym e) (record { agreement = none ma.answered a; hosts = none mh.answered h; groups = none mg.answered g }) where
+  none : {T : Type 0} (answered : T → ℕ → ℕ → Bool) (t : T) → Answers answered 0 t t
+  none answered t known n q = subst (λ k. answered t known k ≡ true) (omega arith) q
+last_answers ma mh mg side stage a h g x made host (Err k) e = tt

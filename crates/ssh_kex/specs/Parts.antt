@@ -1,5 +1,5 @@
 -- What is said of the handed-in parts.
-use Rattle.std.specs.Prelude.{◌≡◌, ℕ, ◌+◌, ◌^◌, ◌<◌, ◌≤◌, Bool, List, length, is_some, Option, Some, Result, Ok, Err}
+use Rattle.std.specs.Prelude.{◌≡◌, ℕ, ◌+◌, ◌^◌, ◌<◌, ◌≤◌, Bool, true, List, length, is_some, Option, Some, Result, Ok, Err}
 use Rattle.ssh_negotiate.specs.declared.kex.Name as kexes
 use Rattle.ssh_negotiate.specs.declared.preferred.HostKey.{HostKey}
 use Rattle.ssh_wire.specs.Outside.{Rose}
@@ -30,6 +30,11 @@ IsRefused (Err Memory) = ⊥
 pub record Counted {T : Type 0} (refusals refusals' calls calls' : ℕ) (result : Result T Refusal) : Type 0 where
   pub cause : IsRefused result → Rose refusals refusals'
   pub calls_one : calls' ≤ calls + 1
+
+-- So many calls were answered between two states, and none was refused: if the part may have answered some calls before,
+-- it may have answered so many more behind them, by whatever number it is known.
+abbrev pub Answers : {T : Type 0} → (T → ℕ → ℕ → Bool) → ℕ → T → T → Type 0
+Answers answered count old new = (known n : ℕ) → answered old known n ≡ true → answered new known (n + count) ≡ true
 
 -- what every answered byte string keeps
 abbrev pub IsValue : List ℕ → Type 0
@@ -87,6 +92,12 @@ pub record KeepsParts (agreement_keeps hosts_keep groups_keep : Type 0) : Type 0
   pub agreement : agreement_keeps
   pub hosts : hosts_keep
   pub groups : groups_keep
+
+-- each part of a side answered so many calls
+pub record PartsAnswer (agreement_answers hosts_answer groups_answer : Type 0) : Type 0 where
+  pub agreement : agreement_answers
+  pub hosts : hosts_answer
+  pub groups : groups_answer
 
 -- a host that a server presents, whose key signs under this algorithm
 pub record Presents (server : Config) (host : ServerHost) (key : HostKey) (algorithm : Algorithm) : Type 0 where

@@ -1,5 +1,5 @@
 -- The stages of an exchange, and what a message does in each.
-use Rattle.std.specs.Prelude.{◌≡◌, ℕ, ◌^◌, ◌<◌, ◌≤◌, ◌||◌, Bool, true, false, List, [], ◌∷◌, length, Option, Some, None, Ok}
+use Rattle.std.specs.Prelude.{◌≡◌, ℕ, ◌^◌, ◌<◌, ◌≤◌, ◌||◌, Bool, true, false, List, [], ◌∷◌, length, Option, Some, None, Ok, IsTrue, is_none, is_some}
 use Rattle.ssh_negotiate.specs.Causes.{was_strict}
 use Rattle.ssh_negotiate.specs.Reading.{names_read}
 use Rattle.ssh_negotiate.specs.Tables.{shape_of}
@@ -27,6 +27,20 @@ pub data Stage : Type 0 where
   AwaitsRequest : (o : Opened) → Stage
   AwaitsValue : (o : Opened) (gex : Option GexChosen) → Stage
   AwaitsNewkeys : (exchange : Exchange) (made : FinishedExchange) (host : Option ServerHost) → Stage
+
+-- Which stages each side has; a server waits for the sizes of a group in a group exchange alone.
+abbrev pub IsStageOf : Side → Stage → Type 0
+IsStageOf side (Created own) = Unit {0}
+IsStageOf Client (AwaitsGroup o) = Unit {0}
+IsStageOf Server (AwaitsGroup o) = ⊥
+IsStageOf Client (AwaitsReply o gex local public) = Unit {0}
+IsStageOf Server (AwaitsReply o gex local public) = ⊥
+IsStageOf Client (AwaitsRequest o) = ⊥
+IsStageOf Server (AwaitsRequest o) = is_gex o.names.kex ≡ true
+IsStageOf Client (AwaitsValue o gex) = ⊥
+IsStageOf Server (AwaitsValue o gex) = Unit {0}
+IsStageOf Client (AwaitsNewkeys exchange made host) = IsTrue (is_some host)
+IsStageOf Server (AwaitsNewkeys exchange made host) = IsTrue (is_none host)
 
 -- a machine, as contracts see it
 pub record Machine : Type 0 where

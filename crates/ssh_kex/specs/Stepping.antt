@@ -92,6 +92,19 @@ asks_agreement side (AwaitsRequest o) next = 0
 asks_agreement side (AwaitsValue o gex) next = once_unless o.names.ignore_guessed
 asks_agreement side (AwaitsNewkeys exchange made host) next = 0
 
+-- How often a step that is taken asks the agreement. Where no exchange of values was chosen, a KEXINIT ends all.
+abbrev pub kexinit_answers : Side → Option Stage → ℕ
+kexinit_answers side None = 0
+kexinit_answers side (Some next) = at_kexinit side (Some next)
+
+abbrev pub answers_agreement : Side → Stage → Option Stage → ℕ
+answers_agreement side (Created own) next = kexinit_answers side next
+answers_agreement side (AwaitsGroup o) next = once_unless o.names.ignore_guessed
+answers_agreement side (AwaitsReply o gex local public) next = once_unless o.names.ignore_guessed
+answers_agreement side (AwaitsRequest o) next = 0
+answers_agreement side (AwaitsValue o gex) next = once_unless o.names.ignore_guessed
+answers_agreement side (AwaitsNewkeys exchange made host) next = 0
+
 -- a client's host keys are asked for the reply, a server's for its own
 abbrev pub asks_hosts : Stage → ℕ
 asks_hosts (Created own) = 0

@@ -12,7 +12,7 @@ ghost use Rattle.ssh_kex.specs.Drawing.{DrawsLocal, DrawsSecret};
 ghost use Rattle.ssh_kex.specs.Exchange.{exchange_hash, keys_of, sealing_after, secret_of, secret_text, side_if};
 ghost use Rattle.ssh_kex.specs.Members.{AgreementKept};
 ghost use Rattle.ssh_kex.specs.Messages.{is_gex, request_message, value_message};
-ghost use Rattle.ssh_kex.specs.Parts.{HasItsGroup, IsSmall, Setup};
+ghost use Rattle.ssh_kex.specs.Parts.{Answers, HasItsGroup, IsSmall, Setup};
 
 use crate::exchange::{Exchange, NewCiphers, SharedSecret};
 use crate::group::{DhGroup, GexParams};
@@ -150,6 +150,8 @@ impl KexAlgorithm {
         ensures keeps { AgreementKept A.Agreement agreement.old agreement.new }
         ensures calls { A.calls agreement.new ≤ A.calls agreement.old
             + (if (shape_of self.old.name).skip then 0 else 1) }
+        ensures answered { OnOk result (Answers A.answered (if (shape_of self.old.name).skip then 0 else 1)
+            agreement.old agreement.new) }
         ensures agrees { OnOk result (ServerAgrees (shape_of self.old.name).skip (λ v x. (s : Setup)
             → A.lawful agreement.old s → A.server_makes self.old.name self.old.group exchange.old.client_ephemeral v
             × A.agrees self.old.name self.old.group exchange.old.client_ephemeral v x × IsSmall v) self.old self.new
@@ -198,6 +200,8 @@ impl KexAlgorithm {
         ensures keeps { AgreementKept A.Agreement agreement.old agreement.new }
         ensures calls { A.calls agreement.new ≤ A.calls agreement.old
             + (if (shape_of self.old.name).skip then 0 else 1) }
+        ensures answered { OnOk result (Answers A.answered (if (shape_of self.old.name).skip then 0 else 1)
+            agreement.old agreement.new) }
         ensures starts { OnOk result (ClientStarts (shape_of self.old.name).skip (λ l v. (s : Setup)
             → A.lawful agreement.old s → A.client_makes self.old.name self.old.group l v) (λ v. out.old.items
             ++ value_message (is_gex self.old.name) v) self.old self.new client_ephemeral.old client_ephemeral.new
@@ -244,6 +248,8 @@ impl KexAlgorithm {
         ensures keeps { AgreementKept A.Agreement agreement.old agreement.new }
         ensures calls { A.calls agreement.new ≤ A.calls agreement.old
             + (if (shape_of self.old.name).skip then 0 else 1) }
+        ensures answered { OnOk result (Answers A.answered (if (shape_of self.old.name).skip then 0 else 1)
+            agreement.old agreement.new) }
         ensures agrees { OnOk result (ClientAgrees (shape_of self.old.name).skip (λ l x. (s : Setup) (public : List ℕ)
             → A.lawful agreement.old s → A.client_makes self.old.name self.old.group l public
             → A.agrees self.old.name self.old.group public server_public.now x) self.old self.new) }

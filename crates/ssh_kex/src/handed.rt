@@ -1,7 +1,8 @@
 //! What all parts of a side say together, so that a clause names them once.
 
+ghost use Rattle.std.specs.Prelude.{ℕ};
 ghost use Rattle.ssh_kex.specs.Members.{AgreementKept, GroupsKept, HostsKept};
-ghost use Rattle.ssh_kex.specs.Parts.{KeepsParts};
+ghost use Rattle.ssh_kex.specs.Parts.{Answers, KeepsParts, PartsAnswer};
 ghost use Rattle.ssh_kex.specs.Refusals.{Denies};
 ghost use Rattle.ssh_kex.specs.Setting.{Says};
 ghost use Rattle.ssh_kex.specs.Stepping.{denies_of, says_of};
@@ -19,6 +20,9 @@ pub trait Handed {
 
     // What each call keeps.
     ghost keeps: { Self → Self → Type 0 };
+
+    // Each answered so many calls between two states, and refused none.
+    ghost answers: { Self → Self → ℕ → ℕ → ℕ → Type 0 };
 }
 
 impl<A: Agreement, H: HostKeys, G: GroupLookup, R> Handed for Parts<A, H, G, R> {
@@ -29,4 +33,7 @@ impl<A: Agreement, H: HostKeys, G: GroupLookup, R> Handed for Parts<A, H, G, R> 
 
     ghost keeps = { λ p q. KeepsParts (AgreementKept A.Agreement p.agreement q.agreement)
         (HostsKept H.HostKeys p.hosts q.hosts) (GroupsKept G.GroupLookup p.groups q.groups) };
+
+    ghost answers = { λ p q agreement hosts groups. PartsAnswer (Answers A.answered agreement p.agreement q.agreement)
+        (Answers H.answered hosts p.hosts q.hosts) (Answers G.answered groups p.groups q.groups) };
 }

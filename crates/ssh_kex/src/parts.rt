@@ -4,7 +4,7 @@ ghost use Rattle.std.specs.Prelude.{◌≡◌, ℕ, ◌≤◌, codes, List, Bool
 ghost use Rattle.rand_core.specs.Stream.{Stream};
 ghost use Rattle.std.specs.Option.{option_copied};
 ghost use Rattle.ssh_kex.specs.Messages.{IsCanonical, bit_size};
-ghost use Rattle.ssh_kex.specs.Parts.{Counted, HasItsGroup, IsRefused, IsSmall, IsValue, KeepsAgreement, KeepsGroups, KeepsHosts, Presents, Setup};
+ghost use Rattle.ssh_kex.specs.Parts.{Answers, Counted, HasItsGroup, IsRefused, IsSmall, IsValue, KeepsAgreement, KeepsGroups, KeepsHosts, Presents, Setup};
 ghost use Rattle.ssh_kex.specs.Signature.{judged};
 ghost use Rattle.ssh_kex.specs.declared.config.Config.{Config};
 ghost use Rattle.ssh_kex.specs.declared.exchange.ServerHost.{ServerHost};
@@ -96,6 +96,10 @@ pub trait Agreement {
 
     ghost calls: { Self → ℕ };
 
+    // Whether it may have answered so many calls, by the second number, and refused none. By the first one a caller
+    // knows it: what each call keeps of it is said for every such number, as that of the call which it is to refuse.
+    ghost answered: { Self → ℕ → ℕ → Bool };
+
     /// Whether it has the key exchange of a name.
     fn offers(&self, name: kex::Name) -> bool
         ensures { result ≡ offered self.now name };
@@ -109,6 +113,7 @@ pub trait Agreement {
         rng: &mut R,
     ) -> Result<Started, Refusal>
         ensures counts { Counted (refusals self.old) (refusals self.new) (calls self.old) (calls self.new) result }
+        ensures answers { OnOk result (Answers answered 1 self.old self.new) }
         ensures keeps { KeepsAgreement lawful obliging offered refusals calls self.old self.new }
         ensures values { IfOk result (λ v. IsValue v.public × IsValue v.local) }
         ensures drawn { IfOk result (λ v. client_draws name (option_copied group.entry) (R.stream rng.old) v.local
@@ -129,6 +134,7 @@ pub trait Agreement {
         rng: &mut R,
     ) -> Result<Agreed, Refusal>
         ensures counts { Counted (refusals self.old) (refusals self.new) (calls self.old) (calls self.new) result }
+        ensures answers { OnOk result (Answers answered 1 self.old self.new) }
         ensures keeps { KeepsAgreement lawful obliging offered refusals calls self.old self.new }
         ensures values { IfOk result (λ v. IsValue v.public × IsValue v.secret) }
         ensures drawn { IfOk result (λ v. server_draws name (option_copied group.entry) client_public.now
@@ -151,6 +157,7 @@ pub trait Agreement {
         server_public: &[u8],
     ) -> Result<Blob, Refusal>
         ensures counts { Counted (refusals self.old) (refusals self.new) (calls self.old) (calls self.new) result }
+        ensures answers { OnOk result (Answers answered 1 self.old self.new) }
         ensures keeps { KeepsAgreement lawful obliging offered refusals calls self.old self.new }
         ensures values { IfOk result (λ v. IsValue v) }
         ensures made { (s : Setup) (public : List ℕ) → lawful self.old s
@@ -184,6 +191,10 @@ pub trait GroupLookup {
 
     ghost calls: { Self → ℕ };
 
+    // Whether it may have answered so many calls, by the second number, and refused none. By the first one a caller
+    // knows it: what each call keeps of it is said for every such number, as that of the call which it is to refuse.
+    ghost answered: { Self → ℕ → ℕ → Bool };
+
     /// The group of the sizes.
     fn lookup_dh_gex_group(
         &mut self,
@@ -191,6 +202,7 @@ pub trait GroupLookup {
         gex_params: &GexParams,
     ) -> Result<DhGroup, Refusal>
         ensures counts { Counted (refusals self.old) (refusals self.new) (calls self.old) (calls self.new) result }
+        ensures answers { OnOk result (Answers answered 1 self.old self.new) }
         ensures keeps { KeepsGroups lawful obliging group refusals calls self.old self.new }
         ensures values { IfOk result (λ g. IsValue g.prime × IsValue g.generator) }
         ensures found { (s : Setup) → lawful self.old s → IfOk result (λ g. g ≡ group self.old gex_params.now) }
@@ -238,6 +250,10 @@ pub trait HostKeys {
 
     ghost calls: { Self → ℕ };
 
+    // Whether it may have answered so many calls, by the second number, and refused none. By the first one a caller
+    // knows it: what each call keeps of it is said for every such number, as that of the call which it is to refuse.
+    ghost answered: { Self → ℕ → ℕ → Bool };
+
     /// A signature of the hash, under a key and an algorithm that it fits.
     fn sign(
         &mut self,
@@ -248,6 +264,7 @@ pub trait HostKeys {
     ) -> Result<Blob, Refusal>
         ensures counts { Counted (refused_sign self.old) (refused_sign self.new) (calls self.old) (calls self.new)
             result }
+        ensures answers { OnOk result (Answers answered 1 self.old self.new) }
         ensures keeps { KeepsHosts lawful signs judges accepts trusts refused_sign refused_verify refused_check calls
             self.old self.new }
         ensures verify { refused_verify self.new ≡ refused_verify self.old }
@@ -269,6 +286,7 @@ pub trait HostKeys {
     ) -> Result<(), Refusal>
         ensures counts { Counted (refused_verify self.old) (refused_verify self.new) (calls self.old) (calls self.new)
             result }
+        ensures answers { OnOk result (Answers answered 1 self.old self.new) }
         ensures keeps { KeepsHosts lawful signs judges accepts trusts refused_sign refused_verify refused_check calls
             self.old self.new }
         ensures sign { refused_sign self.new ≡ refused_sign self.old }
@@ -281,6 +299,7 @@ pub trait HostKeys {
     fn check(&mut self, alloc: Global, host: &ServerHost) -> Result<(), Refusal>
         ensures counts { Counted (refused_check self.old) (refused_check self.new) (calls self.old) (calls self.new)
             result }
+        ensures answers { OnOk result (Answers answered 1 self.old self.new) }
         ensures keeps { KeepsHosts lawful signs judges accepts trusts refused_sign refused_verify refused_check calls
             self.old self.new }
         ensures sign { refused_sign self.new ≡ refused_sign self.old }

@@ -1,5 +1,5 @@
 -- The run of a plan whose sides are fed any bytes is that of its test parts.
-use Rattle.std.proofs.Common.{true, ◌≡◌, ◌⊎◌, inl, inr, ℕ, ◌<◌, ◌≤◌, List, Option, Some, None, Result, Ok, Err, IfErr, IfOk, IfSome, OnOk, refl, sym, ◌∙◌, ap, subst}
+use Rattle.std.proofs.Common.{true, ◌≡◌, inl, inr, ℕ, ◌<◌, ◌≤◌, List, Option, Some, None, Result, Ok, Err, IfOk, IfSome, OnOk, refl, subst}
 use Rattle.ssh_wire.specs.declared.error.ConfigFault.{ConfigFault}
 use Rattle.ssh_wire.specs.declared.error.Error.{Error}
 use Rattle.ssh_wire.specs.declared.error.Error.TheVariants as errors
@@ -23,8 +23,8 @@ use Rattle.ssh_vectors.specs.Primes.{IsLawful, IsObliging, group_for}
 use Rattle.ssh_vectors.specs.declared.hosts.TrustedHost.{TrustedHost}
 use Rattle.ssh_script.specs.Plans.{Plan}
 use Rattle.ssh_script.specs.declared.setup.SideSetup.{SideSetup}
-use Rattle.ssh_link.specs.PlanParts.{IsCallOf, never_asked, offers_exchange, test_parts, trusted_of, untold_rises}
-use Rattle.ssh_link.specs.PlanRun.{IsAttackedPlan, IsSeeded}
+use Rattle.ssh_link.specs.PlanParts.{never_asked, offers_exchange, trusted_of, untold_rises}
+use Rattle.ssh_link.specs.PlanRun.{AreServedAttacked, IsAttackedPlan, IsSeeded}
 
 -- ---- which part refused isn't told
 
@@ -133,8 +133,8 @@ begins_of plan side = record {
 
 pub attacked_plan : (plan : Plan) (steps : List AttackStep) (b d : Begins) (r s : Rises) (cc sc : PartCalls) (report : AttackReport)
     → steps ≡ plan.attack → b ≡ begins_of plan plan.client → d ≡ begins_of plan plan.server
-    → IsAttackedRun (parts_by plan b r cc) (parts_by plan d s sc) plan.client.config plan.server.config steps report → IsSeeded plan report.client.wire report.server.wire → IsAttackedPlan plan report
-attacked_plan plan steps b d r s cc sc report e f g h drawn = record {
+    → IsAttackedRun (parts_by plan b r cc) (parts_by plan d s sc) plan.client.config plan.server.config steps report → IsSeeded plan report.client.wire report.server.wire → AreServedAttacked plan report → IsAttackedPlan plan report
+attacked_plan plan steps b d r s cc sc report e f g h drawn served = record {
   client_calls = cc;
   server_calls = sc;
   run = run_untold (parts_by plan (begins_of plan plan.client) r cc) (parts_by plan (begins_of plan plan.server) s sc) _ _ _ _ (λ q o. (tt, o)) (λ o. (tt, o)) (λ q o. (tt, o)) (λ o. (tt, o)) plan.client.config plan.server.config plan.attack report
@@ -142,6 +142,7 @@ attacked_plan plan steps b d r s cc sc report e f g h drawn = record {
       (subst (λ x. IsAttackedRun (parts_by plan b r cc) (parts_by plan x s sc) plan.client.config plan.server.config plan.attack report) g
       (subst (λ x. IsAttackedRun (parts_by plan b r cc) (parts_by plan d s sc) plan.client.config plan.server.config x report) e h)));
   drawn = drawn;
+  served = served;
 }
 
 begins_are : (b d : Begins) → b.bits ≡ d.bits → b.agreement ≡ d.agreement → b.hosts ≡ d.hosts → b.groups ≡ d.groups → b.trusted ≡ d.trusted → b.calls.agreement ≡ d.calls.agreement → b.calls.hosts ≡ d.calls.hosts → b.calls.lookups ≡ d.calls.lookups → b ≡ d
@@ -151,10 +152,10 @@ pub told_attack : (plan : Plan) (steps : List AttackStep) (b d : Begins) (r s : 
     → steps ≡ plan.attack
     → b.bits ≡ plan.client.group_bits → b.agreement ≡ plan.client.refuse_agreement → b.hosts ≡ plan.client.refuse_hosts → b.groups ≡ plan.client.refuse_groups → b.trusted ≡ trusted_of plan.server.config.host → b.calls.agreement ≡ 0 → b.calls.hosts ≡ 0 → b.calls.lookups ≡ 0
     → d.bits ≡ plan.server.group_bits → d.agreement ≡ plan.server.refuse_agreement → d.hosts ≡ plan.server.refuse_hosts → d.groups ≡ plan.server.refuse_groups → d.trusted ≡ trusted_of plan.server.config.host → d.calls.agreement ≡ 0 → d.calls.hosts ≡ 0 → d.calls.lookups ≡ 0
-    → IfOk result (IsAttackedRun (parts_by plan b r cc) (parts_by plan d s sc) plan.client.config plan.server.config steps) → IfOk result (λ (report : AttackReport). IsSeeded plan report.client.wire report.server.wire) → IfOk result (IsAttackedPlan plan)
-told_attack plan steps b d r s cc sc (Ok report) e b1 b2 b3 b4 b5 b6 b7 b8 d1 d2 d3 d4 d5 d6 d7 d8 h drawn =
-    attacked_plan plan steps b d r s cc sc report e (begins_are b (begins_of plan plan.client) b1 b2 b3 b4 b5 b6 b7 b8) (begins_are d (begins_of plan plan.server) d1 d2 d3 d4 d5 d6 d7 d8) h drawn
-told_attack plan steps b d r s cc sc (Err error) e b1 b2 b3 b4 b5 b6 b7 b8 d1 d2 d3 d4 d5 d6 d7 d8 h drawn = tt
+    → IfOk result (IsAttackedRun (parts_by plan b r cc) (parts_by plan d s sc) plan.client.config plan.server.config steps) → IfOk result (λ (report : AttackReport). IsSeeded plan report.client.wire report.server.wire) → IfOk result (AreServedAttacked plan) → IfOk result (IsAttackedPlan plan)
+told_attack plan steps b d r s cc sc (Ok report) e b1 b2 b3 b4 b5 b6 b7 b8 d1 d2 d3 d4 d5 d6 d7 d8 h drawn served =
+    attacked_plan plan steps b d r s cc sc report e (begins_are b (begins_of plan plan.client) b1 b2 b3 b4 b5 b6 b7 b8) (begins_are d (begins_of plan plan.server) d1 d2 d3 d4 d5 d6 d7 d8) h drawn served
+told_attack plan steps b d r s cc sc (Err error) e b1 b2 b3 b4 b5 b6 b7 b8 d1 d2 d3 d4 d5 d6 d7 d8 h drawn served = tt
 
 -- where a run went to its end, no configuration is refused
 pub passed : (o : Option ConfigFault) (result : Result AttackReport Error) → IfSome o (λ f. result ≡ Err (errors.InvalidConfig f)) → OnOk result (o ≡ None)

@@ -7,4 +7,5 @@ pub mod SmallGroups
 pub mod AttackedPlans
 pub mod WholeSources
 pub mod Seeds
+pub mod Served
 pub mod SureStatuses

@@ -1,5 +1,5 @@
 -- Where no answer but a report is left, each answer has the status of one.
-use Rattle.std.proofs.Common.{◌≡◌, ℕ, false, true, List, Option, Some, None, Ok, refl, subst}
+use Rattle.std.proofs.Common.{◌≡◌, ℕ, false, true, List, Option, None, refl, subst}
 use Rattle.ssh_program.specs.Programs.{HasOneStatus, IsReading}
 use Rattle.ssh_program.specs.Statuses.{report_written}
 use Rattle.ssh_program.proofs.Lemmas.{one_of, one_to_none, one_to_script}

@@ -1,5 +1,5 @@
 -- Where a script was run, or its run refused, the source was read to its end.
-use Rattle.std.proofs.Common.{◌≡◌, ℕ, Bool, true, false, List, [], Option, Some, None, OnSome, IfSome, Result, Ok, Err, refl, sym, subst}
+use Rattle.std.proofs.Common.{◌≡◌, ℕ, Bool, true, false, List, [], Option, Some, None, OnSome, IfSome, refl, subst}
 use Rattle.ssh_wire.specs.Outside.{ReachesEnd}
 use Rattle.ssh_program.specs.Programs.{AnswersBy, AnswersLeft, AnswersWords, IsAnswer, IsReading, is_too_long}
 use Rattle.ssh_program.proofs.Lemmas.{one_of}

@@ -1,13 +1,11 @@
 -- Two texts over the longest script are answered alike.
-use Rattle.std.specs.Prelude.{◌≡◌, ℕ, Bool, true, false, List, [], Result, Err}
+use Rattle.std.specs.Prelude.{◌≡◌, ℕ, Bool, true, false, List, [], Err}
 use Rattle.std.proofs.Common.{ap, sym, subst, ◌∙◌}
 use Rattle.ssh_program.specs.Programs.{AnswersAlike, is_too_long}
 use Rattle.ssh_lines.specs.OverLong.{over_long, said_too_long}
 use Rattle.ssh_script.specs.RunScript.{completed, first_plan, link_form, link_script}
 use Rattle.ssh_script.specs.Script.{clear_form, clear_script}
 use Rattle.ssh_link.specs.Program.{AnswersAttackScript, AnswersCommand, AnswersLinkScript, AnswersScript}
-use Rattle.ssh_link.specs.declared.answer.Answer.{Answer}
-use Rattle.ssh_link.specs.declared.command.Command.{Command}
 use Rattle.ssh_link.specs.declared.command.Command.TheVariants.{Script, Gen}
 use Rattle.ssh_link.specs.declared.command.ScriptCommand.TheVariants as command
 

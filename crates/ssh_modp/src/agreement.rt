@@ -132,6 +132,8 @@ impl Agreement for FieldAgreement {
 
     ghost calls = { λ v. v.calls };
 
+    ghost answered = { λ v known n. true };
+
     ghost one_secret = { λ v s name group local client server x y l c r a b. one_secret c r a b };
 
     ghost obliging_lawful = { λ v later s group o. tt };

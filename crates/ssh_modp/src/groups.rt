@@ -1,6 +1,6 @@
 //! A lookup of the groups of RFC 3526.
 
-ghost use Rattle.std.specs.Prelude.{◌≡◌, [], ◌∷◌, IfOk, IfErr};
+ghost use Rattle.std.specs.Prelude.{◌≡◌, [], ◌∷◌, IfOk, IfErr, true};
 ghost use Rattle.ssh_kex.specs.Parts.{IsValue};
 ghost use Rattle.ssh_kex.specs.declared.parts.Refusal.TheVariants.{Memory};
 ghost use Rattle.ssh_modp.specs.Fields.{IsTaken};
@@ -30,6 +30,8 @@ impl GroupLookup for ModpGroups {
     ghost refusals = { λ v. 0 };
 
     ghost calls = { λ v. 0 };
+
+    ghost answered = { λ v known n. true };
 
     ghost canonical = { λ v s sizes l. modp_canonical sizes };
 

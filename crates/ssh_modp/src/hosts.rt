@@ -147,6 +147,8 @@ impl HostKeys for RsaHosts {
 
     ghost calls = { λ v. v.calls };
 
+    ghost answered = { λ v known n. true };
+
     ghost signs_lawful = { λ v later s o. tt };
 
     ghost judges_lawful = { λ v later s o. tt };

@@ -18,6 +18,7 @@ pub use Rattle.ssh_rules.proofs.side.CallsRun.{Counts, Pays, calls_in, calls_joi
 pub use Rattle.ssh_rules.proofs.side.CallsRun.{begun_first, dropped_calls}
 pub use Rattle.ssh_rules.proofs.side.Calls.{asks_left, asks_lookups}
 pub use Rattle.ssh_rules.proofs.side.Asking.{asks_still, asks_join, asks_steps, StageBounds, stage_bounds, dropped_asks, message_none, type_none, cause_none, until_steps}
+pub use Rattle.ssh_rules.proofs.side.Answering.{StageAnswers, answers_at, answers_join, answers_same, answers_still, dropped_answers, taken_answers}
 pub use Rattle.ssh_rules.proofs.side.GroupsChosen.{dropped_group, groups_more, request_alone, taken_group}
 pub use Rattle.ssh_rules.proofs.side.FewAsked.{few_asked, input_few, refused_few}
 pub use Rattle.ssh_rules.proofs.side.Left.{begun_steps, left_steps, settle_turn, settle_measure}

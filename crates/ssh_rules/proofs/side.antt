@@ -1,5 +1,6 @@
 pub mod Accounts
 pub mod Apart
+pub mod Answering
 pub mod Asking
 pub mod Blocks
 pub mod Calls

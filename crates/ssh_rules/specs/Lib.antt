@@ -8,6 +8,7 @@ pub mod Fills
 pub mod Wire
 pub mod Log
 pub mod Counting
+pub mod Answering
 pub mod Guess
 pub mod Marks
 pub mod Run

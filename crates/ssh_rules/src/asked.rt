@@ -2,6 +2,7 @@
 
 ghost use Rattle.ssh_kex.specs.Parts.{Setup};
 ghost use Rattle.ssh_kex.specs.declared.exchange.ServerHost.{ServerHost};
+ghost use Rattle.ssh_rules.specs.Answering.{PartTests, tests_by};
 ghost use Rattle.ssh_rules.specs.Asking.{PartCalls, counted_by};
 ghost use Rattle.ssh_rules.specs.LinkCauses.{Rises, rises_of, unobliged_of};
 ghost use Rattle.ssh_rules.specs.Refusing.{untrusted_of};
@@ -12,6 +13,9 @@ use ssh_kex::{Agreement, GroupLookup, HostKeys, Parts};
 pub trait Asked {
     // How often each was asked.
     ghost calls: { Self → PartCalls };
+
+    // What each says of itself where it has answered so many calls, and refused none.
+    ghost tests: { Self → PartTests };
 
     // What it means that the host keys don't trust a host.
     ghost distrusts: { Self → Self → ServerHost → Type 0 };
@@ -25,6 +29,8 @@ pub trait Asked {
 
 impl<A: Agreement, H: HostKeys, G: GroupLookup, R> Asked for Parts<A, H, G, R> {
     ghost calls = { λ p. counted_by A.Agreement H.HostKeys G.GroupLookup p.agreement p.hosts p.groups };
+
+    ghost tests = { λ p. tests_by A.Agreement H.HostKeys G.GroupLookup p.agreement p.hosts p.groups };
 
     ghost distrusts = { λ p q. untrusted_of H.HostKeys p.hosts q.hosts };
 

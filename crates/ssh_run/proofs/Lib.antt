@@ -1,5 +1,5 @@
 pub mod Carried
-pub mod Drawn
+pub mod Leaving
 pub mod Growing
 pub mod ReadLoop
 pub mod Refusals

@@ -1,9 +1,12 @@
 -- The sides of a link, as their calls leave them.
 use Rattle.std.specs.Prelude.{◌≡◌, false}
-use Rattle.rand_core.specs.Stream.{Stream}
+use Rattle.ssh_wire.specs.declared.side.Side.TheVariants.{Client, Server}
+use Rattle.ssh_rules.specs.Answering.{AnswersAll, HasAnswered, PartTests}
+use Rattle.ssh_rules.specs.Standing.{Standing}
+use Rattle.ssh_rules.specs.declared.link.LinkReport.{LinkReport}
 use Rattle.ssh_rules.specs.declared.link.Mark.{Mark}
 use Rattle.ssh_rules.specs.declared.link.SideMark.{SideMark}
-use Rattle.ssh_transport.specs.Drawing.{StaysDrawn}
+use Rattle.ssh_transport.specs.Drawing.{PartsStand, StaysDrawn}
 use Rattle.ssh_run.specs.Carrying.{CarriedEnd, CarriedLink, both_marks, side_mark}
 use Rattle.ssh_run.specs.declared.link.Carrier.{Carrier}
 use Rattle.ssh_run.specs.declared.link_end.LinkEnd.{LinkEnd}
@@ -33,8 +36,19 @@ end_mark end = side_mark (carried_end end)
 abbrev pub link_mark : Carrier → Mark
 link_mark link = both_marks (link_of link)
 
--- Each side's first KEXINIT is drawn from the generator that was handed in at the start, if it was so before. The
--- streams are those of both generators before and behind, the client's first.
-pub record BothStayDrawn (old new : CarriedLink) (client client' server server' : Stream) : Type 0 where
-  pub of_client : StaysDrawn old.client.transport new.client.transport client client'
-  pub of_server : StaysDrawn old.server.transport new.server.transport server server'
+-- A side's first KEXINIT is drawn from the generator that was handed in at the start, if it was so before. And each part
+-- answered all that it was asked.
+pub record LeavesSide (old new : Standing) (parts parts' : PartsStand) : Type 0 where
+  pub drawn : StaysDrawn old new parts.stream parts'.stream
+  pub side : new.side ≡ old.side
+  pub answers : AnswersAll old.side old.state new.state parts.tests parts'.tests
+
+-- so of both sides, the client's parts before the server's
+pub record LeavesBoth (old new : CarriedLink) (client client' server server' : PartsStand) : Type 0 where
+  pub of_client : LeavesSide old.client.transport new.client.transport client client'
+  pub of_server : LeavesSide old.server.transport new.server.transport server server'
+
+-- in a run both sides' parts answered all that they were asked
+pub record BothAnswered (client client' server server' : PartTests) (report : LinkReport) : Type 0 where
+  pub of_client : HasAnswered Client report.client.exchanges client client'
+  pub of_server : HasAnswered Server report.server.exchanges server server'

@@ -14,12 +14,13 @@ ghost use Rattle.ssh_run.specs.RefusedCarrying.{RefusesLink};
 ghost use Rattle.ssh_run.specs.RunCauses.{IsAnyRunCause, IsRunCause, IsValidRun, all_submits_good, offered_on, rises_by};
 ghost use Rattle.ssh_rules.specs.Refused.{group_due};
 ghost use Rattle.ssh_rules.specs.RunLaws.{config_of};
+ghost use Rattle.ssh_run.specs.LinkEnds.{BothAnswered};
 ghost use Rattle.ssh_transport.specs.Drawing.{AreDrawn};
 ghost use Rattle.ssh_wire.specs.declared.error.Error.TheVariants.{InvalidConfig, Memory};
 ghost use Rattle.ssh_wire.specs.declared.side.Side.TheVariants.{Client as client_side, Server as server_side};
 
 use crate::link_end::LinkEnd;
-use crate::told::{Drawing, LinkTold, Told};
+use crate::told::{Leaving, LinkTold, Told};
 use rand_core::Rng;
 use ssh_kex::{Agreement, Config, GroupLookup, Handed, HostKeys, Parts};
 use ssh_rules::Asked;
@@ -107,6 +108,9 @@ pub fn run_link<A: Agreement, H: HostKeys, G: GroupLookup, R: Rng>(
     ensures server_keeps { ⟦<Parts<A, H, G, R> as Handed>⟧.keeps server_parts.old server_parts.new }
     ensures drawn { IfOk result (λ r. AreDrawn client.now server.now (R.stream client_parts.old.rng)
         (R.stream server_parts.old.rng) r.client.wire r.server.wire) }
+    ensures answered { IfOk result (BothAnswered (⟦<Parts<A, H, G, R> as Asked>⟧.tests client_parts.old)
+        (⟦<Parts<A, H, G, R> as Asked>⟧.tests client_parts.new) (⟦<Parts<A, H, G, R> as Asked>⟧.tests server_parts.old)
+        (⟦<Parts<A, H, G, R> as Asked>⟧.tests server_parts.new)) }
 {
     see_types(client);
     see_types(server);
@@ -161,8 +165,10 @@ fn carry_steps<A: Agreement, H: HostKeys, G: GroupLookup, R: Rng>(
         server_parts.new) }
     ensures client_keeps { ⟦<Parts<A, H, G, R> as Handed>⟧.keeps client_parts.old client_parts.new }
     ensures server_keeps { ⟦<Parts<A, H, G, R> as Handed>⟧.keeps server_parts.old server_parts.new }
-    ensures drawn { IfOk result (⟦<Parts<A, H, G, R> as Drawing>⟧.drew client.now server.now client_parts.old
+    ensures drawn { IfOk result (⟦<Parts<A, H, G, R> as Leaving>⟧.drew client.now server.now client_parts.old
         server_parts.old) }
+    ensures answered { IfOk result (⟦<Parts<A, H, G, R> as Leaving>⟧.answered client_parts.old client_parts.new
+        server_parts.old server_parts.new) }
 {
     if let Some(fault) = first_config_fault(client, server) {
         return Err(Error::InvalidConfig(fault));
@@ -208,7 +214,7 @@ impl<'c> Carrier<'c> {
     }
 
     /// Carries out all steps: the marks before the first and behind each.
-    #[tactic(auto, using(ssh_transport::proofs::Lemmas::parts_same, crate::proofs::Asking::side_still, crate::proofs::Asking::link_none, crate::proofs::Drawn::both_still))]
+    #[tactic(auto, using(ssh_transport::proofs::Lemmas::parts_same, crate::proofs::Asking::side_still, crate::proofs::Asking::link_none, crate::proofs::Leaving::both_still))]
     fn run<A: Agreement, H: HostKeys, G: GroupLookup, R: Rng>(
         &mut self,
         alloc: Global,
@@ -226,7 +232,7 @@ impl<'c> Carrier<'c> {
             client_parts.new server_parts.old server_parts.new steps.now) }
         ensures client_keeps { ⟦<Parts<A, H, G, R> as Handed>⟧.keeps client_parts.old client_parts.new }
         ensures server_keeps { ⟦<Parts<A, H, G, R> as Handed>⟧.keeps server_parts.old server_parts.new }
-        ensures draws { OnOk result (⟦<Parts<A, H, G, R> as Drawing>⟧.both_draw self.old self.new client_parts.old
+        ensures leaves { OnOk result (⟦<Parts<A, H, G, R> as Leaving>⟧.leaves_both self.old self.new client_parts.old
             client_parts.new server_parts.old server_parts.new) }
     {
         let mut marks = Vec::with_capacity(alloc, steps.len().saturating_add(1))?;
@@ -254,7 +260,7 @@ impl<'c> Carrier<'c> {
         ensures few { OnOk result (FewBehind self.old.bound step.now (link_of self.new)) }
         ensures client_keeps { ⟦<Parts<A, H, G, R> as Handed>⟧.keeps client_parts.old client_parts.new }
         ensures server_keeps { ⟦<Parts<A, H, G, R> as Handed>⟧.keeps server_parts.old server_parts.new }
-        ensures draws { OnOk result (⟦<Parts<A, H, G, R> as Drawing>⟧.both_draw self.old self.new client_parts.old
+        ensures leaves { OnOk result (⟦<Parts<A, H, G, R> as Leaving>⟧.leaves_both self.old self.new client_parts.old
             client_parts.new server_parts.old server_parts.new) }
         ensures asks_client { OnOk result (⟦<Parts<A, H, G, R> as Told>⟧.asks self.old.client self.new.client
             client_parts.old client_parts.new) }
@@ -288,7 +294,7 @@ impl<'c> Carrier<'c> {
         ensures bound { self.new.bound ≡ bound_behind (Submit side payload.now) self.old.bound }
         ensures client_keeps { ⟦<Parts<A, H, G, R> as Handed>⟧.keeps client_parts.old client_parts.new }
         ensures server_keeps { ⟦<Parts<A, H, G, R> as Handed>⟧.keeps server_parts.old server_parts.new }
-        ensures draws { OnOk result (⟦<Parts<A, H, G, R> as Drawing>⟧.both_draw self.old self.new client_parts.old
+        ensures leaves { OnOk result (⟦<Parts<A, H, G, R> as Leaving>⟧.leaves_both self.old self.new client_parts.old
             client_parts.new server_parts.old server_parts.new) }
         ensures asks_client { OnOk result (⟦<Parts<A, H, G, R> as Told>⟧.asks self.old.client self.new.client
             client_parts.old client_parts.new) }
@@ -320,7 +326,7 @@ impl<'c> Carrier<'c> {
         ensures bound { self.new.bound ≡ self.old.bound }
         ensures client_keeps { ⟦<Parts<A, H, G, R> as Handed>⟧.keeps client_parts.old client_parts.new }
         ensures server_keeps { ⟦<Parts<A, H, G, R> as Handed>⟧.keeps server_parts.old server_parts.new }
-        ensures draws { OnOk result (⟦<Parts<A, H, G, R> as Drawing>⟧.both_draw self.old self.new client_parts.old
+        ensures leaves { OnOk result (⟦<Parts<A, H, G, R> as Leaving>⟧.leaves_both self.old self.new client_parts.old
             client_parts.new server_parts.old server_parts.new) }
         ensures asks_client { OnOk result (⟦<Parts<A, H, G, R> as Told>⟧.asks self.old.client self.new.client
             client_parts.old client_parts.new) }
@@ -353,7 +359,7 @@ impl<'c> Carrier<'c> {
         ensures bound { self.new.bound ≡ bound_behind (Rekey side) self.old.bound }
         ensures client_keeps { ⟦<Parts<A, H, G, R> as Handed>⟧.keeps client_parts.old client_parts.new }
         ensures server_keeps { ⟦<Parts<A, H, G, R> as Handed>⟧.keeps server_parts.old server_parts.new }
-        ensures draws { OnOk result (⟦<Parts<A, H, G, R> as Drawing>⟧.both_draw self.old self.new client_parts.old
+        ensures leaves { OnOk result (⟦<Parts<A, H, G, R> as Leaving>⟧.leaves_both self.old self.new client_parts.old
             client_parts.new server_parts.old server_parts.new) }
         ensures asks_client { OnOk result (⟦<Parts<A, H, G, R> as Told>⟧.asks self.old.client self.new.client
             client_parts.old client_parts.new) }
@@ -370,7 +376,7 @@ impl<'c> Carrier<'c> {
     }
 
     /// Lets the server take all that waits for it, then the client, until nothing waits.
-    #[tactic(auto, using(ssh_transport::proofs::Lemmas::parts_same, crate::proofs::Asking::side_still, crate::proofs::Asking::turns_end, crate::proofs::Drawn::both_still))]
+    #[tactic(auto, using(ssh_transport::proofs::Lemmas::parts_same, crate::proofs::Asking::side_still, crate::proofs::Asking::turns_end, crate::proofs::Leaving::both_still))]
     fn settle<A: Agreement, H: HostKeys, G: GroupLookup, R: Rng>(
         &mut self,
         client_parts: &mut Parts<A, H, G, R>,
@@ -385,7 +391,7 @@ impl<'c> Carrier<'c> {
         ensures bound { self.new.bound ≡ self.old.bound }
         ensures client_keeps { ⟦<Parts<A, H, G, R> as Handed>⟧.keeps client_parts.old client_parts.new }
         ensures server_keeps { ⟦<Parts<A, H, G, R> as Handed>⟧.keeps server_parts.old server_parts.new }
-        ensures draws { OnOk result (⟦<Parts<A, H, G, R> as Drawing>⟧.both_draw self.old self.new client_parts.old
+        ensures leaves { OnOk result (⟦<Parts<A, H, G, R> as Leaving>⟧.leaves_both self.old self.new client_parts.old
             client_parts.new server_parts.old server_parts.new) }
         ensures asks_client { OnOk result (⟦<Parts<A, H, G, R> as Told>⟧.asks self.old.client self.new.client
             client_parts.old client_parts.new) }
@@ -422,7 +428,7 @@ impl<'c> Carrier<'c> {
         ensures bound { self.new.bound ≡ self.old.bound }
         ensures client_keeps { ⟦<Parts<A, H, G, R> as Handed>⟧.keeps client_parts.old client_parts.new }
         ensures server_keeps { ⟦<Parts<A, H, G, R> as Handed>⟧.keeps server_parts.old server_parts.new }
-        ensures draws { OnOk result (⟦<Parts<A, H, G, R> as Drawing>⟧.both_draw self.old self.new client_parts.old
+        ensures leaves { OnOk result (⟦<Parts<A, H, G, R> as Leaving>⟧.leaves_both self.old self.new client_parts.old
             client_parts.new server_parts.old server_parts.new) }
         ensures asks_client { OnOk result (⟦<Parts<A, H, G, R> as Told>⟧.asks self.old.client self.new.client
             client_parts.old client_parts.new) }

@@ -2,7 +2,7 @@
 
 ghost use Rattle.std.specs.Prelude.{◌≡◌, ◌≤◌, ◌++◌, ◌-◌, IfErr, IfOk, OnErr, OnOk, drop, false, length, true};
 
-use crate::told::{Drawing, Told};
+use crate::told::{Leaving, Told};
 use rand_core::Rng;
 use ssh_kex::{Agreement, GroupLookup, Handed, HostKeys, Parts};
 use ssh_rules::Asked;
@@ -63,7 +63,7 @@ impl<'c> LinkEnd<'c> {
         ensures submits { OnOk result (⟦<Parts<A, H, G, R> as Told>⟧.submits self.old parts.old payload.now self.new) }
         ensures refused { self.old.transport.failed ≡ false → IfErr result (λ e. RefusesSubmit payload.now e) }
         ensures keeps { ⟦<Parts<A, H, G, R> as Handed>⟧.keeps parts.old parts.new }
-        ensures draws { OnOk result (⟦<Parts<A, H, G, R> as Drawing>⟧.draws self.old self.new parts.old parts.new) }
+        ensures leaves { OnOk result (⟦<Parts<A, H, G, R> as Leaving>⟧.leaves self.old self.new parts.old parts.new) }
         ensures calls { ⟦<Parts<A, H, G, R> as Told>⟧.unasked parts.old parts.new }
         ensures side { OnOk result (⟦<Parts<A, H, G, R> as Told>⟧.asks self.old self.new parts.old parts.old) }
     {
@@ -81,7 +81,7 @@ impl<'c> LinkEnd<'c> {
         ensures asks { OnOk result (⟦<Parts<A, H, G, R> as Told>⟧.rekeys self.old parts.old self.new) }
         ensures refused { self.old.transport.failed ≡ false → IfErr result (λ e. e ≡ Memory) }
         ensures keeps { ⟦<Parts<A, H, G, R> as Handed>⟧.keeps parts.old parts.new }
-        ensures draws { OnOk result (⟦<Parts<A, H, G, R> as Drawing>⟧.draws self.old self.new parts.old parts.new) }
+        ensures leaves { OnOk result (⟦<Parts<A, H, G, R> as Leaving>⟧.leaves self.old self.new parts.old parts.new) }
         ensures calls { ⟦<Parts<A, H, G, R> as Told>⟧.unasked parts.old parts.new }
         ensures side { OnOk result (⟦<Parts<A, H, G, R> as Told>⟧.asks self.old self.new parts.old parts.old) }
     {
@@ -102,7 +102,7 @@ impl<'c> LinkEnd<'c> {
         ensures refused { self.old.transport.failed ≡ false → IfErr result
             (λ e. ⟦<Parts<A, H, G, R> as Told>⟧.refuses self.old parts.old parts.new wire.now count e) }
         ensures keeps { ⟦<Parts<A, H, G, R> as Handed>⟧.keeps parts.old parts.new }
-        ensures draws { OnOk result (⟦<Parts<A, H, G, R> as Drawing>⟧.draws self.old self.new parts.old parts.new) }
+        ensures leaves { OnOk result (⟦<Parts<A, H, G, R> as Leaving>⟧.leaves self.old self.new parts.old parts.new) }
         ensures asks { OnOk result (⟦<Parts<A, H, G, R> as Told>⟧.asks self.old self.new parts.old parts.new) }
         ensures asked { self.old.transport.failed ≡ false → OnErr result
             (⟦<Parts<A, H, G, R> as Told>⟧.asks_for_piece self.old wire.now count parts.old parts.new) }

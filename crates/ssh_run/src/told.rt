@@ -8,12 +8,12 @@ ghost use Rattle.ssh_rules.specs.declared.link.Mark.{Mark};
 ghost use Rattle.ssh_rules.specs.declared.link.Step.{Step};
 ghost use Rattle.ssh_run.specs.Asking.{LinkAsks, PartAsks, PieceAsks, SideAsks, TurnsAsk};
 ghost use Rattle.ssh_run.specs.Carrying.{AsksKeys, CarriesTo, RunsOn, SettlesAll, StepsLink, SubmitsOne, TakesTurns};
-ghost use Rattle.ssh_run.specs.LinkEnds.{BothStayDrawn, carried_end, link_of};
+ghost use Rattle.ssh_run.specs.LinkEnds.{BothAnswered, LeavesBoth, LeavesSide, carried_end, link_of};
 ghost use Rattle.ssh_run.specs.RefusedCarrying.{RefusesCarrying, RefusesRun, RefusesSettle, RefusesLinkStep, RefusesTurn, Telling, telling_of};
 ghost use Rattle.ssh_run.specs.Stepping.{LinkState, TakesStep};
 ghost use Rattle.ssh_run.specs.declared.link.Carrier.{Carrier};
 ghost use Rattle.ssh_run.specs.declared.link_end.LinkEnd.{LinkEnd};
-ghost use Rattle.ssh_transport.specs.Drawing.{AreDrawn, StaysDrawn};
+ghost use Rattle.ssh_transport.specs.Drawing.{AreDrawn};
 ghost use Rattle.ssh_wire.specs.declared.error.Error.{Error};
 
 use rand_core::Rng;
@@ -142,26 +142,38 @@ impl<A: Agreement, H: HostKeys, G: GroupLookup, R> LinkTold for Parts<A, H, G, R
         (⟦<Parts<A, H, G, R> as Asked>⟧.calls q) (⟦<Parts<A, H, G, R> as Asked>⟧.calls q') };
 }
 
-/// That a first KEXINIT is drawn from the generator that is handed in at the start, so that a clause names it once.
-pub trait Drawing {
+/// What a call leaves of a side's parts, so that a clause names it once: from where the first KEXINIT is drawn, and that
+/// each part answered.
+pub trait Leaving {
     // A call on a side leaves it so.
-    ghost draws: { LinkEnd → LinkEnd → Self → Self → Type 0 };
+    ghost leaves: { LinkEnd → LinkEnd → Self → Self → Type 0 };
 
     // And one on a link both, with the client's parts before the server's.
-    ghost both_draw: { Carrier → Carrier → Self → Self → Self → Self → Type 0 };
+    ghost leaves_both: { Carrier → Carrier → Self → Self → Self → Self → Type 0 };
 
-    // What both sides sent, by the generators at the start.
+    // What both sides sent, by the generators at the start; and what was answered in the run.
     ghost drew: { Config → Config → Self → Self → LinkReport → Type 0 };
+
+    ghost answered: { Self → Self → Self → Self → LinkReport → Type 0 };
 }
 
-impl<A: Agreement, H: HostKeys, G: GroupLookup, R: Rng> Drawing for Parts<A, H, G, R> {
-    ghost draws = { λ e e' p q. StaysDrawn e.transport e'.transport (R.stream p.rng) (R.stream q.rng) };
+impl<A: Agreement, H: HostKeys, G: GroupLookup, R: Rng> Leaving for Parts<A, H, G, R> {
+    ghost leaves = { λ e e' p q. LeavesSide e.transport e'.transport
+        (record { stream = R.stream p.rng; tests = ⟦<Parts<A, H, G, R> as Asked>⟧.tests p })
+        (record { stream = R.stream q.rng; tests = ⟦<Parts<A, H, G, R> as Asked>⟧.tests q }) };
 
-    ghost both_draw = { λ l l' p p' q q'. BothStayDrawn (link_of l) (link_of l') (R.stream p.rng) (R.stream p'.rng)
-        (R.stream q.rng) (R.stream q'.rng) };
+    ghost leaves_both = { λ l l' p p' q q'. LeavesBoth (link_of l) (link_of l')
+        (record { stream = R.stream p.rng; tests = ⟦<Parts<A, H, G, R> as Asked>⟧.tests p })
+        (record { stream = R.stream p'.rng; tests = ⟦<Parts<A, H, G, R> as Asked>⟧.tests p' })
+        (record { stream = R.stream q.rng; tests = ⟦<Parts<A, H, G, R> as Asked>⟧.tests q })
+        (record { stream = R.stream q'.rng; tests = ⟦<Parts<A, H, G, R> as Asked>⟧.tests q' }) };
 
     ghost drew = { λ client server p q report. AreDrawn client server (R.stream p.rng) (R.stream q.rng)
         report.client.wire report.server.wire };
+
+    ghost answered = { λ p p' q q' report. BothAnswered
+        (⟦<Parts<A, H, G, R> as Asked>⟧.tests p) (⟦<Parts<A, H, G, R> as Asked>⟧.tests p')
+        (⟦<Parts<A, H, G, R> as Asked>⟧.tests q) (⟦<Parts<A, H, G, R> as Asked>⟧.tests q') report };
 }
 
 /// What a step of a link does, and why it is refused, by what the parts of both sides say, the client's before the

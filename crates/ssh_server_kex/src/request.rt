@@ -6,7 +6,7 @@ ghost use Rattle.ssh_packet.specs.Writing.{IsSizeOrMemory, SameButRoom};
 ghost use Rattle.ssh_wire.specs.Outside.{Rose};
 ghost use Rattle.ssh_wire.specs.declared.error.Error.TheVariants.{Memory};
 ghost use Rattle.ssh_kex.specs.Messages.{IsCanonical, group_message, request_message};
-ghost use Rattle.ssh_kex.specs.Parts.{Setup};
+ghost use Rattle.ssh_kex.specs.Parts.{Answers, Setup};
 ghost use Rattle.ssh_kex.specs.Fields.{sizes_in};
 ghost use Rattle.ssh_kex.specs.Members.{GroupsKept};
 ghost use Rattle.ssh_server_kex.specs.ServerRows.{AnswersRequest, RefusesRequest, RefusesSizes};
@@ -65,6 +65,7 @@ pub(crate) fn answer_request<G: GroupLookup, R: Rng>(
 ) -> Result<GexChosen, Error>
     ensures keeps { GroupsKept G.GroupLookup groups.old groups.new }
     ensures calls { G.calls groups.new ≤ G.calls groups.old + 1 }
+    ensures answers { OnOk result (Answers G.answered 1 groups.old groups.new) }
     ensures ok { IfOk result (AnswersRequest (λ sizes q. (s : Setup) → G.lawful groups.old s
         → (q ≡ G.group groups.old sizes) × IsCanonical q) payload.now output.old output.new) }
     ensures causes { IfErr result (RefusesRequest (λ sizes q. (s : Setup) → G.lawful groups.old s

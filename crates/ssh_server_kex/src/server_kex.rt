@@ -15,15 +15,15 @@ ghost use Rattle.ssh_kex.specs.Refusals.{IsCreated};
 ghost use Rattle.ssh_wire.specs.Lines.{id_text};
 ghost use Rattle.ssh_wire.specs.declared.error.Error.TheVariants.{Memory};
 ghost use Rattle.ssh_wire.specs.declared.side.Side.TheVariants.{Server as server_side};
-ghost use Rattle.ssh_kex.specs.Parts.{HasItsGroup, IsSmall, Setup};
+ghost use Rattle.ssh_kex.specs.Parts.{Answers, HasItsGroup, IsSmall, Setup};
 ghost use Rattle.ssh_server_kex.specs.ServerRows.{AreShortBlobs, CanAnswer, IsLongAnswer, RefusesRequest, ServerRefusesValue};
 ghost use Rattle.ssh_server_kex.specs.ServerAnswers.{AnswersClient, AnswersOpening, AnswersSizes, ServerRefusesKexinit};
 ghost use Rattle.ssh_wire.specs.Outside.{Rose};
 ghost use Rattle.ssh_server_kex.specs.ServerViews.{Begins, CanAsk, CanBegin, IsFresh, ServerKeeps, server_behind_guess, server_drops_guess, server_machine};
 ghost use Rattle.ssh_kex.specs.Setting.{group_of, offers_of};
-ghost use Rattle.ssh_kex.specs.Stages.{Created as created_stage, has_ignored, is_strict, names_in_stage};
+ghost use Rattle.ssh_kex.specs.Stages.{Created as created_stage, IsStageOf, has_ignored, is_strict, names_in_stage};
 ghost use Rattle.ssh_kex.specs.declared.progress.KexProgress.TheVariants.{NeedsReply};
-ghost use Rattle.ssh_kex.specs.Stepping.{asks_agreement, asks_hosts, asks_groups, next_of, Progresses, RefusesStep};
+ghost use Rattle.ssh_kex.specs.Stepping.{answers_agreement, asks_agreement, asks_hosts, asks_groups, next_of, Progresses, RefusesStep};
 ghost use Rattle.ssh_kex.specs.Unasked.{asks_nobody};
 
 use crate::opening::open;
@@ -187,6 +187,10 @@ impl<'c> ServerKex<'c> {
             self.entry.setting.side self.entry.stage (next_of result) }
         ensures hosts_calls { H.calls parts.new.hosts ≤ H.calls parts.old.hosts + asks_hosts self.entry.stage }
         ensures groups_calls { G.calls parts.new.groups ≤ G.calls parts.old.groups + asks_groups self.entry.stage }
+        ensures fits { IsStageOf self.entry.setting.side self.entry.stage }
+        ensures answers { OnOk result (⟦<Parts<A, H, G, R> as Handed>⟧.answers parts.old parts.new (answers_agreement
+            self.entry.setting.side self.entry.stage (next_of result)) (asks_hosts self.entry.stage) (asks_groups
+            self.entry.stage)) }
         ensures goes { IfOk result (λ p. Progresses (⟦<Parts<A, H, G, R> as Handed>⟧.says self.entry.setting.config
             parts.old)
             self.entry input.entry output.old p output.new) }
@@ -330,6 +334,7 @@ fn take_request<'c, G: GroupLookup, R: Rng>(
     requires { CanAsk base.config.now names base.exchange }
     ensures keeps { GroupsKept G.GroupLookup groups.old groups.new }
     ensures calls { G.calls groups.new ≤ G.calls groups.old + 1 }
+    ensures answers { OnOk result (Answers G.answered 1 groups.old groups.new) }
     ensures ok { IfOk result (λ p. AnswersSizes (λ sizes q. (s : Setup) → G.lawful groups.old s
         → (q ≡ G.group groups.old sizes) × IsCanonical q) base.entry.config.now base.entry.cause base.entry.exchange
         names payload.now p output.old
@@ -364,7 +369,9 @@ fn take_value<'c, A: Agreement, H: HostKeys, G, R: Rng>(
     ensures hosts { HostsKept H.HostKeys parts.old.hosts parts.new.hosts }
     ensures groups { parts.new.groups ≡ parts.old.groups }
     ensures agreement_calls { A.calls parts.new.agreement ≤ A.calls parts.old.agreement + 1 }
+    ensures agreement_answers { OnOk result (Answers A.answered 1 parts.old.agreement parts.new.agreement) }
     ensures hosts_calls { H.calls parts.new.hosts ≤ H.calls parts.old.hosts + 1 }
+    ensures hosts_answer { OnOk result (Answers H.answered 1 parts.old.hosts parts.new.hosts) }
     ensures ok { IfOk result (λ p. AnswersClient
         (λ c v. (s : Setup) → A.lawful parts.old.agreement s
         → A.server_makes names.kex (group_of base.entry.exchange.gex) c v)

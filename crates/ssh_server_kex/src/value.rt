@@ -1,6 +1,6 @@
 //! A server's answer to a client's value.
 
-ghost use Rattle.std.specs.Prelude.{◌≡◌, ◌+◌, ◌≤◌, ◌<◌, ◌^◌, ◌⊎◌, true, false, [], ◌∷◌, ℕ, List, length, drop, is_some, Some, None, Ok, Err, IfOk, IfErr, OnErr};
+ghost use Rattle.std.specs.Prelude.{◌≡◌, ◌+◌, ◌≤◌, ◌<◌, ◌^◌, ◌⊎◌, true, false, [], ◌∷◌, ℕ, List, length, drop, is_some, Some, None, Ok, Err, IfOk, IfErr, OnErr, OnOk};
 ghost use Rattle.std.specs.Option.{option_copied};
 ghost use Rattle.ssh_negotiate.specs.Tables.{shape_of};
 ghost use Rattle.ssh_packet.specs.Stream.{message_type};
@@ -9,7 +9,7 @@ ghost use Rattle.ssh_wire.specs.Outside.{Rose};
 ghost use Rattle.ssh_wire.specs.declared.error.Error.TheVariants.{Kex, Memory};
 ghost use Rattle.ssh_kex.specs.Drawing.{AnswerDrawn, SecretDrawn};
 ghost use Rattle.ssh_kex.specs.Messages.{is_gex, reply_message, value_message};
-ghost use Rattle.ssh_kex.specs.Parts.{HasItsGroup, IsSmall, Setup};
+ghost use Rattle.ssh_kex.specs.Parts.{Answers, HasItsGroup, IsSmall, Setup};
 ghost use Rattle.ssh_kex.specs.Fields.{value_in};
 ghost use Rattle.ssh_kex.specs.Members.{AgreementKept, HostsKept};
 ghost use Rattle.ssh_server_kex.specs.ServerRows.{AgreesOn, AnswersValue, CanAnswer, IsLongAnswer, RefusesText, ServerRefusesValue};
@@ -104,6 +104,7 @@ fn agree<A: Agreement, R: Rng>(
     requires some { (shape_of name).skip ≡ false }
     ensures keeps { AgreementKept A.Agreement agreement.old agreement.new }
     ensures calls { A.calls agreement.new ≤ A.calls agreement.old + 1 }
+    ensures answers { OnOk result (Answers A.answered 1 agreement.old agreement.new) }
     ensures ok { IfOk result (AgreesOn (λ v x. (s : Setup) → A.lawful agreement.old s
         → A.server_makes name (group_of exchange.old.gex) exchange.old.client_ephemeral v
         × A.agrees name (group_of exchange.old.gex) exchange.old.client_ephemeral v x
@@ -169,7 +170,9 @@ pub(crate) fn answer_value<A: Agreement, H: HostKeys, G, R: Rng>(
     ensures hosts { HostsKept H.HostKeys parts.old.hosts parts.new.hosts }
     ensures groups { parts.new.groups ≡ parts.old.groups }
     ensures agreement_calls { A.calls parts.new.agreement ≤ A.calls parts.old.agreement + 1 }
+    ensures agreement_answers { OnOk result (Answers A.answered 1 parts.old.agreement parts.new.agreement) }
     ensures hosts_calls { H.calls parts.new.hosts ≤ H.calls parts.old.hosts + 1 }
+    ensures hosts_answer { OnOk result (Answers H.answered 1 parts.old.hosts parts.new.hosts) }
     ensures ok { IfOk result (AnswersValue
         (λ c v. (s : Setup) → A.lawful parts.old.agreement s → A.server_makes names.now.kex
         (group_of base.old.exchange.gex) c v)

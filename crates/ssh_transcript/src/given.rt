@@ -41,6 +41,8 @@ impl Agreement for GivenSecret {
 
     ghost calls = { λ v. 0 };
 
+    ghost answered = { λ v known n. true };
+
     ghost one_secret = { λ v s name group local client server x y l c r a b. a ∙ sym b };
 
     ghost obliging_lawful = { λ v later s group o. o };

@@ -10,8 +10,8 @@ use Rattle.ssh_packet.specs.Stream.{message_type}
 use Rattle.ssh_packet.specs.Writing.{Writer}
 use Rattle.ssh_packet.specs.declared.reader.Incoming.{Incoming}
 use Rattle.ssh_kex.specs.Setting.{Says, Setting}
-use Rattle.ssh_kex.specs.Stages.{Stage, Created, AwaitsGroup, AwaitsReply, AwaitsRequest, AwaitsValue, AwaitsNewkeys, Machine, Finishes, Skips, names_in_stage}
-use Rattle.ssh_kex.specs.Stepping.{asks_agreement, asks_hosts, asks_groups, next_of, DropsGuess, IsDone, Progresses, TakesOne}
+use Rattle.ssh_kex.specs.Stages.{Stage, Created, AwaitsGroup, AwaitsReply, AwaitsRequest, AwaitsValue, AwaitsNewkeys, IsStageOf, Machine, Finishes, Skips, names_in_stage}
+use Rattle.ssh_kex.specs.Stepping.{answers_agreement, asks_hosts, asks_groups, next_of, DropsGuess, IsDone, Progresses, TakesOne}
 use Rattle.ssh_kex.specs.declared.exchange.Exchange.{Exchange}
 use Rattle.ssh_kex.specs.declared.exchange.FinishedExchange.{FinishedExchange}
 use Rattle.ssh_kex.specs.declared.exchange.NewKeys.{NewKeys}
@@ -20,37 +20,32 @@ use Rattle.ssh_kex.specs.declared.progress.KexProgress.{KexProgress}
 use Rattle.ssh_kex.specs.declared.progress.KexProgress.TheVariants.{NeedsReply}
 use Rattle.ssh_kex.specs.declared.progress.KexProgress.TheVariants as progress
 use Rattle.ssh_kex.specs.declared.session_state.SessionKexState.{SessionKexState}
+use Rattle.ssh_rules.specs.Answering.{AnswersAll, PartTests}
 use Rattle.ssh_rules.specs.Asking.{AsksForCause, AsksForMessage, AsksForType, AsksOnce, AsksUntil, AsksWithin, PartCalls, to_come_for}
 use Rattle.ssh_rules.specs.Calls.{agreement_left, hosts_left, lookups_left}
 use Rattle.ssh_rules.specs.Counting.{CallsFrom, agreement_to_come, begun, calls_of, group_in, groups_chosen, groups_in, hosts_to_come, lookups_of, lookups_to_come, open_count, request_due}
-use Rattle.ssh_rules.specs.Machine.{Event, Inside, Outside, SideState, Spot, Steps, Where, names_now}
+use Rattle.ssh_rules.specs.Log.{handled}
+use Rattle.ssh_rules.specs.Machine.{AnswerSent, Event, ExchangeBegun, ExchangeFinished, GuessDropped, IdHeard, Inside, MessageTaken, Outside, PacketDropped, PayloadDelivered, PayloadSent, PayloadSubmitted, SideState, Spot, Steps, Where, names_now}
 use Rattle.ssh_rules.specs.Standing.{OfMemory, OfPacket, RefusalCause}
-use Rattle.ssh_rules.proofs.Lemmas.{asks_join, asks_left, asks_lookups, asks_steps, asks_still, begun_first, begun_steps, cause_none, dropped_asks, dropped_calls, dropped_group, groups_more, request_alone, stage_bounds, taken_group}
-use Rattle.ssh_transport.specs.Asking.{AsksBetween, AsksTo, MoveAsks, StepAsks, asks_trust, nowhere, state_of}
+use Rattle.ssh_rules.specs.Valid.{config_fault}
+use Rattle.ssh_rules.proofs.Lemmas.{answers_at, answers_join, answers_same, answers_still, asks_join, asks_left, asks_lookups, asks_steps, asks_still, begun_first, begun_steps, cause_none, dropped_asks, dropped_calls, dropped_group, groups_more, request_alone, stage_bounds, taken_group}
+use Rattle.ssh_transport.specs.Asking.{AsksBetween, AsksTo, MoveAnswers, MoveAsks, PartTally, Raises, StepAnswers, StepAsks, StepCalls, asks_trust, nowhere, state_of, trust_in}
 use Rattle.ssh_transport.specs.Handling.{Installs, IsFor, IsOpen, Moves}
-use Rattle.ssh_transport.specs.Saying.{GoesOn, GoesPart, IsFixed, nothing_said}
+use Rattle.ssh_transport.specs.Saying.{GoesOn, GoesPart, IsFixed, OnlyWrites, nothing_said}
 use Rattle.ssh_transport.specs.States.{after_exchanges, reading_spot, stands_of, state_at}
 use Rattle.ssh_transport.specs.Taking.{Hears, TakesUp}
 use Rattle.ssh_transport.specs.declared.connection.Connection.{Connection}
 use Rattle.ssh_transport.specs.declared.session.Handled.{Handled}
 use Rattle.ssh_transport.specs.declared.session.Handled.TheVariants.{Delivers, Done, Rekeys}
 use Rattle.ssh_transport.specs.declared.session.Session.{Session}
+use Rattle.ssh_transport.proofs.Answered.{message_answers}
 use Rattle.ssh_transport.proofs.Kexinits.{between_side}
 use Rattle.ssh_transport.proofs.Refusing.{set_for}
 
 -- ---- a machine's step
 
--- how often each part was asked in a step, by where the machine stood and where it comes to stand
-pub record StepCalls (side : Side) (stage : Stage) (next : Option Stage) (n n' : PartCalls) : Type 0 where
-  pub agreement_later : n.agreement ≤ n'.agreement
-  pub hosts_later : n.hosts ≤ n'.hosts
-  pub lookups_later : n.lookups ≤ n'.lookups
-  pub agreement : n'.agreement ≤ n.agreement + asks_agreement side stage next
-  pub hosts : n'.hosts ≤ n.hosts + asks_hosts stage
-  pub lookups : n'.lookups ≤ n.lookups + asks_groups stage
-
-taken_asks : (says : Says) (m : Machine) (i : Incoming) (old new : Writer) (kex : Machine) (reset : Bool) (n n' : PartCalls) → DropsGuess m old kex reset new ⊎ TakesOne says m i old kex reset new → StepCalls m.setting.side m.stage (Some kex.stage) n n' → MoveAsks m.setting.side m.stage (Inside kex.stage) n n'
-taken_asks says m i old new kex reset n n' (inl d) c =
+taken_asks : (says : Says) (m : Machine) (i : Incoming) (old new : Writer) (kex : Machine) (reset : Bool) (n n' : PartTally) → DropsGuess m old kex reset new ⊎ TakesOne says m i old kex reset new → StepCalls m.setting.side m.stage (Some kex.stage) n.calls n'.calls → StepAnswers m.setting.side m.stage (Some kex.stage) n.tests n'.tests → MoveAsks m.setting.side m.stage (Inside kex.stage) n n'
+taken_asks says m i old new kex reset n n' (inl d) c q =
     let z = dropped_asks m.setting.side m.stage (Some kex.stage) d.drops in
     let k = dropped_calls m.setting.side m.stage in
     let e : kex.stage ≡ Rattle.ssh_kex.specs.Stages.guess_dropped m.stage = ap (λ (x : Machine). x.stage) d.kex_is in
@@ -62,21 +57,24 @@ taken_asks says m i old new kex reset n n' (inl d) c =
       hosts = (c.hosts_later, (let y = c.hosts in omega (arith, y, z.1, k.1, h)));
       lookups = (c.lookups_later, (let y = c.lookups in omega (arith, y, z.2, k.2, l)));
       groups = c.lookups;
+      answers = record { fits = q.fits; agreement = q.agreement; hosts = q.hosts; lookups = q.lookups };
     }
-taken_asks says m i old new kex reset n n' (inr t) c =
+taken_asks says m i old new kex reset n n' (inr t) c q =
     let r = asks_left says m.setting m.stage i.seqn i.payload.now t.written kex.stage t.takes in
-    let q = asks_lookups says m.setting m.stage i.seqn i.payload.now t.written kex.stage t.takes in
+    let l = asks_lookups says m.setting m.stage i.seqn i.payload.now t.written kex.stage t.takes in
     record {
       agreement = (c.agreement_later, (let y = c.agreement in omega (arith, y, r.0)));
       hosts = (c.hosts_later, (let y = c.hosts in omega (arith, y, r.1)));
-      lookups = (c.lookups_later, (let y = c.lookups in omega (arith, y, q)));
+      lookups = (c.lookups_later, (let y = c.lookups in omega (arith, y, l)));
       groups = c.lookups;
+      answers = record { fits = q.fits; agreement = q.agreement; hosts = q.hosts; lookups = q.lookups };
     }
 
 -- a machine that awaits more
-pub moves_on : (says : Says) (m : Machine) (i : Incoming) (old new : Writer) (answer : Result (KexProgress Machine) Error) (p : KexProgress Machine) (kex : Machine) (reset : Bool) (n n' : PartCalls) → answer ≡ Ok p → p ≡ NeedsReply kex reset → Progresses says m (Some i) old p new → StepCalls m.setting.side m.stage (next_of answer) n n' → MoveAsks m.setting.side m.stage (Inside kex.stage) n n'
-moves_on says m i old new answer p kex reset n n' a e h c = taken_asks says m i old new kex reset n n' (subst (λ (x : KexProgress Machine). Progresses says m (Some i) old x new) e h)
-    (subst (λ (x : Option Stage). StepCalls m.setting.side m.stage x n n') (ap next_of a ∙ ap (λ (x : KexProgress Machine). next_of (Ok x)) e) c)
+pub moves_on : (says : Says) (m : Machine) (i : Incoming) (old new : Writer) (answer : Result (KexProgress Machine) Error) (p : KexProgress Machine) (kex : Machine) (reset : Bool) (n n' : PartTally) → answer ≡ Ok p → p ≡ NeedsReply kex reset → Progresses says m (Some i) old p new → StepCalls m.setting.side m.stage (next_of answer) n.calls n'.calls → StepAnswers m.setting.side m.stage (next_of (Ok p)) n.tests n'.tests → MoveAsks m.setting.side m.stage (Inside kex.stage) n n'
+moves_on says m i old new answer p kex reset n n' a e h c q = taken_asks says m i old new kex reset n n' (subst (λ (x : KexProgress Machine). Progresses says m (Some i) old x new) e h)
+    (subst (λ (x : Option Stage). StepCalls m.setting.side m.stage x n.calls n'.calls) (ap next_of a ∙ ap (λ (x : KexProgress Machine). next_of (Ok x)) e) c)
+    (subst (λ (x : Option Stage). StepAnswers m.setting.side m.stage x n.tests n'.tests) (ap (λ (x : KexProgress Machine). next_of (Ok x)) e) q)
 
 -- a machine that refuses
 pub refused_asks : (side : Side) (stage : Stage) (answer : Result (KexProgress Machine) Error) (error : Error) (n n' : PartCalls) → answer ≡ Err error → StepCalls side stage (next_of answer) n n' → AsksForMessage side (Inside stage) n n'
@@ -130,13 +128,53 @@ pub record EndCalls (side : Side) (stage : Stage) (host : Option ServerHost) (n 
 pub step_ended : (side : Side) (stage : Stage) (answer : Result (KexProgress Machine) Error) (p : KexProgress Machine) (host : Option ServerHost) (k : NewKeys) (n n' : PartCalls) → answer ≡ Ok p → p ≡ progress.Done host k → StepCalls side stage (next_of answer) n n' → StepCalls side stage None n n'
 step_ended side stage answer p host k n n' a e h = subst (λ (x : Option Stage). StepCalls side stage x n n') (ap next_of a ∙ ap (λ (x : KexProgress Machine). next_of (Ok x)) e) h
 
+-- and what they answered: the step took its message, and the host, where there is one, is trusted
+pub record EndAnswers (side : Side) (stage : Stage) (host : Option ServerHost) (t t' : PartTests) : Type 0 where
+  pub mid : PartTests
+  pub step : StepAnswers side stage None t mid
+  pub agreement : t'.agreement ≡ mid.agreement
+  pub hosts : Raises (asks_trust host) mid.hosts t'.hosts
+  pub lookups : t'.lookups ≡ mid.lookups
+
+pub answered_ended : (side : Side) (stage : Stage) (p : KexProgress Machine) (host : Option ServerHost) (k : NewKeys) (t t' : PartTests) → p ≡ progress.Done host k → StepAnswers side stage (next_of (Ok p)) t t' → StepAnswers side stage None t t'
+answered_ended side stage p host k t t' e h = subst (λ (x : Option Stage). StepAnswers side stage x t t') (ap (λ (x : KexProgress Machine). next_of (Ok x)) e) h
+
+-- at its end a stage asks for its host
+trust_is : (s : Setting) (stage : Stage) (seqn : ℕ) (payload : List ℕ) (written : List (List ℕ)) (x : Exchange) (made : FinishedExchange) (host : Option ServerHost) → (Finishes stage payload x made host × (written ≡ [])) ⊎ Skips s stage seqn payload written x made host → asks_trust host ≡ trust_in stage
+trust_is s (Created own) seqn payload written x made host (inl h) = absurd h.0
+trust_is s (Created own) seqn payload written x made host (inr h) = ap asks_trust h.host_is
+trust_is s (AwaitsGroup o) seqn payload written x made host (inl h) = absurd h.0
+trust_is s (AwaitsGroup o) seqn payload written x made host (inr h) = absurd h
+trust_is s (AwaitsReply o gex local public) seqn payload written x made host (inl h) = absurd h.0
+trust_is s (AwaitsReply o gex local public) seqn payload written x made host (inr h) = absurd h
+trust_is s (AwaitsRequest o) seqn payload written x made host (inl h) = absurd h.0
+trust_is s (AwaitsRequest o) seqn payload written x made host (inr h) = absurd h
+trust_is s (AwaitsValue o gex) seqn payload written x made host (inl h) = absurd h.0
+trust_is s (AwaitsValue o gex) seqn payload written x made host (inr h) = absurd h
+trust_is s (AwaitsNewkeys y m k) seqn payload written x made host (inl h) = ap asks_trust (h.0).host_is
+trust_is s (AwaitsNewkeys y m k) seqn payload written x made host (inr h) = absurd h
+
+raises_join : (a b : ℕ) (p q r : ℕ → ℕ → Bool) → Raises a p q → Raises b q r → Raises (a + b) p r
+raises_join a b p q r f g known n h = answers_at r _ _ (omega arith) known (g known (n + a) (f known n h))
+
+-- whatever was finished before
+behind_end : (side : Side) (stage : Stage) (t t' : PartTests) → IsStageOf side stage → Raises (answers_agreement side stage None) t.agreement t'.agreement → Raises (asks_hosts stage + trust_in stage) t.hosts t'.hosts → Raises (asks_groups stage) t.lookups t'.lookups → (records : List FinishedExchange) → MoveAnswers side stage (after_exchanges records) t t'
+behind_end side stage t t' f a b c [] = record { fits = f; agreement = a; hosts = b; lookups = c }
+behind_end side stage t t' f a b c (x ∷ records) = record { fits = f; agreement = a; hosts = b; lookups = c }
+
+ended_answers : (side : Side) (stage : Stage) (host : Option ServerHost) (t t' : PartTests) → asks_trust host ≡ trust_in stage → EndAnswers side stage host t t' → (records : List FinishedExchange) → MoveAnswers side stage (after_exchanges records) t t'
+ended_answers side stage host t t' e h records = behind_end side stage t t' (h.step).fits
+    (subst (λ (q : ℕ → ℕ → Bool). Raises (answers_agreement side stage None) t.agreement q) (sym h.agreement) (h.step).agreement)
+    (subst (λ k. Raises (asks_hosts stage + k) t.hosts t'.hosts) e (raises_join (asks_hosts stage) (asks_trust host) t.hosts (h.mid).hosts t'.hosts (h.step).hosts h.hosts))
+    (subst (λ (q : ℕ → ℕ → Bool). Raises (asks_groups stage) t.lookups q) (sym h.lookups) (h.step).lookups) records
+
 -- what is to come where no exchange is open
 outside_none : (side : Side) (records : List FinishedExchange) → (agreement_to_come side (after_exchanges records) ≡ 0) × (hosts_to_come side (after_exchanges records) ≡ 0) × (lookups_to_come side (after_exchanges records) ≡ 0)
 outside_none side [] = (refl, refl, refl)
 outside_none side (x ∷ records) = (refl, refl, refl)
 
-pub ends_on : (m : Machine) (i : Incoming) (old new : Writer) (host : Option ServerHost) (k : NewKeys) (records : List FinishedExchange) (n n' : PartCalls) → IsDone m i old host k new → EndCalls m.setting.side m.stage host n n' → MoveAsks m.setting.side m.stage (after_exchanges records) n n'
-ends_on m i old new host k records n n' d c =
+pub ends_on : (m : Machine) (i : Incoming) (old new : Writer) (host : Option ServerHost) (k : NewKeys) (records : List FinishedExchange) (n n' : PartTally) → IsDone m i old host k new → EndCalls m.setting.side m.stage host n.calls n'.calls → EndAnswers m.setting.side m.stage host n.tests n'.tests → MoveAsks m.setting.side m.stage (after_exchanges records) n n'
+ends_on m i old new host k records n n' d c q =
     let b = stage_bounds m.setting.side m.stage in
     let e = end_bounds m.setting.side m.setting m.stage i.seqn i.payload.now d.written d.exchange d.made host d.ends in
     let o = outside_none m.setting.side records in
@@ -146,6 +184,7 @@ ends_on m i old new host k records n n' d c =
       hosts = ((let x = s.hosts_later in let y = c.hosts_later in omega (arith, x, y)), (let x = s.hosts in let y = c.hosts in let z = e.hosts in omega (arith, x, y, z, o.1)));
       lookups = ((let x = s.lookups_later in let y = c.lookups in omega (arith, x, y)), (let x = s.lookups in let y = c.lookups in let z = b.lookups in omega (arith, x, y, z, o.2)));
       groups = (let x = s.lookups in let y = c.lookups in omega (arith, x, y));
+      answers = ended_answers m.setting.side m.stage host n.tests n'.tests (trust_is m.setting m.stage i.seqn i.payload.now d.written d.exchange d.made host d.ends) q records;
     }
 
 pub ends_refused : (m : Machine) (i : Incoming) (old new : Writer) (host : Option ServerHost) (k : NewKeys) (n n' : PartCalls) → IsDone m i old host k new → EndCalls m.setting.side m.stage host n n' → AsksForMessage m.setting.side (Inside m.stage) n n'
@@ -161,7 +200,7 @@ ends_refused m i old new host k n n' d c =
     }
 
 -- the session behind it
-pub ended_asks : (s s' : Session) (k : NewKeys) (answer : Handled) (m : Machine) (n n' : PartCalls) → Installs s k answer s' → ((records : List FinishedExchange) → MoveAsks m.setting.side m.stage (after_exchanges records) n n') → MoveAsks m.setting.side m.stage (stands_of s'.finished.items s'.kex) n n'
+pub ended_asks : (s s' : Session) (k : NewKeys) (answer : Handled) (m : Machine) (n n' : PartTally) → Installs s k answer s' → ((records : List FinishedExchange) → MoveAsks m.setting.side m.stage (after_exchanges records) n n') → MoveAsks m.setting.side m.stage (stands_of s'.finished.items s'.kex) n n'
 ended_asks s s' k Delivers m n n' h f = absurd h
 ended_asks s s' k Done m n n' h f = absurd h
 ended_asks s s' k (Rekeys opening again) m n n' h f = subst (λ (x : Where). MoveAsks m.setting.side m.stage x n n') (sym (ap (λ (x : Session). stands_of s'.finished.items x.kex) h.3)) (f s'.finished.items)
@@ -318,19 +357,20 @@ moved_groups says s1 s' m i (Rekeys opening again) h =
     none_now (x ∷ records) = refl
 
 -- a message that is taken
-pub message_asks : (says : Says) (s s1 s' : Session) (m : Machine) (i : Incoming) (answer : Handled) (n n' : PartCalls) → IsOpen s → IsFor s m s1 → Moves says s1 m i answer s' → MoveAsks m.setting.side m.stage (stands_of s'.finished.items s'.kex) n n' → AsksBetween s s' n n'
-message_asks says s s1 s' m i answer n n' o f h a =
+pub message_asks : (says : Says) (s s1 s' : Session) (m : Machine) (i : Incoming) (answer : Handled) (n n' : PartTally) → config_fault s.side s.config.now ≡ None → IsOpen s → IsFor s m s1 → Moves says s1 m i answer s' → MoveAsks m.setting.side m.stage (stands_of s'.finished.items s'.kex) n n' → AsksBetween s s' n n'
+message_asks says s s1 s' m i answer n n' v o f h a =
     let g = groups_for s s1 m f in
     let p = parts_for s s1 m (begun (state_of s')) (moved_begun says s1 s' m i answer h) f in
     let b : MoveAsks s.side m.stage (stands_of s'.finished.items s'.kex) n n' = subst (λ (x : Side). MoveAsks x m.stage (stands_of s'.finished.items s'.kex) n n') (ap (λ (x : Setting). x.side) (set_for s s1 m o f) ∙ between_side s.side s.config.now _ _) a in
     record {
       later = p.agreement.later;
       within = record {
-        agreement = call_from (agreement_to_come s.side) (calls_of s.side) (state_of s) (state_of s') m.stage n.agreement n'.agreement p.agreement b.agreement;
-        hosts = call_from (hosts_to_come s.side) (calls_of s.side) (state_of s) (state_of s') m.stage n.hosts n'.hosts p.hosts b.hosts;
-        lookups = call_from (lookups_to_come s.side) (lookups_of s.side) (state_of s) (state_of s') m.stage n.lookups n'.lookups p.lookups b.lookups;
+        agreement = call_from (agreement_to_come s.side) (calls_of s.side) (state_of s) (state_of s') m.stage (n.calls).agreement (n'.calls).agreement p.agreement b.agreement;
+        hosts = call_from (hosts_to_come s.side) (calls_of s.side) (state_of s) (state_of s') m.stage (n.calls).hosts (n'.calls).hosts p.hosts b.hosts;
+        lookups = call_from (lookups_to_come s.side) (lookups_of s.side) (state_of s) (state_of s') m.stage (n.calls).lookups (n'.calls).lookups p.lookups b.lookups;
         groups = (let x = b.groups in let y = moved_groups says s1 s' m i answer h in let z = g.due in let w = g.chosen in omega (arith, x, y, z, w));
       };
+      answers = message_answers says s s1 s' m i answer n.tests n'.tests v o f h a.answers;
     }
 
 -- and one that is refused
@@ -351,13 +391,18 @@ typed_asks false side w n n' e h = cc
 
 -- ---- packets
 
-pub between_same : (s s' : Session) (n : PartCalls) → s' ≡ s → AsksBetween s s' n n
-between_same s s' n e = subst (λ (x : Session). AsksBetween s x n n) (sym e) (record { later = omega arith; within = asks_still s.side (state_of s) (state_of s) n refl refl })
+-- of parts that say nothing of themselves
+abbrev pub untested : PartCalls → PartTally
+untested calls = record { calls = calls; tests = record { agreement = λ known n. true; hosts = λ known n. true; lookups = λ known n. true } }
 
-pub between_join : (a b c : Session) (n m k : PartCalls) → b.side ≡ a.side → AsksBetween a b n m → AsksBetween b c m k → AsksBetween a c n k
+pub between_same : (s s' : Session) (n : PartTally) → s' ≡ s → AsksBetween s s' n n
+between_same s s' n e = subst (λ (x : Session). AsksBetween s x n n) (sym e) (record { later = omega arith; within = asks_still s.side (state_of s) (state_of s) n.calls refl refl; answers = answers_same s.side (state_of s) (state_of s) n.tests refl refl })
+
+pub between_join : (a b c : Session) (n m k : PartTally) → b.side ≡ a.side → AsksBetween a b n m → AsksBetween b c m k → AsksBetween a c n k
 between_join a b c n m k e p q = record {
   later = (let x = p.later in let y = q.later in omega (arith, x, y));
-  within = asks_join a.side (state_of a) (state_of b) (state_of c) n m k p.later q.later p.within (subst (λ (x : Side). AsksWithin x (state_of b) (state_of c) m k) e q.within);
+  within = asks_join a.side (state_of a) (state_of b) (state_of c) n.calls m.calls k.calls p.later q.later p.within (subst (λ (x : Side). AsksWithin x (state_of b) (state_of c) m.calls k.calls) e q.within);
+  answers = answers_join a.side (state_of a) (state_of b) (state_of c) n.tests m.tests k.tests p.answers (subst (λ (x : Side). AnswersAll x (state_of b) (state_of c) m.tests k.tests) e q.answers);
 }
 
 -- what was asked where a side stands still, and then for what is refused there
@@ -369,28 +414,43 @@ pub to_packet : (s : Session) (at : Spot) (read : ℕ) (i : Item) (payload : Lis
 to_packet s at read i payload n n' p h = to_here s at read (OfPacket i) n n' (subst (λ (x : List ℕ). AsksForType (is_kex (message_type x)) s.side (stands_of s.finished.items s.kex) n n') p h)
 
 -- for a payload that was taken
-pub to_kept : (s s' : Session) (at : Spot) (read : ℕ) (n n' : PartCalls) → s' ≡ s → AsksBetween s s' n n' → AsksTo s n n' OfMemory (state_at s at read)
+pub to_kept : (s s' : Session) (at : Spot) (read : ℕ) (n n' : PartTally) → s' ≡ s → AsksBetween s s' n n' → AsksTo s n.calls n'.calls OfMemory (state_at s at read)
 to_kept s s' at read n n' e h =
     let k : AsksBetween s s n n' = subst (λ (x : Session). AsksBetween s x n n') e h in
-    record { mid = n'; before = record { agreement = (k.within).agreement; hosts = (k.within).hosts; lookups = (k.within).lookups; groups = (k.within).groups }; last = refl }
+    record { mid = n'.calls; before = record { agreement = (k.within).agreement; hosts = (k.within).hosts; lookups = (k.within).lookups; groups = (k.within).groups }; last = refl }
+
+writes_none : (events : List Event) → OnlyWrites events → handled events ≡ []
+writes_none [] h = refl
+writes_none (ExchangeBegun cause i ∷ es) h = writes_none es h.1
+writes_none (PayloadSent i ∷ es) h = writes_none es h
+writes_none (IdHeard id ∷ es) h = absurd h
+writes_none (PayloadSubmitted p ∷ es) h = absurd h
+writes_none (AnswerSent i again ∷ es) h = absurd h
+writes_none (MessageTaken i ∷ es) h = absurd h
+writes_none (GuessDropped i ∷ es) h = absurd h
+writes_none (PayloadDelivered i ∷ es) h = absurd h
+writes_none (PacketDropped i ∷ es) h = absurd h
+writes_none (ExchangeFinished i x ∷ es) h = absurd h
 
 -- for what was written behind a packet
-pub between_written : (s s' : Session) (read : ℕ) (events : List Event) (n : PartCalls) → Steps nothing_said s.side s.config.now (id_text s.config.now.id) (state_at s nowhere read) events (state_at s' nowhere read) → AsksBetween s s' n n
-between_written s s' read events n h =
-    let k = asks_steps nothing_said s.side s.config.now (id_text s.config.now.id) events (state_at s nowhere read) (state_at s' nowhere read) n h in
+pub between_written : (s s' : Session) (read : ℕ) (events : List Event) (n : PartTally) → handled events ≡ [] → Steps nothing_said s.side s.config.now (id_text s.config.now.id) (state_at s nowhere read) events (state_at s' nowhere read) → AsksBetween s s' n n
+between_written s s' read events n u h =
+    let k = asks_steps nothing_said s.side s.config.now (id_text s.config.now.id) events (state_at s nowhere read) (state_at s' nowhere read) n.calls h in
+    let a = answers_still nothing_said s.side s.config.now (id_text s.config.now.id) events (state_at s nowhere read) (state_at s' nowhere read) n.tests u h in
     record {
       later = begun_steps nothing_said s.side s.config.now (id_text s.config.now.id) events (state_at s nowhere read) (state_at s' nowhere read) h;
       within = record { agreement = k.agreement; hosts = k.hosts; lookups = k.lookups; groups = k.groups };
+      answers = record { agreement = a.agreement; hosts = a.hosts; lookups = a.lookups };
     }
 
-pub to_written : (s s' : Session) (at : Spot) (read : ℕ) (n n' : PartCalls) → AsksBetween s s' n n' → AsksTo s n n' OfMemory (state_at s' at read)
-to_written s s' at read n n' k = record { mid = n'; before = record { agreement = (k.within).agreement; hosts = (k.within).hosts; lookups = (k.within).lookups; groups = (k.within).groups }; last = refl }
+pub to_written : (s s' : Session) (at : Spot) (read : ℕ) (n n' : PartTally) → AsksBetween s s' n n' → AsksTo s n.calls n'.calls OfMemory (state_at s' at read)
+to_written s s' at read n n' k = record { mid = n'.calls; before = record { agreement = (k.within).agreement; hosts = (k.within).hosts; lookups = (k.within).lookups; groups = (k.within).groups }; last = refl }
 
 -- behind what was asked before
-pub to_later : (s s1 : Session) (n m k : PartCalls) → s1.side ≡ s.side → AsksBetween s s1 n m → (cause : RefusalCause) (at : SideState) → begun (state_of s1) ≤ begun at → AsksTo s1 m k cause at → AsksTo s n k cause at
+pub to_later : (s s1 : Session) (n m : PartTally) (k : PartCalls) → s1.side ≡ s.side → AsksBetween s s1 n m → (cause : RefusalCause) (at : SideState) → begun (state_of s1) ≤ begun at → AsksTo s1 m.calls k cause at → AsksTo s n.calls k cause at
 to_later s s1 n m k e p cause at b h =
-    let g : AsksUntil s.side cause (state_of s1) at m k = subst (λ (x : Side). AsksUntil x cause (state_of s1) at m k) e h in
-    record { mid = g.mid; before = asks_join s.side (state_of s) (state_of s1) at n m g.mid p.later b p.within g.before; last = g.last }
+    let g : AsksUntil s.side cause (state_of s1) at m.calls k = subst (λ (x : Side). AsksUntil x cause (state_of s1) at m.calls k) e h in
+    record { mid = g.mid; before = asks_join s.side (state_of s) (state_of s1) at n.calls m.calls g.mid p.later b p.within g.before; last = g.last }
 
 -- while the line was heard
 pub to_still : (s : Session) (at : Spot) (read : ℕ) (n : PartCalls) (cause : RefusalCause) (events : List Event) (st : SideState) → Steps nothing_said s.side s.config.now (id_text s.config.now.id) (state_at s at read) events st → AsksTo s n n cause st
@@ -398,20 +458,22 @@ to_still s at read n cause events st h =
     let k = asks_steps nothing_said s.side s.config.now (id_text s.config.now.id) events (state_at s at read) st n h in
     record { mid = n; before = record { agreement = k.agreement; hosts = k.hosts; lookups = k.lookups; groups = k.groups }; last = cause_none cause s.side st.stands n }
 
-pub between_heard : (c mid : Connection) (piece : List ℕ) (n : PartCalls) → Hears c piece mid → AsksBetween c.session mid.session n n
+pub between_heard : (c mid : Connection) (piece : List ℕ) (n : PartTally) → Hears c piece mid → AsksBetween c.session mid.session n n
 between_heard c mid piece n h =
-    let k = asks_steps nothing_said c.session.side c.session.config.now (id_text c.session.config.now.id) h.events (state_at c.session (reading_spot c) c.reader.count) (state_at mid.session (reading_spot mid) mid.reader.count) n h.steps in
+    let k = asks_steps nothing_said c.session.side c.session.config.now (id_text c.session.config.now.id) h.events (state_at c.session (reading_spot c) c.reader.count) (state_at mid.session (reading_spot mid) mid.reader.count) n.calls h.steps in
+    let a = answers_still nothing_said c.session.side c.session.config.now (id_text c.session.config.now.id) h.events (state_at c.session (reading_spot c) c.reader.count) (state_at mid.session (reading_spot mid) mid.reader.count) n.tests h.unread h.steps in
     record {
       later = begun_steps nothing_said c.session.side c.session.config.now (id_text c.session.config.now.id) h.events (state_at c.session (reading_spot c) c.reader.count) (state_at mid.session (reading_spot mid) mid.reader.count) h.steps;
       within = record { agreement = k.agreement; hosts = k.hosts; lookups = k.lookups; groups = k.groups };
+      answers = record { agreement = a.agreement; hosts = a.hosts; lookups = a.lookups };
     }
 
 -- behind a packet what could be written was written, in part or all of it
-pub to_part : (c c1 c2 : Connection) (answer : Handled) (s' : Session) (read : ℕ) (n n' : PartCalls) → IsFixed c.session c1.session → AsksBetween c.session c1.session n n' → TakesUp answer c1 c2 → (g : GoesPart c2.session read s') → AsksTo c.session n n' OfMemory (state_at g.mid (reading_spot c2) c2.reader.count)
-to_part c c1 c2 answer s' read n n' fixed a u g = to_written c.session g.mid (reading_spot c2) c2.reader.count n n' (between_join c.session c1.session g.mid n n' n' fixed.0 a (subst (λ (x : Session). AsksBetween x g.mid n' n') (ap (λ (x : Connection). x.session) u.rest) (between_written c2.session g.mid read g.events n' (g.writes.steps nowhere))))
+pub to_part : (c c1 c2 : Connection) (answer : Handled) (s' : Session) (read : ℕ) (n n' : PartTally) → IsFixed c.session c1.session → AsksBetween c.session c1.session n n' → TakesUp answer c1 c2 → (g : GoesPart c2.session read s') → AsksTo c.session n.calls n'.calls OfMemory (state_at g.mid (reading_spot c2) c2.reader.count)
+to_part c c1 c2 answer s' read n n' fixed a u g = to_written c.session g.mid (reading_spot c2) c2.reader.count n n' (between_join c.session c1.session g.mid n n' n' fixed.0 a (subst (λ (x : Session). AsksBetween x g.mid n' n') (ap (λ (x : Connection). x.session) u.rest) (between_written c2.session g.mid read g.events n' (writes_none g.events g.writes.only) (g.writes.steps nowhere))))
 
-pub asks_on : (c c1 c2 : Connection) (answer : Handled) (s' : Session) (read : ℕ) (n n' : PartCalls) → IsFixed c.session c1.session → AsksBetween c.session c1.session n n' → TakesUp answer c1 c2 → GoesOn c2.session read s' → AsksBetween c.session s' n n'
-asks_on c c1 c2 answer s' read n n' fixed a u g = between_join c.session c1.session s' n n' n' fixed.0 a (subst (λ (x : Session). AsksBetween x s' n' n') (ap (λ (x : Connection). x.session) u.rest) (between_written c2.session s' read g.events n' (g.writes.steps nowhere)))
+pub asks_on : (c c1 c2 : Connection) (answer : Handled) (s' : Session) (read : ℕ) (n n' : PartTally) → IsFixed c.session c1.session → AsksBetween c.session c1.session n n' → TakesUp answer c1 c2 → GoesOn c2.session read s' → AsksBetween c.session s' n n'
+asks_on c c1 c2 answer s' read n n' fixed a u g = between_join c.session c1.session s' n n' n' fixed.0 a (subst (λ (x : Session). AsksBetween x s' n' n') (ap (λ (x : Connection). x.session) u.rest) (between_written c2.session s' read g.events n' (writes_none g.events g.writes.only) (g.writes.steps nowhere)))
 
 -- ---- as calls answer
 

@@ -16,7 +16,7 @@ use Rattle.ssh_kex.specs.declared.config.Config.{Config}
 use Rattle.ssh_kex.specs.declared.exchange.ServerHost.{ServerHost}
 use Rattle.ssh_rules.specs.Log.{sent_bytes}
 use Rattle.ssh_rules.specs.Machine.{SideState}
-use Rattle.ssh_rules.specs.Standing.{RefusalCause, Standing, is_outside}
+use Rattle.ssh_rules.specs.Standing.{RefusalCause, Standing}
 use Rattle.ssh_transport.specs.Drawing.{AtMostNext, DrawsFirst, GoesNext, OpensDrawn, kexinit_packet, packet_with, writing_at}
 use Rattle.ssh_transport.specs.Kexinits.{setting_between}
 use Rattle.ssh_transport.specs.Saying.{GoesOn, IsUnsaid}

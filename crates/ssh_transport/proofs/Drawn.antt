@@ -1,9 +1,9 @@
 -- From a transport's start on its first KEXINIT is drawn from the generator that its caller hands in.
-use Rattle.std.proofs.Common.{◌≡◌, ◌⊎◌, ℕ, List, [], ◌∷◌, ◌++◌, length, append_assoc, Bool, true, false, Result, Ok, Err, IfErr, OnErr, OnOk, IsTrue, refl, sym, ap, ◌∙◌, subst, inl, inr}
+use Rattle.std.proofs.Common.{◌≡◌, ℕ, List, [], ◌∷◌, ◌++◌, length, append_assoc, Bool, true, false, Result, Ok, Err, IfErr, OnErr, OnOk, IsTrue, refl, sym, ap, ◌∙◌, subst, inl, inr}
 use Rattle.rand_core.specs.Stream.{Stream}
 use Rattle.ssh_wire.specs.Lines.{id_line}
 use Rattle.ssh_wire.specs.declared.error.Error.{Error}
-use Rattle.ssh_wire.specs.declared.error.Error.TheVariants.{Disconnect, Inconsistent, Memory, PacketSize}
+use Rattle.ssh_wire.specs.declared.error.Error.TheVariants.{Memory}
 use Rattle.ssh_wire.specs.declared.side.Side.{Side}
 use Rattle.ssh_packet.specs.Stream.{message_type}
 use Rattle.ssh_kex.specs.Refusals.{Denies}
@@ -16,7 +16,7 @@ use Rattle.ssh_rules.specs.MessageTypes.{is_payload_type}
 use Rattle.ssh_rules.specs.Refusing.{RefusesPiece}
 use Rattle.ssh_rules.specs.Standing.{IsNew, Rekeyed, RekeyedFrom, Standing, Submitted, TakesInput, is_outside}
 use Rattle.ssh_rules.specs.Valid.{is_bad_size, is_good_payload}
-use Rattle.ssh_transport.specs.Drawing.{BeginsDrawn, DrawsFirst, GoesNext, IsDrawn, IsUndrawn, StaysDrawn, WaitsUndrawn, kexinit_packet}
+use Rattle.ssh_transport.specs.Drawing.{BeginsDrawn, DrawsFirst, IsDrawn, StaysDrawn, kexinit_packet}
 use Rattle.ssh_transport.specs.States.{is_silent}
 
 -- a new transport

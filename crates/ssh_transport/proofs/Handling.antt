@@ -241,7 +241,7 @@ finish_stage (AwaitsRequest o) payload x made host h = absurd h
 finish_stage (AwaitsValue o gex) payload x made host h = absurd h
 finish_stage (AwaitsNewkeys y m k) payload x made host h = (h.payload_is, sym (ap (λ (a : Exchange). AwaitsNewkeys a made host) h.exchange_is ∙ ap (λ (a : FinishedExchange). AwaitsNewkeys y a host) h.made_is ∙ ap (λ (a : Option ServerHost). AwaitsNewkeys y m a) h.host_is))
 
-skips_read : (s : Setting) (stage : Stage) (seqn : ℕ) (payload : List ℕ) (written : List (List ℕ)) (x : Exchange) (made : FinishedExchange) (host : Option ServerHost) → config_fault s.side s.config ≡ None → Skips s stage seqn payload written x made host → ⊥
+pub skips_read : (s : Setting) (stage : Stage) (seqn : ℕ) (payload : List ℕ) (written : List (List ℕ)) (x : Exchange) (made : FinishedExchange) (host : Option ServerHost) → config_fault s.side s.config ≡ None → Skips s stage seqn payload written x made host → ⊥
 skips_read s (Created own) seqn payload written x made host v h = never_skips s.side s.config (was_strict s.cause) payload h.names v h.reads.read h.skips
 skips_read s (AwaitsGroup o) seqn payload written x made host v h = h
 skips_read s (AwaitsReply o gex local public) seqn payload written x made host v h = h

@@ -9,6 +9,7 @@ use Rattle.ssh_negotiate.specs.Reading.{behind_cookie, kexinit_drawn}
 use Rattle.ssh_packet.specs.Sealing.{item_of, sealed_packet}
 use Rattle.ssh_packet.specs.Writing.{Writer}
 use Rattle.ssh_kex.specs.declared.config.Config.{Config}
+use Rattle.ssh_rules.specs.Answering.{PartTests}
 use Rattle.ssh_rules.specs.Machine.{Spot, first_state}
 use Rattle.ssh_rules.specs.Standing.{Standing}
 use Rattle.ssh_transport.specs.States.{is_silent, standing_of, stands_of}
@@ -98,3 +99,8 @@ pub record IsDrawn (side : Side) (config : Config) (first : Stream) (t : Standin
 abbrev pub StaysDrawn : (old new : Standing) → (stream stream' : Stream) → Type 0
 StaysDrawn old new stream stream' = (side : Side) (config : Config) (first : Stream)
     → IsDrawn side config first old stream → IsDrawn side config first new stream'
+
+-- where a side's generator stands, and what its parts say of themselves
+pub record PartsStand : Type 0 where
+  pub stream : Stream
+  pub tests : PartTests

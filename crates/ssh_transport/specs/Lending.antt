@@ -9,10 +9,12 @@ use Rattle.ssh_wire.specs.declared.error.Error.TheVariants.{Disconnect}
 use Rattle.ssh_kex.specs.Refusals.{Denies}
 use Rattle.ssh_kex.specs.Setting.{Says}
 use Rattle.ssh_kex.specs.declared.exchange.ServerHost.{ServerHost}
-use Rattle.ssh_rules.specs.Asking.{AsksFew, AsksWithin, PartCalls, RefusesAsking}
+use Rattle.ssh_rules.specs.Answering.{AnswersAll}
+use Rattle.ssh_rules.specs.Asking.{AsksFew, AsksWithin, RefusesAsking}
 use Rattle.ssh_rules.specs.Polling.{Polls, queued}
 use Rattle.ssh_rules.specs.Refusing.{RefusesPiece}
 use Rattle.ssh_rules.specs.Standing.{Standing, unfinished}
+use Rattle.ssh_transport.specs.Asking.{PartTally}
 use Rattle.ssh_transport.specs.Drawing.{DrawsFirst}
 use Rattle.ssh_transport.specs.contracts.transport.Transport.{the_row}
 
@@ -31,9 +33,9 @@ abbrev pub queued_by : Option (List ℕ) → Standing → Standing
 queued_by None t = t
 queued_by (Some payload) t = queued t payload
 
--- What a call that lends the next payload leaves, when the loan is over. The parts were asked so often before and so
--- often behind it, and its generator was at one stream and then at the other.
-pub record PollsAs (says : Says) (denies : Denies) (untrusted : ServerHost → Type 0) (calls calls' : PartCalls)
+-- What a call that lends the next payload leaves, when the loan is over. The parts had been asked and had answered so
+-- often before and so often behind it, and its generator was at one stream and then at the other.
+pub record PollsAs (says : Says) (denies : Denies) (untrusted : ServerHost → Type 0) (n n' : PartTally)
     (stream stream' : Stream) (old : Standing) (result : Result (Option (Bor (List ℕ))) (Bor Error)) (new : Standing) : Type 0 where
   pub dead : old.failed ≡ true → IsRefusedWith result Disconnect × (new ≡ old)
   pub stays : (new.side ≡ old.side) × (new.config ≡ old.config)
@@ -42,12 +44,13 @@ pub record PollsAs (says : Says) (denies : Denies) (untrusted : ServerHost → T
   pub unqueued : new.delivered ≡ old.delivered
   pub polled : IfOk result (λ lent. Polls says old (payload_in lent) new)
   pub refused : old.failed ≡ false → IfErr result (λ e. RefusesPiece says denies untrusted old [] e.now new)
-  pub asks : OnOk result (AsksWithin old.side old.state new.state calls calls')
-  pub few : IfOk result (λ lent. AsksFew says old (queued_by (payload_in lent) new) calls calls')
-  pub asks_refused : old.failed ≡ false → OnErr result (RefusesAsking says old [] new calls calls')
+  pub asks : OnOk result (AsksWithin old.side old.state new.state n.calls n'.calls)
+  pub answers : OnOk result (AnswersAll old.side old.state new.state n.tests n'.tests)
+  pub few : IfOk result (λ lent. AsksFew says old (queued_by (payload_in lent) new) n.calls n'.calls)
+  pub asks_refused : old.failed ≡ false → OnErr result (RefusesAsking says old [] new n.calls n'.calls)
   pub drawn : DrawsFirst (new.failed ≡ false) old new stream stream'
 
-abbrev pub LendsPoll : Says → Denies → (ServerHost → Type 0) → (calls calls' : PartCalls) → (stream stream' : Stream)
+abbrev pub LendsPoll : Says → Denies → (ServerHost → Type 0) → (n n' : PartTally) → (stream stream' : Stream)
     → MutBor Standing → Result (Option (Bor (List ℕ))) (Bor Error) → Fml
-LendsPoll says denies untrusted calls calls' stream stream' s result =
-    Rests (the_row (record { mir = named 1; lft = [] })) s (PollsAs says denies untrusted calls calls' stream stream' s.now result)
+LendsPoll says denies untrusted n n' stream stream' s result =
+    Rests (the_row (record { mir = named 1; lft = [] })) s (PollsAs says denies untrusted n n' stream stream' s.now result)

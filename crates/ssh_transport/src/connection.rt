@@ -98,6 +98,7 @@ impl<'c> Connection<'c> {
             (λ e. ⟦<Parts<A, H, G, R> as Served>⟧.refuses_piece self.old parts.old parts.new piece.now e self.new) }
         ensures keeps { ⟦<Parts<A, H, G, R> as Handed>⟧.keeps parts.old parts.new }
         ensures asks { OnOk result (⟦<Parts<A, H, G, R> as Served>⟧.asks_within self.old self.new parts.old parts.new) }
+        ensures answers { OnOk result (⟦<Parts<A, H, G, R> as Served>⟧.answers self.old self.new parts.old parts.new) }
         ensures asked { self.old.failed ≡ false → OnErr result (⟦<Parts<A, H, G, R> as Served>⟧.asks_refusing self.old
             parts.old parts.new piece.now self.new) }
         ensures refused_few { self.old.failed ≡ false → IfErr result
@@ -134,6 +135,7 @@ impl<'c> Connection<'c> {
         ensures unqueued { self.new.delivered.items ≡ self.old.delivered.items }
         ensures keeps { ⟦<Parts<A, H, G, R> as Handed>⟧.keeps parts.old parts.new }
         ensures asks { OnOk result (⟦<Parts<A, H, G, R> as Served>⟧.asks_within self.old self.new parts.old parts.new) }
+        ensures answers { OnOk result (⟦<Parts<A, H, G, R> as Served>⟧.answers self.old self.new parts.old parts.new) }
         ensures asked { self.old.failed ≡ false → OnErr result (⟦<Parts<A, H, G, R> as Served>⟧.asks_refusing self.old
             parts.old parts.new [] self.new) }
     {

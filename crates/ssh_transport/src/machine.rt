@@ -3,7 +3,7 @@
 ghost use Rattle.std.specs.Prelude.{◌≡◌, ◌++◌, ◌+◌, ◌≤◌, ◌<◌, ◌^◌, [], Some, IfErr, IfOk, OnErr, OnOk, length, is_some};
 ghost use Rattle.ssh_kex.specs.Refusals.{IsCreated};
 ghost use Rattle.ssh_kex.specs.Stages.{Created, is_strict, names_in_stage, has_ignored};
-ghost use Rattle.ssh_kex.specs.Stepping.{Progresses, RefusesStep, asks_agreement, asks_groups, asks_hosts, next_of};
+ghost use Rattle.ssh_kex.specs.Stepping.{Progresses, RefusesStep, next_of};
 ghost use Rattle.ssh_packet.specs.Sealing.{Item};
 ghost use Rattle.ssh_packet.specs.Writing.{SameButRoom};
 ghost use Rattle.ssh_transport.specs.Drawing.{kexinit_packet, writing_at};
@@ -12,6 +12,7 @@ ghost use Rattle.ssh_transport.specs.Usable.{IsUsable};
 ghost use Rattle.ssh_wire.specs.declared.error.Error.TheVariants.{Memory};
 ghost use Rattle.ssh_wire.specs.declared.side.Side.TheVariants.{Client as client_side, Server as server_side};
 
+use crate::served::Attended;
 use rand_core::Rng;
 use ssh_client_kex::ClientKex;
 use ssh_kex::{Agreement, Config, GroupLookup, Handed, HostKeys, KexProgress, Parts};
@@ -139,10 +140,9 @@ impl<'c> SessionKex<'c> {
     ) -> Result<KexProgress<SessionKex<'c>>, Error>
         requires { length incoming.payload.now < 2 ^ 31 }
         ensures keeps { ⟦<Parts<A, H, G, R> as Handed>⟧.keeps parts.old parts.new }
-        ensures agreement_calls { A.calls parts.new.agreement ≤ A.calls parts.old.agreement + asks_agreement
-            self.entry.setting.side self.entry.stage (next_of result) }
-        ensures hosts_calls { H.calls parts.new.hosts ≤ H.calls parts.old.hosts + asks_hosts self.entry.stage }
-        ensures groups_calls { G.calls parts.new.groups ≤ G.calls parts.old.groups + asks_groups self.entry.stage }
+        ensures asks { ⟦<Parts<A, H, G, R> as Attended>⟧.asks_step self.entry (next_of result) parts.old parts.new }
+        ensures answers { OnOk result (⟦<Parts<A, H, G, R> as Attended>⟧.answers_step self.entry (next_of result)
+            parts.old parts.new) }
         ensures goes { IfOk result (λ p. Progresses (⟦<Parts<A, H, G, R> as Handed>⟧.says self.entry.setting.config
             parts.old) self.entry (Some incoming.entry) output.old p output.new) }
         ensures causes { IfErr result (λ e. RefusesStep (⟦<Parts<A, H, G, R> as Handed>⟧.says self.entry.setting.config

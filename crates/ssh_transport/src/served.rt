@@ -1,15 +1,16 @@
 //! What calls on a connection and on a session do by what the parts of their side say, so that a clause names it once.
 
-ghost use Rattle.std.specs.Prelude.{Bool, ℕ, List};
-ghost use Rattle.ssh_kex.specs.Stages.{Machine};
+ghost use Rattle.std.specs.Prelude.{Bool, ℕ, List, Option};
+ghost use Rattle.ssh_kex.specs.Stages.{Machine, Stage};
 ghost use Rattle.ssh_packet.specs.Stream.{message_type};
 ghost use Rattle.ssh_packet.specs.declared.reader.Incoming.{Incoming};
+ghost use Rattle.ssh_rules.specs.Answering.{AnswersAll};
 ghost use Rattle.ssh_rules.specs.Asking.{AsksForMessage, AsksForType, AsksWithin, RefusesAsking};
 ghost use Rattle.ssh_rules.specs.Machine.{Inside};
 ghost use Rattle.ssh_rules.specs.Polling.{MayWant, Polls};
 ghost use Rattle.ssh_rules.specs.Refusing.{RefusesPiece, RefusesPieceAsking};
 ghost use Rattle.ssh_rules.specs.Standing.{TakesInput};
-ghost use Rattle.ssh_transport.specs.Asking.{AsksBetween, AsksTo, MoveAsks};
+ghost use Rattle.ssh_transport.specs.Asking.{AsksBetween, AsksTo, MoveAsks, StepAnswers, StepCalls, tally};
 ghost use Rattle.ssh_transport.specs.Handling.{Handles, Moves};
 ghost use Rattle.ssh_transport.specs.States.{emptied, standing_of, stands_of};
 ghost use Rattle.ssh_transport.specs.Stopping.{Fails, Refuses, RefusesMove, Stops, Wants};
@@ -39,6 +40,9 @@ pub trait Served {
     ghost asks_refusing: { Connection → Self → Self → List ℕ → Connection → Type 0 };
 
     ghost refuses_asking: { Connection → Self → Self → List ℕ → Error → Connection → Type 0 };
+
+    // Where all was taken, each of them answered all that it was asked.
+    ghost answers: { Connection → Connection → Self → Self → Type 0 };
 
     // How often they were asked between two connections.
     ghost asks: { Connection → Connection → Self → Self → Type 0 };
@@ -87,8 +91,12 @@ impl<A: Agreement, H: HostKeys, G: GroupLookup, R> Served for Parts<A, H, G, R> 
         (⟦<Parts<A, H, G, R> as Asked>⟧.distrusts p q) (standing_of c) piece e (standing_of c')
         (⟦<Parts<A, H, G, R> as Asked>⟧.calls p) (⟦<Parts<A, H, G, R> as Asked>⟧.calls q) };
 
-    ghost asks = { λ c c' p q. AsksBetween c.session c'.session (⟦<Parts<A, H, G, R> as Asked>⟧.calls p)
-        (⟦<Parts<A, H, G, R> as Asked>⟧.calls q) };
+    ghost asks = { λ c c' p q. AsksBetween c.session c'.session
+        (tally (⟦<Parts<A, H, G, R> as Asked>⟧.calls p) (⟦<Parts<A, H, G, R> as Asked>⟧.tests p))
+        (tally (⟦<Parts<A, H, G, R> as Asked>⟧.calls q) (⟦<Parts<A, H, G, R> as Asked>⟧.tests q)) };
+
+    ghost answers = { λ c c' p q. AnswersAll c.session.side (standing_of c).state (standing_of c').state
+        (⟦<Parts<A, H, G, R> as Asked>⟧.tests p) (⟦<Parts<A, H, G, R> as Asked>⟧.tests q) };
 
     ghost takes = { λ c p bytes c'. Takes (⟦<Parts<A, H, G, R> as Handed>⟧.says c.session.config.now p) (emptied c)
         bytes c' };
@@ -142,6 +150,11 @@ pub trait Attended {
     ghost asks_for_move: { Machine → Session → Self → Self → Type 0 };
 
     ghost asks_inside: { Machine → Self → Self → Type 0 };
+
+    // How often a machine's step asked them, by where it led; and what they answered, where it took the message.
+    ghost asks_step: { Machine → Option Stage → Self → Self → Type 0 };
+
+    ghost answers_step: { Machine → Option Stage → Self → Self → Type 0 };
 }
 
 impl<A: Agreement, H: HostKeys, G: GroupLookup, R> Attended for Parts<A, H, G, R> {
@@ -158,8 +171,9 @@ impl<A: Agreement, H: HostKeys, G: GroupLookup, R> Attended for Parts<A, H, G, R
     ghost refuses_move = { λ m p q i e. RefusesMove (⟦<Parts<A, H, G, R> as Handed>⟧.says m.setting.config p)
         (⟦<Parts<A, H, G, R> as Handed>⟧.denies p q) (⟦<Parts<A, H, G, R> as Asked>⟧.distrusts p q) m i e };
 
-    ghost asks = { λ s s' p q. AsksBetween s s' (⟦<Parts<A, H, G, R> as Asked>⟧.calls p)
-        (⟦<Parts<A, H, G, R> as Asked>⟧.calls q) };
+    ghost asks = { λ s s' p q. AsksBetween s s'
+        (tally (⟦<Parts<A, H, G, R> as Asked>⟧.calls p) (⟦<Parts<A, H, G, R> as Asked>⟧.tests p))
+        (tally (⟦<Parts<A, H, G, R> as Asked>⟧.calls q) (⟦<Parts<A, H, G, R> as Asked>⟧.tests q)) };
 
     ghost asks_for = { λ s i p q. AsksForType (is_kex (message_type i.payload.now)) s.side
         (stands_of s.finished.items s.kex) (⟦<Parts<A, H, G, R> as Asked>⟧.calls p)
@@ -169,7 +183,14 @@ impl<A: Agreement, H: HostKeys, G: GroupLookup, R> Attended for Parts<A, H, G, R
         (⟦<Parts<A, H, G, R> as Asked>⟧.calls p) (⟦<Parts<A, H, G, R> as Asked>⟧.calls q) };
 
     ghost asks_for_move = { λ m s p q. MoveAsks m.setting.side m.stage (stands_of s.finished.items s.kex)
-        (⟦<Parts<A, H, G, R> as Asked>⟧.calls p) (⟦<Parts<A, H, G, R> as Asked>⟧.calls q) };
+        (tally (⟦<Parts<A, H, G, R> as Asked>⟧.calls p) (⟦<Parts<A, H, G, R> as Asked>⟧.tests p))
+        (tally (⟦<Parts<A, H, G, R> as Asked>⟧.calls q) (⟦<Parts<A, H, G, R> as Asked>⟧.tests q)) };
+
+    ghost asks_step = { λ m next p q. StepCalls m.setting.side m.stage next (⟦<Parts<A, H, G, R> as Asked>⟧.calls p)
+        (⟦<Parts<A, H, G, R> as Asked>⟧.calls q) };
+
+    ghost answers_step = { λ m next p q. StepAnswers m.setting.side m.stage next
+        (⟦<Parts<A, H, G, R> as Asked>⟧.tests p) (⟦<Parts<A, H, G, R> as Asked>⟧.tests q) };
 
     ghost asks_inside = { λ m p q. AsksForMessage m.setting.side (Inside m.stage)
         (⟦<Parts<A, H, G, R> as Asked>⟧.calls p) (⟦<Parts<A, H, G, R> as Asked>⟧.calls q) };

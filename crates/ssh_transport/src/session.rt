@@ -17,6 +17,7 @@ ghost use Rattle.ssh_wire.specs.Sides.{other_side};
 ghost use Rattle.ssh_wire.specs.declared.error.Error.TheVariants.{Inconsistent, InvalidConfig, Memory, StrictKeyExchangeViolation, UnknownKey};
 ghost use Rattle.ssh_wire.specs.declared.error.ConfigFault.{ConfigFault};
 ghost use Rattle.ssh_kex.specs.Members.{HostsKept};
+ghost use Rattle.ssh_kex.specs.Parts.{Answers};
 
 use crate::config::config_fault;
 use crate::machine::SessionKex;
@@ -513,6 +514,7 @@ impl<'c> Session<'c> {
         ensures unheard { OnOk result (IsUnheard self.new) }
         ensures keeps { HostsKept H.HostKeys hosts.old hosts.new }
         ensures calls { H.calls hosts.new ≤ H.calls hosts.old + asks_trust host }
+        ensures answers { OnOk result (Answers H.answered (asks_trust host) hosts.old hosts.new) }
         ensures trusted { OnOk result (IfSome host (λ h. H.trusts hosts.old h ≡ true)) }
         ensures installs { IfOk result (λ h. Installs self.old newkeys h self.new) }
         ensures refused { IfErr result (λ e. (e ≡ Memory) ⊎ ((e ≡ UnknownKey) × IsDistrusted
@@ -600,6 +602,7 @@ fn check_host<H: HostKeys>(
 ) -> Result<(), Error>
     ensures keeps { HostsKept H.HostKeys hosts.old hosts.new }
     ensures calls { H.calls hosts.new ≤ H.calls hosts.old + asks_trust host }
+    ensures answers { OnOk result (Answers H.answered (asks_trust host) hosts.old hosts.new) }
     ensures trusted { OnOk result (IfSome host (λ h. H.trusts hosts.old h ≡ true)) }
     ensures refused { IfErr result (λ e. (e ≡ Memory) ⊎ ((e ≡ UnknownKey) × IsDistrusted
         (untrusted_of H.HostKeys hosts.old hosts.new) host)) }

@@ -3,6 +3,7 @@
 ghost use Rattle.std.specs.Borrow.{sem};
 ghost use Rattle.std.specs.Prelude.{◌≡◌, ◌⊎◌, ◌≤◌, ◌++◌, ◌-◌, true, false, [], drop, take, length, not, IfErr, IfOk, IfSome, IsTrue, OnErr, OnOk, Ok, Err, Some};
 ghost use Rattle.std.specs.List.{slice_get};
+ghost use Rattle.ssh_rules.specs.Answering.{AnswersAll};
 ghost use Rattle.ssh_rules.specs.Asking.{AsksFew, AsksWithin, RefusesAsking};
 ghost use Rattle.ssh_rules.specs.Refusing.{RefusesPiece, RefusesPieceAsking};
 ghost use Rattle.ssh_packet.specs.Stream.{message_type};
@@ -47,6 +48,7 @@ impl<'c> Model for Transport<'c> {
 impl<'c> Transport<'c> {
     ghost use Rattle.ssh_rules.specs.Polling.{MayWant};
     ghost use Rattle.ssh_rules.specs.Standing.{IsNew, Rekeyed, Submitted, TakesInput, input_room, is_outside, most_unfinished, unfinished, with_input};
+    ghost use Rattle.ssh_transport.specs.Asking.{tally};
     ghost use Rattle.ssh_transport.specs.Drawing.{AtMostNext, DrawsFirst, GoesNext, kexinit_packet, packet_with};
     ghost use Rattle.ssh_transport.specs.Lending.{IsRefusedWith, LendsPoll};
     ghost use Rattle.ssh_transport.specs.Submitting.{AnswersAlone, Breaks, DrawsAlone, HoldsAlone};
@@ -117,6 +119,8 @@ impl<'c> Transport<'c> {
         ensures keeps { ⟦<Parts<A, H, G, R> as Handed>⟧.keeps parts.old parts.new }
         ensures calls { OnOk result (AsksWithin self.old.side self.old.state self.new.state
             (⟦<Parts<A, H, G, R> as Asked>⟧.calls parts.old) (⟦<Parts<A, H, G, R> as Asked>⟧.calls parts.new)) }
+        ensures answers { OnOk result (AnswersAll self.old.side self.old.state self.new.state
+            (⟦<Parts<A, H, G, R> as Asked>⟧.tests parts.old) (⟦<Parts<A, H, G, R> as Asked>⟧.tests parts.new)) }
         ensures few { OnOk result (AsksFew (⟦<Parts<A, H, G, R> as Handed>⟧.says self.old.config parts.old)
             self.old self.new (⟦<Parts<A, H, G, R> as Asked>⟧.calls parts.old)
             (⟦<Parts<A, H, G, R> as Asked>⟧.calls parts.new)) }
@@ -162,7 +166,8 @@ impl<'c> Transport<'c> {
         ensures* after_borrow { sem 𝓛 (LendsPoll (⟦<Parts<A, H, G, R> as Handed>⟧.says self.entry.now.config parts.old)
             (⟦<Parts<A, H, G, R> as Handed>⟧.denies parts.old parts.new)
             (⟦<Parts<A, H, G, R> as Asked>⟧.distrusts parts.old parts.new)
-            (⟦<Parts<A, H, G, R> as Asked>⟧.calls parts.old) (⟦<Parts<A, H, G, R> as Asked>⟧.calls parts.new)
+            (tally (⟦<Parts<A, H, G, R> as Asked>⟧.calls parts.old) (⟦<Parts<A, H, G, R> as Asked>⟧.tests parts.old))
+            (tally (⟦<Parts<A, H, G, R> as Asked>⟧.calls parts.new) (⟦<Parts<A, H, G, R> as Asked>⟧.tests parts.new))
             (R.stream parts.old.rng) (R.stream parts.new.rng) self.entry result) }
         ensures dead { self.old.failed ≡ true → IsRefusedWith result Disconnect × (parts.new ≡ parts.old) }
         ensures memory { self.old.failed ≡ false → IsRefusedWith result Memory → MayWant

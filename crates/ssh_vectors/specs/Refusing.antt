@@ -1,5 +1,5 @@
 -- What is counted of parts, and a part that refuses one of its calls.
-use Rattle.std.specs.Prelude.{◌≡◌, ℕ, ◌+◌, ◌<◌, ◌≤◌, ◌==◌, Bool, true, false, slice_index, Option, Result, Ok, Err}
+use Rattle.std.specs.Prelude.{◌≡◌, ℕ, ◌+◌, ◌<◌, ◌≤◌, ◌==◌, ◌&&◌, ◌||◌, nat_lt, Bool, true, false, slice_index, Option, Result, Ok, Err}
 use Rattle.ssh_wire.specs.Outside.{next_count}
 use Rattle.ssh_kex.specs.Parts.{Setup}
 use Rattle.ssh_kex.specs.declared.group.DhGroup.{DhGroup}
@@ -59,3 +59,8 @@ Obliges inner v later s = inner v.inner later.inner s × (RefusesBetween v later
 -- and so an agreement in a group
 abbrev pub ObligesIn : {T : Type 0} → (T → T → Setup → Option DhGroup → Type 0) → Refusing T → Refusing T → Setup → Option DhGroup → Type 0
 ObligesIn inner v later s group = inner v.inner later.inner s group × (RefusesBetween v later → ⊥)
+
+-- Whether it may have answered so many calls, where it refuses that of the known number, or where 0 is no call's number:
+-- there were as many calls, and all came before that one.
+abbrev pub answered_before : {T : Type 0} → Refusing T → ℕ → ℕ → Bool
+answered_before v known n = known == 0 || (v.refuse_at == known && v.calls == n && nat_lt v.calls known)

@@ -31,6 +31,8 @@ impl GroupLookup for TestGroups {
 
     ghost calls = { λ v. 0 };
 
+    ghost answered = { λ v known n. true };
+
     ghost canonical = { λ v s sizes l. record { prime = prime_canonical (bits_for v.bits sizes); generator = refl } };
 
     ghost small = { λ v s l. lawful_small v.bits s.client.gex l };

@@ -2,13 +2,13 @@
 
 ghost use Rattle.std.specs.Prelude.{◌≡◌, ◌<◌, ◌≤◌, ℕ, List, true, false, Err, IfOk, OnOk};
 ghost use Rattle.std.specs.Option.{option_copied};
-ghost use Rattle.ssh_kex.specs.Parts.{Counted, HasItsGroup, IsRefused, IsSmall, IsValue, Presents, Setup};
+ghost use Rattle.ssh_kex.specs.Parts.{Answers, Counted, HasItsGroup, IsRefused, IsSmall, IsValue, Presents, Setup};
 ghost use Rattle.ssh_kex.specs.Parts.{KeepsAgreement, KeepsGroups, KeepsHosts};
 ghost use Rattle.ssh_kex.specs.Signature.{judged};
 ghost use Rattle.ssh_kex.specs.declared.exchange.ServerHost.{ServerHost};
 ghost use Rattle.ssh_kex.specs.declared.parts.Refusal.TheVariants.{Refused};
 ghost use Rattle.ssh_wire.specs.Outside.{next_count};
-ghost use Rattle.ssh_vectors.specs.Refusing.{CountsCall, Obliges, Within, is_due, raised, refuses_next};
+ghost use Rattle.ssh_vectors.specs.Refusing.{CountsCall, Obliges, Within, answered_before, is_due, raised, refuses_next};
 ghost use Rattle.ssh_vectors.specs.Refusing.{refusals_at, refusals_with};
 
 use crate::counts::one_more;
@@ -49,7 +49,7 @@ fn refuses(refuse_at: u64, calls: &mut u64, count: &mut u64) -> bool
 }
 
 impl<A: Agreement> Agreement for Refusing<A> {
-    ghost use Rattle.ssh_vectors.specs.Refusing.{ObligesIn, Within, refusals_with};
+    ghost use Rattle.ssh_vectors.specs.Refusing.{ObligesIn, Within, answered_before, refusals_with};
 
     ghost offered = { λ v. A.offered v.inner };
 
@@ -71,6 +71,8 @@ impl<A: Agreement> Agreement for Refusing<A> {
 
     ghost calls = { λ v. v.calls };
 
+    ghost answered = { answered_before };
+
     ghost one_secret = { λ v s. A.one_secret v.inner s };
 
     ghost obliging_lawful = { λ v later s group o. A.obliging_lawful v.inner later.inner s group o.0 };
@@ -91,6 +93,7 @@ impl<A: Agreement> Agreement for Refusing<A> {
             → Counted (A.refusals self.old.inner) (A.refusals self.new.inner)
             (A.calls self.old.inner) (A.calls self.new.inner) result }
         ensures own { CountsCall 0 self.old self.new }
+        ensures answers { OnOk result (Answers answered_before 1 self.old self.new) }
         ensures counts { Counted (refusals_with A.refusals self.old) (refusals_with A.refusals self.new)
             self.old.calls self.new.calls result }
         ensures keeps { KeepsAgreement (Within A.lawful) (ObligesIn A.obliging) (λ v. A.offered v.inner)
@@ -127,6 +130,7 @@ impl<A: Agreement> Agreement for Refusing<A> {
             → Counted (A.refusals self.old.inner) (A.refusals self.new.inner)
             (A.calls self.old.inner) (A.calls self.new.inner) result }
         ensures own { CountsCall 1 self.old self.new }
+        ensures answers { OnOk result (Answers answered_before 1 self.old self.new) }
         ensures counts { Counted (refusals_with A.refusals self.old) (refusals_with A.refusals self.new)
             self.old.calls self.new.calls result }
         ensures keeps { KeepsAgreement (Within A.lawful) (ObligesIn A.obliging) (λ v. A.offered v.inner)
@@ -170,6 +174,7 @@ impl<A: Agreement> Agreement for Refusing<A> {
             → Counted (A.refusals self.old.inner) (A.refusals self.new.inner)
             (A.calls self.old.inner) (A.calls self.new.inner) result }
         ensures own { CountsCall 2 self.old self.new }
+        ensures answers { OnOk result (Answers answered_before 1 self.old self.new) }
         ensures counts { Counted (refusals_with A.refusals self.old) (refusals_with A.refusals self.new)
             self.old.calls self.new.calls result }
         ensures keeps { KeepsAgreement (Within A.lawful) (ObligesIn A.obliging) (λ v. A.offered v.inner)
@@ -200,7 +205,7 @@ impl<A: Agreement> Agreement for Refusing<A> {
 }
 
 impl<H: HostKeys> HostKeys for Refusing<H> {
-    ghost use Rattle.ssh_vectors.specs.Refusing.{Obliges, Within, refusals_at};
+    ghost use Rattle.ssh_vectors.specs.Refusing.{Obliges, Within, answered_before, refusals_at};
 
     ghost accepts = { λ v. H.accepts v.inner };
 
@@ -221,6 +226,8 @@ impl<H: HostKeys> HostKeys for Refusing<H> {
     ghost refused_check = { refusals_at 2 H.refused_check };
 
     ghost calls = { λ v. v.calls };
+
+    ghost answered = { answered_before };
 
     ghost signs_lawful = { λ v later s o. H.signs_lawful v.inner later.inner s o.0 };
 
@@ -243,6 +250,7 @@ impl<H: HostKeys> HostKeys for Refusing<H> {
             → Counted (H.refused_sign self.old.inner) (H.refused_sign self.new.inner)
             (H.calls self.old.inner) (H.calls self.new.inner) result }
         ensures own { CountsCall 0 self.old self.new }
+        ensures answers { OnOk result (Answers answered_before 1 self.old self.new) }
         ensures counts { Counted (refusals_at 0 H.refused_sign self.old) (refusals_at 0 H.refused_sign self.new)
             self.old.calls self.new.calls result }
         ensures keeps { KeepsHosts (Within H.lawful) (Obliges H.signs) (Obliges H.judges) (λ v. H.accepts v.inner)
@@ -277,6 +285,7 @@ impl<H: HostKeys> HostKeys for Refusing<H> {
             → Counted (H.refused_verify self.old.inner) (H.refused_verify self.new.inner)
             (H.calls self.old.inner) (H.calls self.new.inner) result }
         ensures own { CountsCall 1 self.old self.new }
+        ensures answers { OnOk result (Answers answered_before 1 self.old self.new) }
         ensures counts { Counted (refusals_at 1 H.refused_verify self.old) (refusals_at 1 H.refused_verify self.new)
             self.old.calls self.new.calls result }
         ensures keeps { KeepsHosts (Within H.lawful) (Obliges H.signs) (Obliges H.judges) (λ v. H.accepts v.inner)
@@ -304,6 +313,7 @@ impl<H: HostKeys> HostKeys for Refusing<H> {
             → Counted (H.refused_check self.old.inner) (H.refused_check self.new.inner)
             (H.calls self.old.inner) (H.calls self.new.inner) result }
         ensures own { CountsCall 2 self.old self.new }
+        ensures answers { OnOk result (Answers answered_before 1 self.old self.new) }
         ensures counts { Counted (refusals_at 2 H.refused_check self.old) (refusals_at 2 H.refused_check self.new)
             self.old.calls self.new.calls result }
         ensures keeps { KeepsHosts (Within H.lawful) (Obliges H.signs) (Obliges H.judges) (λ v. H.accepts v.inner)
@@ -326,7 +336,7 @@ impl<H: HostKeys> HostKeys for Refusing<H> {
 }
 
 impl<G: GroupLookup> GroupLookup for Refusing<G> {
-    ghost use Rattle.ssh_vectors.specs.Refusing.{Obliges, Within, refusals_at};
+    ghost use Rattle.ssh_vectors.specs.Refusing.{Obliges, Within, answered_before, refusals_at};
 
     ghost group = { λ v. G.group v.inner };
 
@@ -337,6 +347,8 @@ impl<G: GroupLookup> GroupLookup for Refusing<G> {
     ghost refusals = { refusals_at 0 G.refusals };
 
     ghost calls = { λ v. v.calls };
+
+    ghost answered = { answered_before };
 
     ghost canonical = { λ v s. G.canonical v.inner s };
 
@@ -356,6 +368,7 @@ impl<G: GroupLookup> GroupLookup for Refusing<G> {
             → Counted (G.refusals self.old.inner) (G.refusals self.new.inner)
             (G.calls self.old.inner) (G.calls self.new.inner) result }
         ensures own { CountsCall 0 self.old self.new }
+        ensures answers { OnOk result (Answers answered_before 1 self.old self.new) }
         ensures counts { Counted (refusals_at 0 G.refusals self.old) (refusals_at 0 G.refusals self.new)
             self.old.calls self.new.calls result }
         ensures keeps { KeepsGroups (Within G.lawful) (Obliges G.obliging) (λ v. G.group v.inner)

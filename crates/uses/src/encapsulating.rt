@@ -120,6 +120,8 @@ impl Agreement for MaskedAgreement {
 
     ghost calls = { λ v. v.calls };
 
+    ghost answered = { λ v known n. true };
+
     ghost one_secret = { λ v s name group local client server x y l c r a b. a ∙ sym b };
 
     ghost obliging_lawful = { λ v later s group o. tt };

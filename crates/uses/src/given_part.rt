@@ -96,6 +96,8 @@ impl Agreement for GivenAgreement {
 
     ghost calls = { λ given. 0 };
 
+    ghost answered = { λ v known n. true };
+
     fn offers(&self, _name: kex::Name) -> bool {
         true
     }
@@ -210,6 +212,8 @@ impl HostKeys for GivenHosts {
 
     ghost calls = { λ given. 0 };
 
+    ghost answered = { λ v known n. true };
+
     fn sign(
         &mut self,
         alloc: Global,
@@ -277,7 +281,7 @@ impl GivenGroups {
 }
 
 impl GroupLookup for GivenGroups {
-    ghost use Rattle.std.specs.Prelude.{[]};
+    ghost use Rattle.std.specs.Prelude.{[], true};
 
     ghost group = { λ given sizes. record { prime = []; generator = [] } };
 
@@ -288,6 +292,8 @@ impl GroupLookup for GivenGroups {
     ghost refusals = { λ given. 0 };
 
     ghost calls = { λ given. 0 };
+
+    ghost answered = { λ v known n. true };
 
     fn lookup_dh_gex_group(
         &mut self,

@@ -37,6 +37,8 @@ impl<H: HostKeys> HostKeys for KnownHosts<H> {
 
     ghost calls = { λ v. H.calls v.inner };
 
+    ghost answered = { λ v. H.answered v.inner };
+
     ghost signs_lawful = { λ v later s signs. absurd signs };
 
     ghost judges_lawful = { λ v later s. H.judges_lawful v.inner later.inner s };

@@ -3,13 +3,14 @@
 //! Who implements `GroupLookup` owes four things.
 //!
 //! - Members: what the theorems may suppose, said of values of the own type. Which group is found, where the laws are
-//!   kept (`lawful`), where the client is served besides (`obliging`), and the two counts.
+//!   kept (`lawful`), where the client is served besides (`obliging`), and the two counts. How many calls it may have
+//!   answered (`answered`) is told by one that refuses by its count; others say yes to each number.
 //! - Laws: a lawful group begins with no zero byte and is short; an obliging one has a size that the client asked for.
 //! - Calls that meet the trait's clauses: a refusal is counted, no count falls, the group is the one of the members.
 //! - `lawful` and `obliging` that hold where they are wanted. A part for which neither ever holds meets every law, and
 //!   no theorem speaks of it then.
 
-ghost use Rattle.std.specs.Prelude.{◌≡◌, IfOk, IfErr};
+ghost use Rattle.std.specs.Prelude.{◌≡◌, IfOk, IfErr, true};
 ghost use Rattle.ssh_kex.specs.Parts.{IsValue};
 ghost use Rattle.ssh_kex.specs.declared.parts.Refusal.TheVariants.{Memory};
 ghost use Rattle.ssh_wire.specs.Outside.{next_count};
@@ -62,6 +63,8 @@ impl GroupLookup for OneGroup {
     ghost refusals = { λ v. 0 };
 
     ghost calls = { λ v. v.calls };
+
+    ghost answered = { λ v known n. true };
 
     ghost canonical = { λ v s sizes l. without_zeros };
 

@@ -1,4 +1,3 @@
-use Rattle.std.proofs.Common.{◌≡◌}
 use Rattle.ssh_program.specs.Statuses.{report_written}
 use Rattle.ssh_link.proofs.SureStatuses.{attack_sure, clear_sure, gen_sure, gen_unread, run_sure}
 use Rattle.ssh_link.proofs.WholeSources.{answer_whole}

@@ -1,4 +1,4 @@
-use Rattle.std.proofs.Common.{◌≡◌, ◌⊎◌, inl, inr, ◌∙◌, ℕ, None, sym, subst}
+use Rattle.std.proofs.Common.{◌≡◌, sym, subst}
 use Rattle.ssh_program.specs.Statuses.{report_written}
 use Rattle.ssh_link.specs.Program.{Shows}
 use Rattle.ssh_link.proofs.Commands.{shown_alike}

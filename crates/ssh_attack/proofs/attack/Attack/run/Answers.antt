@@ -1,6 +1,7 @@
 use Rattle.std.proofs.Common.{rules, ◌∙◌, arith}
-use Rattle.ssh_transport.proofs.Lemmas.{agreement_after, drawn_join, hosts_after, groups_after, taken_more}
+use Rattle.ssh_transport.proofs.Lemmas.{agreement_after, hosts_after, groups_after, taken_more}
 use Rattle.ssh_wire.specs.declared.side.Side.TheVariants.{Client, Server}
+use Rattle.ssh_attack.proofs.Leaving.{leaves_join}
 use Rattle.ssh_attack.proofs.Running.{config_kept, side_more}
 use Rattle.ssh_attack.proofs.attack.Attack.run.Goals as goal
 use Rattle.ssh_attack.proofs.attack.Attack.run.Goals.{in-Err+in-KexInit-1, in-Ok-2}
@@ -18,6 +19,6 @@ loop-step-preserved g c = record {
   server_agreement = agreement_after _ _ _ _ _ _ _ _ c.loop-step.invariant.server_agreement c.step-answer.ensures.server_keeps.agreement;
   server_hosts = hosts_after _ _ _ _ _ _ _ _ _ _ _ _ c.loop-step.invariant.server_hosts c.step-answer.ensures.server_keeps.hosts;
   server_groups = groups_after _ _ _ _ _ _ _ _ c.loop-step.invariant.server_groups c.step-answer.ensures.server_keeps.groups;
-  client_draws = drawn_join _ _ _ _ _ _ c.loop-step.invariant.client_draws (c.step-answer.ensures.client_draws (λ e. elim c.match-answer.branch [ in-Err+in-KexInit-1 w ↦ search rules | in-Ok-2 w ↦ search rules ]));
-  server_draws = drawn_join _ _ _ _ _ _ c.loop-step.invariant.server_draws (c.step-answer.ensures.server_draws (λ e. elim c.match-answer.branch [ in-Err+in-KexInit-1 w ↦ search rules | in-Ok-2 w ↦ search rules ]));
+  client_leaves = leaves_join _ _ _ _ _ _ c.loop-step.invariant.client_leaves (c.step-answer.ensures.client_leaves (λ e. elim c.match-answer.branch [ in-Err+in-KexInit-1 w ↦ search rules | in-Ok-2 w ↦ search rules ]));
+  server_leaves = leaves_join _ _ _ _ _ _ c.loop-step.invariant.server_leaves (c.step-answer.ensures.server_leaves (λ e. elim c.match-answer.branch [ in-Err+in-KexInit-1 w ↦ search rules | in-Ok-2 w ↦ search rules ]));
 }

@@ -1,11 +1,11 @@
 use Rattle.std.proofs.Common.{◌≡◌, ◌≤◌, length, take}
 use Rattle.ssh_wire.specs.declared.side.Side.TheVariants.{Client, Server}
 use Rattle.ssh_rules.specs.Attacking.{AttacksSide, tells_by}
-use Rattle.ssh_attack.specs.AttackEnds.{attacked_end}
+use Rattle.ssh_attack.specs.AttackEnds.{LeavesEnd, attacked_end}
 use Rattle.ssh_attack.proofs.attack.Attack.run.Given as goal
 use Rattle.ssh_kex.specs.Members.{AgreementKept, GroupsKept, HostsKept}
+use Rattle.ssh_rules.specs.Answering.{tests_by}
 use Rattle.ssh_rules.specs.Asking.{counted_by}
-use Rattle.ssh_transport.specs.Drawing.{StaysDrawn}
 
 abbrev pub invariant-loop-step : goal.invariant-loop-step
 invariant-loop-step g l = record {
@@ -20,6 +20,6 @@ invariant-loop-step g l = record {
   server_agreement : AgreementKept g.A.Agreement l.fn.server_parts.agreement l.server_parts.agreement;
   server_hosts : HostsKept g.H.HostKeys l.fn.server_parts.hosts l.server_parts.hosts;
   server_groups : GroupsKept g.G.GroupLookup l.fn.server_parts.groups l.server_parts.groups;
-  client_draws : StaysDrawn l.fn.self.client.transport l.self.client.transport (g.R.Rng.stream l.fn.client_parts.rng) (g.R.Rng.stream l.client_parts.rng);
-  server_draws : StaysDrawn l.fn.self.server.transport l.self.server.transport (g.R.Rng.stream l.fn.server_parts.rng) (g.R.Rng.stream l.server_parts.rng);
+  client_leaves : LeavesEnd l.fn.self.client.transport l.self.client.transport (record { stream = g.R.Rng.stream l.fn.client_parts.rng; tests = tests_by g.A.Agreement g.H.HostKeys g.G.GroupLookup l.fn.client_parts.agreement l.fn.client_parts.hosts l.fn.client_parts.groups }) (record { stream = g.R.Rng.stream l.client_parts.rng; tests = tests_by g.A.Agreement g.H.HostKeys g.G.GroupLookup l.client_parts.agreement l.client_parts.hosts l.client_parts.groups });
+  server_leaves : LeavesEnd l.fn.self.server.transport l.self.server.transport (record { stream = g.R.Rng.stream l.fn.server_parts.rng; tests = tests_by g.A.Agreement g.H.HostKeys g.G.GroupLookup l.fn.server_parts.agreement l.fn.server_parts.hosts l.fn.server_parts.groups }) (record { stream = g.R.Rng.stream l.server_parts.rng; tests = tests_by g.A.Agreement g.H.HostKeys g.G.GroupLookup l.server_parts.agreement l.server_parts.hosts l.server_parts.groups });
 }

@@ -11,7 +11,7 @@ use Rattle.ssh_client_kex.proofs.Agreed.{front_at, reply_agreed}
 use Rattle.ssh_client_kex.proofs.ClientAnswers.{group_progresses, kept_group, reply_progresses, reply_refused, still_holds}
 use Rattle.ssh_client_kex.proofs.ClientRefusals.{group_refused, kexinit_refused}
 use Rattle.ssh_client_kex.proofs.ClientSteps.{kexinit_progresses}
-use Rattle.ssh_kex.proofs.Lemmas.{last_done, last_refused_if}
+use Rattle.ssh_kex.proofs.Lemmas.{last_answers, last_done, last_refused_if}
 use Rattle.ssh_client_kex.proofs.client_kex.ClientKex.step.Goals as goal
 
 pub waits-requires : goal.waits-requires
@@ -125,3 +125,7 @@ returns-in-AwaitsReply-clause-agreed g c =
     (λ k q l v z public h cm s law. h s public law (cm s law))
     _ _ _ c.in-AwaitsReply.names c.in-AwaitsReply.algorithm _ _ c.in-Some.incoming c.take_reply.result c.self.view_is c.in-AwaitsReply.is
     ((subst (ClientHolds c.self.inside.base.config.now c.self.inside.base.exchange) c.in-AwaitsReply.is c.self.invariant).1) c.take_reply.ensures.agreed)
+
+pub returns-in-AwaitsNewkeys-clause-answers : goal.returns-in-AwaitsNewkeys-clause-answers
+returns-in-AwaitsNewkeys-clause-answers g c = last_answers g.A.Agreement g.H.HostKeys g.G.GroupLookup _ _ _ _ _ _ _ _ c.last.result
+    (ap (λ (m : Machine). m.stage) (sym c.self.view_is) ∙ ap (client_stage c.self.inside.base.exchange) c.in-AwaitsNewkeys.is)

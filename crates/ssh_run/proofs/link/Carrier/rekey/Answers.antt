@@ -1,10 +1,10 @@
 use Rattle.std.proofs.Common.{refl}
 use Rattle.ssh_run.specs.LinkEnds.{link_of}
-use Rattle.ssh_run.proofs.Drawn.{client_draws, server_draws}
+use Rattle.ssh_run.proofs.Leaving.{client_leaves, server_leaves}
 use Rattle.ssh_run.proofs.link.Carrier.rekey.Goals as goal
 
-pub returns-in-Client-clause-draws : goal.returns-in-Client-clause-draws
-returns-in-Client-clause-draws g c = client_draws c.rekey.result (link_of c.args.self.now) _ _ _ _ refl c.rekey.ensures.draws
+pub returns-in-Client-clause-leaves : goal.returns-in-Client-clause-leaves
+returns-in-Client-clause-leaves g c = client_leaves c.rekey.result (link_of c.args.self.now) _ _ _ _ refl c.rekey.ensures.leaves
 
-pub returns-in-Server-clause-draws : goal.returns-in-Server-clause-draws
-returns-in-Server-clause-draws g c = server_draws c.rekey-in-Server.result (link_of c.args.self.now) _ _ _ _ refl c.rekey-in-Server.ensures.draws
+pub returns-in-Server-clause-leaves : goal.returns-in-Server-clause-leaves
+returns-in-Server-clause-leaves g c = server_leaves c.rekey-in-Server.result (link_of c.args.self.now) _ _ _ _ refl c.rekey-in-Server.ensures.leaves

@@ -1,4 +1,4 @@
-use Rattle.ssh_run.proofs.Drawn.{both_join}
+use Rattle.ssh_run.proofs.Leaving.{both_join}
 use Rattle.std.proofs.Common.{◌+◌, drop, refl, sym, take, ◌++◌, ◌∷◌, [], ap, ◌∙◌, arith}
 use Rattle.std.proofs.lemmas.List.{length-take-le, take-append-drop}
 use Rattle.std.proofs.lemmas.Result.{err_from_is_err_and}
@@ -25,7 +25,7 @@ loop-step-preserved g c = record {
   server_agreement = agreement_after _ _ _ _ _ _ _ _ c.loop-step.invariant.server_agreement c.step.ensures.server_keeps.agreement;
   server_hosts = hosts_after _ _ _ _ _ _ _ _ _ _ _ _ c.loop-step.invariant.server_hosts c.step.ensures.server_keeps.hosts;
   server_groups = groups_after _ _ _ _ _ _ _ _ c.loop-step.invariant.server_groups c.step.ensures.server_keeps.groups;
-  draws = both_join _ _ _ _ _ _ _ _ _ c.loop-step.invariant.draws c.in_ok-step.ensures.draws;
+  leaves = both_join _ _ _ _ _ _ _ _ _ c.loop-step.invariant.leaves c.in_ok-step.ensures.leaves;
 }
 
 pub returns-in_err-step-clause-refused : goal.returns-in_err-step-clause-refused

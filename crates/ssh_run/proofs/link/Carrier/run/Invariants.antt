@@ -2,11 +2,12 @@ use Rattle.std.proofs.Common.{◌≡◌, ◌≤◌, ◌<◌, ◌^◌, length, ta
 use Rattle.ssh_rules.specs.Headline.{bound_of}
 use Rattle.ssh_run.specs.Asking.{SideAsks}
 use Rattle.ssh_run.specs.Carrying.{bound_after}
-use Rattle.ssh_run.specs.LinkEnds.{BothStayDrawn, link_of}
+use Rattle.ssh_run.specs.LinkEnds.{LeavesBoth, link_of}
 use Rattle.ssh_run.proofs.LinkSoFar.{RunsSoFar}
 use Rattle.ssh_run.proofs.link.Carrier.run.Given as goal
 use Rattle.ssh_kex.specs.Members.{AgreementKept, GroupsKept, HostsKept}
 use Rattle.ssh_kex.specs.Stepping.{says_of}
+use Rattle.ssh_rules.specs.Answering.{tests_by}
 use Rattle.ssh_rules.specs.Asking.{counted_by}
 
 abbrev pub invariant-loop-step : goal.invariant-loop-step
@@ -27,5 +28,5 @@ invariant-loop-step g l = record {
   server_agreement : AgreementKept g.A.Agreement l.fn.server_parts.agreement l.server_parts.agreement;
   server_hosts : HostsKept g.H.HostKeys l.fn.server_parts.hosts l.server_parts.hosts;
   server_groups : GroupsKept g.G.GroupLookup l.fn.server_parts.groups l.server_parts.groups;
-  draws : BothStayDrawn (link_of l.fn.self) (link_of l.self) (g.R.Rng.stream l.fn.client_parts.rng) (g.R.Rng.stream l.client_parts.rng) (g.R.Rng.stream l.fn.server_parts.rng) (g.R.Rng.stream l.server_parts.rng);
+  leaves : LeavesBoth (link_of l.fn.self) (link_of l.self) (record { stream = g.R.Rng.stream l.fn.client_parts.rng; tests = tests_by g.A.Agreement g.H.HostKeys g.G.GroupLookup l.fn.client_parts.agreement l.fn.client_parts.hosts l.fn.client_parts.groups }) (record { stream = g.R.Rng.stream l.client_parts.rng; tests = tests_by g.A.Agreement g.H.HostKeys g.G.GroupLookup l.client_parts.agreement l.client_parts.hosts l.client_parts.groups }) (record { stream = g.R.Rng.stream l.fn.server_parts.rng; tests = tests_by g.A.Agreement g.H.HostKeys g.G.GroupLookup l.fn.server_parts.agreement l.fn.server_parts.hosts l.fn.server_parts.groups }) (record { stream = g.R.Rng.stream l.server_parts.rng; tests = tests_by g.A.Agreement g.H.HostKeys g.G.GroupLookup l.server_parts.agreement l.server_parts.hosts l.server_parts.groups });
 }

@@ -1,10 +1,12 @@
-use Rattle.ssh_run.proofs.Drawn.{both_join}
-use Rattle.std.proofs.Common.{◌∙◌, arith}
+use Rattle.ssh_run.proofs.Leaving.{both_join}
+use Rattle.std.proofs.Common.{◌∙◌, arith, inr, refl, rules}
 use Rattle.std.proofs.lemmas.Result.{err_from_is_err_and}
 use Rattle.ssh_transport.proofs.Lemmas.{agreement_after, hosts_after, groups_after}
 use Rattle.ssh_run.proofs.Asking.{always_err, side_join, turns_behind, turns_end}
 use Rattle.ssh_run.proofs.LinkSoFar.{later_tells, later_weaker, settle_refused, turned_more}
+use Rattle.ssh_run.specs.LinkEnds.{link_of}
 use Rattle.ssh_run.proofs.link.Carrier.settle.Goals as goal
+use Rattle.ssh_run.proofs.link.Carrier.settle.Goals.{then-begun_too_many-2-via-then-begun_too_many-2, then-begun_too_many-2-via-else-begun_too_many-2+then-not-rests, then-begun_too_many-2-via-else-begun_too_many-2+else-not-rests+then-not-rests-2}
 
 pub loop-self-preserved : goal.loop-self-preserved
 loop-self-preserved g c = record {
@@ -19,7 +21,7 @@ loop-self-preserved g c = record {
   server_agreement = agreement_after _ _ _ _ _ _ _ _ c.loop-self.invariant.server_agreement c.turn.ensures.server_keeps.agreement;
   server_hosts = hosts_after _ _ _ _ _ _ _ _ _ _ _ _ c.loop-self.invariant.server_hosts c.turn.ensures.server_keeps.hosts;
   server_groups = groups_after _ _ _ _ _ _ _ _ c.loop-self.invariant.server_groups c.turn.ensures.server_keeps.groups;
-  draws = both_join _ _ _ _ _ _ _ _ _ c.loop-self.invariant.draws c.in_ok-turn.ensures.draws;
+  leaves = both_join _ _ _ _ _ _ _ _ _ c.loop-self.invariant.leaves c.in_ok-turn.ensures.leaves;
 }
 
 pub returns-in_err-turn-clause-refused : goal.returns-in_err-turn-clause-refused
@@ -35,3 +37,18 @@ returns-then-turns-eq0-clause-asked g c = λ lc ls. turns_end _ _ _ _ _ _ _ _ _ 
 
 pub returns-then-begun_too_many-2-clause-asked : goal.returns-then-begun_too_many-2-clause-asked
 returns-then-begun_too_many-2-clause-asked g c = λ lc ls. turns_end _ _ _ _ _ _ _ _ _ c.loop-self.invariant.turns c.loop-self.invariant.asks_client c.loop-self.invariant.asks_server
+
+pub returns-then-begun_too_many-2-clause-refused : goal.returns-then-begun_too_many-2-clause-refused
+returns-then-begun_too_many-2-clause-refused g c = λ lc ls. record {
+  times = _;
+  mid = link_of c.loop-self.self;
+  turns = c.loop-self.invariant.turns.turns;
+  refused = inr (
+    refl,
+    inr (elim c.then-begun_too_many-2.branch [
+      | then-begun_too_many-2-via-then-begun_too_many-2 w ↦ search rules
+      | then-begun_too_many-2-via-else-begun_too_many-2+then-not-rests w ↦ search rules
+      | then-begun_too_many-2-via-else-begun_too_many-2+else-not-rests+then-not-rests-2 w ↦ search rules
+    ]),
+  );
+}

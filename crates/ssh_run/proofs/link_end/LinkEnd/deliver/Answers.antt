@@ -2,6 +2,7 @@ use Rattle.std.proofs.Common.{ap}
 use Rattle.ssh_transport.proofs.Lemmas.{drawn_fed, drawn_taken}
 use Rattle.ssh_run.specs.LinkEnds.{carried_end}
 use Rattle.ssh_run.proofs.Asking.{always_err, fed_asks, kept_piece}
+use Rattle.ssh_run.proofs.Leaving.{leaves_fed}
 use Rattle.ssh_run.proofs.link_end.LinkEnd.deliver.Goals as goal
 
 pub returns-in_err-append-clause-asked : goal.returns-in_err-append-clause-asked
@@ -10,6 +11,8 @@ returns-in_err-append-clause-asked g c = λ l. always_err c.from_residual-in_err
 pub returns-clause-asks : goal.returns-clause-asks
 returns-clause-asks g c = fed_asks _ c.args.self.now.transport c.feed.new.self c.take_delivered.new.self _ _ _ c.in_ok-feed.ensures.fed c.take_delivered.ensures.left c.in_ok-feed.ensures.calls
 
-pub returns-clause-draws : goal.returns-clause-draws
-returns-clause-draws g c = drawn_taken c.args.self.now.transport c.feed.new.self c.take_delivered.new.self _ _ c.take_delivered.ensures.left (drawn_fed _ _ _ c.args.self.now.transport c.feed.new.self _ _ _ c.feed.result
-    (λ f. let d = c.feed.ensures.dead f in (d.1, ap (λ p. g.R.Rng.stream p.rng) d.2)) c.feed.ensures.stays c.feed.ensures.fed c.feed.ensures.refused c.feed.ensures.drawn)
+pub returns-clause-leaves : goal.returns-clause-leaves
+returns-clause-leaves g c = leaves_fed c.args.self.now.transport c.feed.new.self c.take_delivered.new.self _ _ _ _ c.take_delivered.ensures.left c.feed.ensures.stays.0
+    (drawn_taken c.args.self.now.transport c.feed.new.self c.take_delivered.new.self _ _ c.take_delivered.ensures.left (drawn_fed _ _ _ c.args.self.now.transport c.feed.new.self _ _ _ c.feed.result
+    (λ f. let d = c.feed.ensures.dead f in (d.1, ap (λ p. g.R.Rng.stream p.rng) d.2)) c.feed.ensures.stays c.feed.ensures.fed c.feed.ensures.refused c.feed.ensures.drawn))
+    c.in_ok-feed.ensures.answers

@@ -1,13 +1,15 @@
 use Rattle.std.proofs.Common.{ap}
-use Rattle.ssh_run.proofs.Drawn.{not_memory, on_err}
-use Rattle.ssh_transport.proofs.Lemmas.{drawn_submitted}
+use Rattle.ssh_run.proofs.Leaving.{leaves_submitted, not_memory}
+use Rattle.ssh_transport.proofs.Lemmas.{drawn_submitted, on_refusal, tests_same}
 use Rattle.ssh_run.proofs.Asking.{submitted_asks}
 use Rattle.ssh_run.proofs.link_end.LinkEnd.submit.Goals as goal
 
 pub returns-clause-side : goal.returns-clause-side
 returns-clause-side g c = submitted_asks _ c.args.self.now.transport c.args.payload.now c.submit.new.self _ c.in_ok-submit.ensures.sent
 
-pub returns-clause-draws : goal.returns-clause-draws
-returns-clause-draws g c = drawn_submitted _ c.args.self.now.transport c.submit.new.self c.args.payload.now _ _ c.submit.result (not_memory c.submit.result _ c.in_ok-submit.was)
+pub returns-clause-leaves : goal.returns-clause-leaves
+returns-clause-leaves g c = leaves_submitted _ c.args.self.now.transport c.args.payload.now c.submit.new.self _ _ _ _ (tests_same g.A.Agreement g.H.HostKeys g.G.GroupLookup _ _ _ _ _ _ c.submit.ensures.parts.0 c.submit.ensures.parts.1 c.submit.ensures.parts.2)
+    (drawn_submitted _ c.args.self.now.transport c.submit.new.self c.args.payload.now _ _ c.submit.result (not_memory c.submit.result _ c.in_ok-submit.was)
     (λ f. let d = c.submit.ensures.dead f in (d.1, ap (λ p. g.R.Rng.stream p.rng) d.2)) (λ f b. let d = c.submit.ensures.size f b in (d.1, ap (λ p. g.R.Rng.stream p.rng) d.2)) (λ f b k. let d = c.submit.ensures.inconsistent f b k in (d.1, ap (λ p. g.R.Rng.stream p.rng) d.2))
-    c.submit.ensures.sent (λ o. let h = c.submit.ensures.held o in (ap (λ p. g.R.Rng.stream p.rng) h.0, h.1.1)) (λ f k. on_err c.submit.result _ _ (λ h. h.0) (c.submit.ensures.memory f k))
+    c.submit.ensures.sent (λ o. let h = c.submit.ensures.held o in (ap (λ p. g.R.Rng.stream p.rng) h.0, h.1.1)) (λ f k. on_refusal c.submit.result _ _ (λ h. h.0) (c.submit.ensures.memory f k)))
+    c.in_ok-submit.ensures.sent

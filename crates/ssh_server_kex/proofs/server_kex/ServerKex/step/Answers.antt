@@ -4,7 +4,7 @@ use Rattle.ssh_packet.specs.declared.reader.Incoming.{Incoming}
 use Rattle.ssh_server_kex.specs.ServerViews.{ServerKeeps, server_stage}
 use Rattle.ssh_kex.specs.Stages.{Machine}
 use Rattle.ssh_kex.specs.Stepping.{says_of}
-use Rattle.ssh_kex.proofs.Lemmas.{last_refused_if}
+use Rattle.ssh_kex.proofs.Lemmas.{last_answers, last_refused_if}
 use Rattle.ssh_server_kex.proofs.ServerOpens.{ended, opening_progresses}
 use Rattle.ssh_server_kex.proofs.ServerRefusals.{opening_refused, request_refused, value_refused}
 use Rattle.ssh_server_kex.proofs.ServerSteps.{request_progresses, still_keeps, value_progresses}
@@ -74,3 +74,7 @@ returns-in-AwaitsNewkeys-clause-causes g c =
     (last_refused_if _ _ c.args.self c.in-Some.incoming c.self.inside.base.exchange None c.in-AwaitsNewkeys.made c.in-AwaitsNewkeys.cipher c.last.result
     (ap (λ (m : Machine). m.stage) (sym c.self.view_is) ∙ ap (server_stage c.self.inside.base.exchange) c.in-AwaitsNewkeys.is)
     c.last.ensures)
+
+pub returns-in-AwaitsNewkeys-clause-answers : goal.returns-in-AwaitsNewkeys-clause-answers
+returns-in-AwaitsNewkeys-clause-answers g c = last_answers g.A.Agreement g.H.HostKeys g.G.GroupLookup _ _ _ _ _ _ _ _ c.last.result
+    (ap (λ (m : Machine). m.stage) (sym c.self.view_is) ∙ ap (server_stage c.self.inside.base.exchange) c.in-AwaitsNewkeys.is)

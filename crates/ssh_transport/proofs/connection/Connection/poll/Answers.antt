@@ -1,6 +1,6 @@
 use Rattle.ssh_transport.specs.States.{emptied, standing_of}
 use Rattle.ssh_transport.proofs.Drawing.{first_answer, first_still}
-use Rattle.ssh_transport.proofs.Failing.{asked_answer, asks_answer, fails_alone, refused_answer}
+use Rattle.ssh_transport.proofs.Failing.{answers_answer, asked_answer, asks_answer, fails_alone, refused_answer}
 use Rattle.ssh_transport.proofs.Inputs.{polled_answer}
 use Rattle.ssh_transport.proofs.connection.Connection.poll.Goals as goal
 
@@ -12,6 +12,9 @@ returns-clause-refused g c = λ f. refused_answer _ _ _ _ c.args.self.now c.take
 
 pub returns-clause-asks : goal.returns-clause-asks
 returns-clause-asks g c = asks_answer _ _ c.args.self.now c.take_payload-polled.new.self c.fail_on.new.self c.take_payload-polled.result c.fail_on.result c.fail_on.ensures.result c.fail_on.ensures.same c.take_payload-polled.ensures.asks
+
+pub returns-clause-answers : goal.returns-clause-answers
+returns-clause-answers g c = answers_answer _ _ c.args.self.now c.take_payload-polled.new.self c.fail_on.new.self c.take_payload-polled.result c.fail_on.result c.fail_on.ensures.result c.fail_on.ensures.same c.take_payload-polled.ensures.asks
 
 pub returns-clause-asked : goal.returns-clause-asked
 returns-clause-asked g c = λ f. asked_answer _ _ _ _ _ c.args.self.now c.take_payload-polled.new.self c.fail_on.new.self _ c.take_payload-polled.result c.fail_on.result c.fail_on.ensures.result c.take_payload-polled.ensures.fixed.0 c.fail_on.ensures.breaks c.fail_on.ensures.rests (fails_alone _ _ _ _ (emptied c.args.self.now) c.take_payload-polled.new.self c.args.self.now.reader.waiting c.take_payload-polled.result c.take_payload-polled.ensures.fails)

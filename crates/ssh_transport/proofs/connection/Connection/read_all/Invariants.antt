@@ -1,6 +1,6 @@
 use Rattle.std.proofs.Common.{◌≡◌, ◌-◌, ◌≤◌, drop, length}
 use Rattle.ssh_rules.specs.Standing.{WaitsInPart}
-use Rattle.ssh_transport.specs.Asking.{AsksBetween}
+use Rattle.ssh_transport.specs.Asking.{AsksBetween, tally}
 use Rattle.ssh_transport.specs.Handling.{IsHeard}
 use Rattle.ssh_transport.specs.Kept.{IsLive}
 use Rattle.ssh_transport.specs.Saying.{IsFixed}
@@ -9,6 +9,7 @@ use Rattle.ssh_transport.specs.Taking.{Reads}
 use Rattle.ssh_transport.proofs.connection.Connection.read_all.Given as goal
 use Rattle.ssh_kex.specs.Members.{AgreementKept, GroupsKept, HostsKept}
 use Rattle.ssh_kex.specs.Stepping.{says_of}
+use Rattle.ssh_rules.specs.Answering.{tests_by}
 use Rattle.ssh_rules.specs.Asking.{counted_by}
 
 abbrev pub invariant-turns : goal.invariant-turns
@@ -20,7 +21,7 @@ invariant-turns g l = record {
   part : WaitsInPart (reading_spot l.self) l.self.reader.waiting;
   fixed : IsFixed l.fn.self.session l.self.session;
   unfailed : l.self.failed ≡ l.fn.self.failed;
-  asks : AsksBetween l.fn.self.session l.self.session (counted_by g.A.Agreement g.H.HostKeys g.G.GroupLookup l.fn.parts.agreement l.fn.parts.hosts l.fn.parts.groups) (counted_by g.A.Agreement g.H.HostKeys g.G.GroupLookup l.parts.agreement l.parts.hosts l.parts.groups);
+  asks : AsksBetween l.fn.self.session l.self.session (tally (counted_by g.A.Agreement g.H.HostKeys g.G.GroupLookup l.fn.parts.agreement l.fn.parts.hosts l.fn.parts.groups) (tests_by g.A.Agreement g.H.HostKeys g.G.GroupLookup l.fn.parts.agreement l.fn.parts.hosts l.fn.parts.groups)) (tally (counted_by g.A.Agreement g.H.HostKeys g.G.GroupLookup l.parts.agreement l.parts.hosts l.parts.groups) (tests_by g.A.Agreement g.H.HostKeys g.G.GroupLookup l.parts.agreement l.parts.hosts l.parts.groups));
   agreement : AgreementKept g.A.Agreement l.fn.parts.agreement l.parts.agreement;
   hosts : HostsKept g.H.HostKeys l.fn.parts.hosts l.parts.hosts;
   groups : GroupsKept g.G.GroupLookup l.fn.parts.groups l.parts.groups;

@@ -2,7 +2,7 @@ use Rattle.std.proofs.Common.{Bool, [], Ok, drop, ap, ◌∙◌}
 use Rattle.ssh_kex.specs.declared.config.Config.{Config}
 use Rattle.ssh_transport.specs.States.{emptied, reading_spot, with_more}
 use Rattle.std.proofs.lemmas.Result.{err_from_is_err_and}
-use Rattle.ssh_transport.proofs.Asking.{between_heard, between_join, to_later, to_still, where_ok}
+use Rattle.ssh_transport.proofs.Asking.{between_heard, between_join, to_later, to_still, untested, where_ok}
 use Rattle.ssh_transport.proofs.Drawing.{first_awaited, first_read, first_unheard}
 use Rattle.ssh_transport.proofs.Failing.{fails_kept, fails_read}
 use Rattle.ssh_transport.proofs.Heard.{all_kept, hears_all, hears_kept, part_nothing}
@@ -33,7 +33,7 @@ returns-in_err-is_heard-clause-fails g c =
 
 pub returns-then-is_heard-clause-fails : goal.returns-then-is_heard-clause-fails
 returns-then-is_heard-clause-fails g c = if_err c.read_all.result _ _ (λ e h. fails_read (λ (x : Config). says_of g.A.Agreement g.H.HostKeys g.G.GroupLookup x c.args.parts.now.agreement c.args.parts.now.hosts c.args.parts.now.groups) _ _ _ _
-    (emptied c.args.self.now) (with_more c.hear.new.self (drop c.keep-kept.result c.args.piece.now)) c.read_all.new.self _ e (to_later c.args.self.now.session c.hear.new.self.session _ _ _ (c.hear.ensures.fixed.0.0 ∙ ap (λ x. x.session.side) c.keep-kept.ensures.rest) (between_heard (emptied c.args.self.now) (with_more c.hear.new.self (drop c.keep-kept.result c.args.piece.now)) _ _ (hears_kept c.args.self.now c.keep-kept.new.self (with_more c.hear.new.self (drop c.keep-kept.result c.args.piece.now)) c.args.piece.now [] c.keep-kept.result _ c.keep-kept.ensures.rest c.keep-kept.ensures.taken (c.hear.ensures.more (c.in_ok-is_heard.was ∙ ap (λ (b : Bool). Ok b) c.if-is_heard.true) (drop c.keep-kept.result c.args.piece.now))))) (hears_kept c.args.self.now c.keep-kept.new.self (with_more c.hear.new.self (drop c.keep-kept.result c.args.piece.now)) c.args.piece.now [] c.keep-kept.result _ c.keep-kept.ensures.rest c.keep-kept.ensures.taken (c.hear.ensures.more (c.in_ok-is_heard.was ∙ ap (λ (b : Bool). Ok b) c.if-is_heard.true) (drop c.keep-kept.result c.args.piece.now)))
+    (emptied c.args.self.now) (with_more c.hear.new.self (drop c.keep-kept.result c.args.piece.now)) c.read_all.new.self _ e (to_later c.args.self.now.session c.hear.new.self.session (untested _) (untested _) _ (c.hear.ensures.fixed.0.0 ∙ ap (λ x. x.session.side) c.keep-kept.ensures.rest) (between_heard (emptied c.args.self.now) (with_more c.hear.new.self (drop c.keep-kept.result c.args.piece.now)) _ _ (hears_kept c.args.self.now c.keep-kept.new.self (with_more c.hear.new.self (drop c.keep-kept.result c.args.piece.now)) c.args.piece.now [] c.keep-kept.result _ c.keep-kept.ensures.rest c.keep-kept.ensures.taken (c.hear.ensures.more (c.in_ok-is_heard.was ∙ ap (λ (b : Bool). Ok b) c.if-is_heard.true) (drop c.keep-kept.result c.args.piece.now))))) (hears_kept c.args.self.now c.keep-kept.new.self (with_more c.hear.new.self (drop c.keep-kept.result c.args.piece.now)) c.args.piece.now [] c.keep-kept.result _ c.keep-kept.ensures.rest c.keep-kept.ensures.taken (c.hear.ensures.more (c.in_ok-is_heard.was ∙ ap (λ (b : Bool). Ok b) c.if-is_heard.true) (drop c.keep-kept.result c.args.piece.now)))
     (c.hear.ensures.whole (c.in_ok-is_heard.was ∙ ap (λ (b : Bool). Ok b) c.if-is_heard.true)) (stops_sliced _ _ _ _ c.hear.new.self c.read_all.new.self _ (drop c.keep-kept.result c.args.piece.now) e (slice_behind c.keep-kept.result c.args.piece.now) h)) c.read_all.ensures.stops
 
 pub returns-then-is_heard-clause-asks : goal.returns-then-is_heard-clause-asks

@@ -4,7 +4,7 @@ use Rattle.ssh_wire.specs.declared.error.Error.TheVariants.{Memory}
 use Rattle.ssh_kex.specs.declared.config.Config.{Config}
 use Rattle.ssh_transport.specs.States.{emptied}
 use Rattle.std.proofs.lemmas.Result.{err_from_is_err_and}
-use Rattle.ssh_transport.proofs.Asking.{between_heard, between_join, to_later, to_still, where_ok}
+use Rattle.ssh_transport.proofs.Asking.{between_heard, between_join, to_later, to_still, untested, where_ok}
 use Rattle.ssh_transport.proofs.Drawing.{first_awaited, first_polled, first_unheard}
 use Rattle.ssh_transport.proofs.Failing.{fails_hearing, fails_read}
 use Rattle.ssh_transport.proofs.Inputs.{takes_nothing, takes_polled}
@@ -32,7 +32,7 @@ returns-in_err-is_heard-clause-wants g c = λ e.
 
 pub returns-then-is_heard-clause-fails : goal.returns-then-is_heard-clause-fails
 returns-then-is_heard-clause-fails g c = if_err c.read_payload.result _ _ (λ e h. fails_read (λ (x : Config). says_of g.A.Agreement g.H.HostKeys g.G.GroupLookup x c.args.parts.now.agreement c.args.parts.now.hosts c.args.parts.now.groups) _ _ _ _
-    (emptied c.args.self.now) c.hear.new.self c.read_payload.new.self c.args.self.now.reader.waiting e (to_later c.args.self.now.session c.hear.new.self.session _ _ _ c.hear.ensures.fixed.0.0 (between_heard (emptied c.args.self.now) c.hear.new.self c.args.self.now.reader.waiting _ c.in_ok-is_heard.ensures.heard)) c.in_ok-is_heard.ensures.heard
+    (emptied c.args.self.now) c.hear.new.self c.read_payload.new.self c.args.self.now.reader.waiting e (to_later c.args.self.now.session c.hear.new.self.session (untested _) (untested _) _ c.hear.ensures.fixed.0.0 (between_heard (emptied c.args.self.now) c.hear.new.self c.args.self.now.reader.waiting _ c.in_ok-is_heard.ensures.heard)) c.in_ok-is_heard.ensures.heard
     (c.hear.ensures.whole (c.in_ok-is_heard.was ∙ ap (λ (b : Bool). Ok b) c.if-is_heard.true)) h) c.read_payload.ensures.stops
 
 pub returns-then-is_heard-clause-wants : goal.returns-then-is_heard-clause-wants

@@ -1,8 +1,8 @@
 use Rattle.ssh_kex.specs.declared.exchange.ServerHost.{ServerHost}
+use Rattle.ssh_rules.specs.Answering.{tests_by}
 use Rattle.ssh_rules.specs.Asking.{counted_by}
 use Rattle.ssh_transport.proofs.Appending.{appends_done, appends_still}
-use Rattle.ssh_transport.proofs.Asking.{ended_asks, ends_on, ends_refused, moves_on, refused_asks, step_ended}
-use Rattle.ssh_transport.proofs.Moving.{ok_if}
+use Rattle.ssh_transport.proofs.Asking.{answered_ended, by_answer, ended_asks, ends_on, ends_refused, moves_on, refused_asks, step_ended}
 use Rattle.ssh_transport.proofs.Saying.{on_err}
 use Rattle.std.proofs.Common.{refl}
 use Rattle.ssh_transport.proofs.Denying.{kept_untrusting}
@@ -22,30 +22,38 @@ returns-in-Done-clause-appends g c = appends_still c.args.self.now _ c.end_excha
 
 pub returns-after-reset_seqn-clause-asks : goal.returns-after-reset_seqn-clause-asks
 returns-after-reset_seqn-clause-asks g c = moves_on _ c.args.kex c.args.incoming c.args.self.now.writer c.step.new.output c.step.result c.in_ok-kex.field-0 c.in-NeedsReply.kex c.in-NeedsReply.reset_seqn _ _ c.in_ok-kex.was c.in-NeedsReply.is c.in_ok-kex.ensures.goes
-    (record { agreement_later = c.step.ensures.keeps.agreement.calls_later; hosts_later = c.step.ensures.keeps.hosts.calls_later; lookups_later = c.step.ensures.keeps.groups.calls_later; agreement = c.step.ensures.agreement_calls; hosts = c.step.ensures.hosts_calls; lookups = c.step.ensures.groups_calls })
+    c.step.ensures.asks
+    c.in_ok-kex.ensures.answers
 
 pub returns-in_err-kex-clause-asked : goal.returns-in_err-kex-clause-asked
 returns-in_err-kex-clause-asked g c = on_err _ _ (refused_asks _ _ c.step.result c.in_err-kex.field-0.0 _ _ c.in_err-kex.was
-    (record { agreement_later = c.step.ensures.keeps.agreement.calls_later; hosts_later = c.step.ensures.keeps.hosts.calls_later; lookups_later = c.step.ensures.keeps.groups.calls_later; agreement = c.step.ensures.agreement_calls; hosts = c.step.ensures.hosts_calls; lookups = c.step.ensures.groups_calls }))
+    c.step.ensures.asks)
 
 pub returns-in-Done-clause-asks : goal.returns-in-Done-clause-asks
-returns-in-Done-clause-asks g c = ok_if c.end_exchange.result _ _ (λ h i. ended_asks (record c.args.self.now { writer = c.step.new.output }) c.end_exchange.new.self c.in-Done.newkeys h c.args.kex _ _ i (λ records. ends_on c.args.kex c.args.incoming c.args.self.now.writer c.step.new.output c.in-Done.server_host c.in-Done.newkeys records _ _
+returns-in-Done-clause-asks g c = by_answer c.end_exchange.result _ _ _ (λ h i a. ended_asks (record c.args.self.now { writer = c.step.new.output }) c.end_exchange.new.self c.in-Done.newkeys h c.args.kex _ _ i (λ records. ends_on c.args.kex c.args.incoming c.args.self.now.writer c.step.new.output c.in-Done.server_host c.in-Done.newkeys records _ _
     (done_at _ c.args.kex c.args.incoming c.args.self.now.writer c.in_ok-kex.field-0 c.in-Done.server_host c.in-Done.newkeys c.step.new.output c.in-Done.is c.in_ok-kex.ensures.goes)
     (record {
       mid = counted_by g.A.Agreement g.H.HostKeys g.G.GroupLookup c.step.new.parts.agreement c.step.new.parts.hosts c.step.new.parts.groups;
-      step = step_ended _ _ c.step.result c.in_ok-kex.field-0 c.in-Done.server_host c.in-Done.newkeys _ _ c.in_ok-kex.was c.in-Done.is (record { agreement_later = c.step.ensures.keeps.agreement.calls_later; hosts_later = c.step.ensures.keeps.hosts.calls_later; lookups_later = c.step.ensures.keeps.groups.calls_later; agreement = c.step.ensures.agreement_calls; hosts = c.step.ensures.hosts_calls; lookups = c.step.ensures.groups_calls });
+      step = step_ended _ _ c.step.result c.in_ok-kex.field-0 c.in-Done.server_host c.in-Done.newkeys _ _ c.in_ok-kex.was c.in-Done.is c.step.ensures.asks;
       agreement = refl;
       hosts_later = c.end_exchange.ensures.keeps.calls_later;
       hosts = c.end_exchange.ensures.calls;
       lookups = refl;
-    }))) c.end_exchange.ensures.installs
+    })
+    (record {
+      mid = tests_by g.A.Agreement g.H.HostKeys g.G.GroupLookup c.step.new.parts.agreement c.step.new.parts.hosts c.step.new.parts.groups;
+      step = answered_ended _ _ c.in_ok-kex.field-0 c.in-Done.server_host c.in-Done.newkeys _ _ c.in-Done.is c.in_ok-kex.ensures.answers;
+      agreement = refl;
+      hosts = a;
+      lookups = refl;
+    }))) c.end_exchange.ensures.installs c.end_exchange.ensures.answers
 
 pub returns-in-Done-clause-asked : goal.returns-in-Done-clause-asked
 returns-in-Done-clause-asked g c = on_err c.end_exchange.result _ (ends_refused c.args.kex c.args.incoming c.args.self.now.writer c.step.new.output c.in-Done.server_host c.in-Done.newkeys _ _
     (done_at _ c.args.kex c.args.incoming c.args.self.now.writer c.in_ok-kex.field-0 c.in-Done.server_host c.in-Done.newkeys c.step.new.output c.in-Done.is c.in_ok-kex.ensures.goes)
     (record {
       mid = counted_by g.A.Agreement g.H.HostKeys g.G.GroupLookup c.step.new.parts.agreement c.step.new.parts.hosts c.step.new.parts.groups;
-      step = step_ended _ _ c.step.result c.in_ok-kex.field-0 c.in-Done.server_host c.in-Done.newkeys _ _ c.in_ok-kex.was c.in-Done.is (record { agreement_later = c.step.ensures.keeps.agreement.calls_later; hosts_later = c.step.ensures.keeps.hosts.calls_later; lookups_later = c.step.ensures.keeps.groups.calls_later; agreement = c.step.ensures.agreement_calls; hosts = c.step.ensures.hosts_calls; lookups = c.step.ensures.groups_calls });
+      step = step_ended _ _ c.step.result c.in_ok-kex.field-0 c.in-Done.server_host c.in-Done.newkeys _ _ c.in_ok-kex.was c.in-Done.is c.step.ensures.asks;
       agreement = refl;
       hosts_later = c.end_exchange.ensures.keeps.calls_later;
       hosts = c.end_exchange.ensures.calls;

@@ -25,7 +25,7 @@ returns-in_err-kex-clause-refuses g c =
     from_err c.from_residual.result _ c.in_err-kex.field-0.0 p.0 p.1 p.2 (refuses_none _ _ _ c.args.self.now c.args.incoming.seqn c.args.message_type c.args.incoming.payload.now c.in_err-kex.field-0.0 c.requires.opened c.requires.begun c.requires.kind c.requires.kex c.requires.passes c.in_err-kex.ensures.refused)
 
 pub returns-clause-asks : goal.returns-clause-asks
-returns-clause-asks g c = by_answer c.step.result _ _ _ (λ h m a. message_asks _ c.args.self.now c.take_kex.new.self c.step.new.self c.in_ok-kex.kex c.args.incoming h _ _ c.requires.opened c.in_ok-kex.ensures.taken m a) c.step.ensures.moves c.step.ensures.asks
+returns-clause-asks g c = by_answer c.step.result _ _ _ (λ h m a. message_asks _ c.args.self.now c.take_kex.new.self c.step.new.self c.in_ok-kex.kex c.args.incoming h _ _ c.requires.begins.valid c.requires.opened c.in_ok-kex.ensures.taken m a) c.step.ensures.moves c.step.ensures.asks
 
 pub returns-clause-asked : goal.returns-clause-asked
 returns-clause-asked g c = where_err c.step.result _ _ (λ a. message_refused_asks c.args.self.now c.take_kex.new.self c.in_ok-kex.kex _ _ c.requires.opened c.in_ok-kex.ensures.taken a) c.step.ensures.asked

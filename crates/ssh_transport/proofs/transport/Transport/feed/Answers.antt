@@ -1,4 +1,5 @@
 use Rattle.std.proofs.Common.{◌≡◌, false, IfErr, OnErr, subst}
+use Rattle.ssh_rules.specs.Answering.{AnswersAll, tests_by}
 use Rattle.ssh_rules.specs.Asking.{AsksWithin, RefusesAsking, counted_by}
 use Rattle.ssh_rules.specs.Refusing.{RefusesPiece, RefusesPieceAsking, untrusted_of}
 use Rattle.ssh_rules.specs.Standing.{Standing, TakesInput}
@@ -17,6 +18,9 @@ returns-clause-refused g c = subst (λ (t : Standing). t.failed ≡ false → If
 
 pub returns-clause-calls : goal.returns-clause-calls
 returns-clause-calls g c = on_ok c.feed.result _ _ (λ h. subst (λ (t : Standing). AsksWithin t.side t.state (standing_of c.feed.new.self).state (counted_by g.A.Agreement g.H.HostKeys g.G.GroupLookup c.args.parts.now.agreement c.args.parts.now.hosts c.args.parts.now.groups) (counted_by g.A.Agreement g.H.HostKeys g.G.GroupLookup c.feed.new.parts.agreement c.feed.new.parts.hosts c.feed.new.parts.groups)) c.self.view_is h) c.feed.ensures.asks
+
+pub returns-clause-answers : goal.returns-clause-answers
+returns-clause-answers g c = on_ok c.feed.result _ _ (λ h. subst (λ (t : Standing). AnswersAll t.side t.state (standing_of c.feed.new.self).state (tests_by g.A.Agreement g.H.HostKeys g.G.GroupLookup c.args.parts.now.agreement c.args.parts.now.hosts c.args.parts.now.groups) (tests_by g.A.Agreement g.H.HostKeys g.G.GroupLookup c.feed.new.parts.agreement c.feed.new.parts.hosts c.feed.new.parts.groups)) c.self.view_is h) c.feed.ensures.answers
 
 pub returns-clause-calls_refused : goal.returns-clause-calls_refused
 returns-clause-calls_refused g c = subst (λ (t : Standing). t.failed ≡ false → OnErr c.feed.result (RefusesAsking (says_of g.A.Agreement g.H.HostKeys g.G.GroupLookup t.config c.args.parts.now.agreement c.args.parts.now.hosts c.args.parts.now.groups) t c.args.piece.now (standing_of c.feed.new.self) (counted_by g.A.Agreement g.H.HostKeys g.G.GroupLookup c.args.parts.now.agreement c.args.parts.now.hosts c.args.parts.now.groups) (counted_by g.A.Agreement g.H.HostKeys g.G.GroupLookup c.feed.new.parts.agreement c.feed.new.parts.hosts c.feed.new.parts.groups))) c.self.view_is c.feed.ensures.asked
