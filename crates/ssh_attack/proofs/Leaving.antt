@@ -13,25 +13,23 @@ use Rattle.ssh_kex.specs.declared.exchange.FinishedExchange.{FinishedExchange}
 use Rattle.ssh_rules.specs.Answering.{AnswersAll, HasAnswered, PartTests}
 use Rattle.ssh_rules.specs.Attacking.{AttackedEnd, AttacksSide, FeedsBy, OwnStep, RekeysBy, SubmitsBy, Tells}
 use Rattle.ssh_rules.specs.MessageTypes.{is_payload_type}
-use Rattle.ssh_rules.specs.Standing.{IsNew, Rekeyed, RekeyedFrom, Standing, Submitted, is_outside, unfinished}
+use Rattle.ssh_rules.specs.Standing.{IsNew, Rekeyed, RekeyedFrom, Standing, Submitted, TakesInput, is_outside, unfinished}
 use Rattle.ssh_rules.specs.Valid.{is_bad_size, is_good_payload}
 use Rattle.ssh_rules.specs.declared.link.AttackStep.{AttackStep}
 use Rattle.ssh_rules.specs.declared.link.AttackStep.TheVariants.{Feed, Rekey, Submit}
-use Rattle.ssh_rules.proofs.Lemmas.{answers_join, answers_same}
 use Rattle.ssh_transport.specs.Drawing.{PartsStand, StaysDrawn}
-use Rattle.ssh_transport.proofs.Lemmas.{answered_new, answers_rekeyed, answers_submitted, drawn_join, rekeyed_side}
+use Rattle.ssh_transport.proofs.Lemmas.{answered_new, comes_fed, comes_join, comes_rekeyed, comes_same, comes_still, comes_submitted, drawn_join}
 use Rattle.ssh_attack.specs.AttackEnds.{AllTaken, LeavesEnd}
 
 -- ---- a call
 
-pub leaves_same : (old new : Standing) (p q : PartsStand) → new ≡ old → q ≡ p → LeavesEnd old new p q
-leaves_same old new p q e f = subst (λ (t : Standing). LeavesEnd old t p q) (sym e) (subst (λ (x : PartsStand). LeavesEnd old old p x) (sym f) (record { drawn = λ side config first d. d; side = refl; answers = λ l. (l, answers_same old.side old.state old.state p.tests refl refl) }))
+pub leaves_still : (t : Standing) (p : PartsStand) → LeavesEnd t t p p
+leaves_still t p = record { drawn = λ side config first d. d; came = λ l. (l, comes_still t p.tests) }
 
 pub leaves_join : (a b c : Standing) (p q r : PartsStand) → LeavesEnd a b p q → LeavesEnd b c q r → LeavesEnd a c p r
 leaves_join a b c p q r h k = record {
   drawn = drawn_join a b c p.stream q.stream r.stream h.drawn k.drawn;
-  side = k.side ∙ h.side;
-  answers = λ l. (let n = k.answers l in let m = h.answers n.0 in (m.0, answers_join a.side a.state b.state c.state p.tests q.tests r.tests m.1 (subst (λ (s : Side). AnswersAll s b.state c.state q.tests r.tests) h.side n.1)));
+  came = λ l. (let n = k.came l in let m = h.came n.0 in (m.0, comes_join a b c p.tests q.tests r.tests m.1 n.1));
 }
 
 -- whether it had failed before
@@ -40,26 +38,14 @@ before true P f g = f refl
 before false P f g = g refl
 
 -- bytes that it was fed, whose payloads were taken over
-pub leaves_fed : (old fed new : Standing) (s s' : Stream) (t t' : PartTests) (answer : Result (Unit {0}) Error) → new ≡ record fed { delivered = [] } → fed.side ≡ old.side → StaysDrawn old new s s' → old.failed ≡ false → (old.failed ≡ false → OnErr answer ((fed.failed ≡ true) × (unfinished fed ≡ []))) → OnOk answer (AnswersAll old.side old.state fed.state t t')
+pub leaves_fed : (says : Says) (old fed new : Standing) (piece : List ℕ) (s s' : Stream) (t t' : PartTests) (answer : Result (Unit {0}) Error) → new ≡ record fed { delivered = [] } → StaysDrawn old new s s' → old.failed ≡ false → (old.failed ≡ false → OnErr answer ((fed.failed ≡ true) × (unfinished fed ≡ []))) → OnOk answer (TakesInput says old piece fed) → OnOk answer (AnswersAll old.side old.state fed.state t t')
     → LeavesEnd old new (record { stream = s; tests = t }) (record { stream = s'; tests = t' })
-leaves_fed old fed new s s' t t' (Ok u) e i d l n a = record {
-  drawn = d;
-  side = ap (λ (x : Standing). x.side) e ∙ i;
-  answers = λ k. (l, subst (λ q. AnswersAll old.side old.state q t t') (sym (ap (λ (x : Standing). x.state) e)) a);
-}
-leaves_fed old fed new s s' t t' (Err x) e i d l n a = record {
-  drawn = d;
-  side = ap (λ (y : Standing). y.side) e ∙ i;
-  answers = λ k. absurd (let f = (n l).0 in let g = ap (λ (y : Standing). y.failed) e in cc);
-}
+leaves_fed says old fed new piece s s' t t' (Ok u) e d l n h a = record { drawn = d; came = λ k. (l, comes_fed says old fed new piece t t' e h a) }
+leaves_fed says old fed new piece s s' t t' (Err x) e d l n h a = record { drawn = d; came = λ k. absurd (let f = (n l).0 in let g = ap (λ (y : Standing). y.failed) e in cc) }
 
 -- nothing changed
 unchanged : (old new : Standing) (s s' : Stream) (t t' : PartTests) → StaysDrawn old new s s' → t' ≡ t → new ≡ old → LeavesEnd old new (record { stream = s; tests = t }) (record { stream = s'; tests = t' })
-unchanged old new s s' t t' d e h = record {
-  drawn = d;
-  side = ap (λ (x : Standing). x.side) h;
-  answers = λ l. (sym (ap (λ (x : Standing). x.failed) h) ∙ l, subst (λ q. AnswersAll old.side old.state new.state t q) (sym e) (answers_same old.side old.state new.state t (ap (λ (x : Standing). x.state.records) h) (ap (λ (x : Standing). x.state.stands) h)));
-}
+unchanged old new s s' t t' d e h = record { drawn = d; came = λ l. (sym (ap (λ (x : Standing). x.failed) h) ∙ l, comes_same old new t t' h e) }
 
 -- a payload that was submitted, or refused for what it is
 pub leaves_submitted : (says : Says) (old new : Standing) (payload : List ℕ) (s s' : Stream) (t t' : PartTests) (answer : Result (Unit {0}) Error) → (answer ≡ Err errors.Memory → ⊥) → StaysDrawn old new s s' → t' ≡ t → (old.failed ≡ true → new ≡ old)
@@ -68,8 +54,7 @@ pub leaves_submitted : (says : Says) (old new : Standing) (payload : List ℕ) (
     → LeavesEnd old new (record { stream = s; tests = t }) (record { stream = s'; tests = t' })
 leaves_submitted says old new payload s s' t t' (Ok u) ample d e dead size type sent memory = before old.failed _ (λ f. unchanged old new s s' t t' d e (dead f)) (λ f. record {
   drawn = d;
-  side = (sent.acts).side;
-  answers = λ l. (f, subst (λ q. AnswersAll old.side old.state new.state t q) (sym e) (answers_submitted says old payload new t sent));
+  came = λ l. (f, comes_submitted says old payload new t t' e sent);
 })
 leaves_submitted says old new payload s s' t t' (Err x) ample d e dead size type sent memory = by old.failed (is_bad_size (length payload)) (is_payload_type (message_type payload)) refl refl refl where
   by : (f b k : Bool) → old.failed ≡ f → is_bad_size (length payload) ≡ b → is_payload_type (message_type payload) ≡ k → LeavesEnd old new (record { stream = s; tests = t }) (record { stream = s'; tests = t' })
@@ -83,12 +68,15 @@ pub leaves_rekeyed : (says : Says) (old new : Standing) (s s' : Stream) (t t' : 
     → LeavesEnd old new (record { stream = s; tests = t }) (record { stream = s'; tests = t' })
 leaves_rekeyed says old new s s' t t' (Ok u) ample d e dead begun memory = before old.failed _ (λ f. unchanged old new s s' t t' d e (dead f)) (λ f. record {
   drawn = d;
-  side = rekeyed_side says old new begun;
-  answers = λ l. (f, subst (λ q. AnswersAll old.side old.state new.state t q) (sym e) (answers_rekeyed says old new t begun));
+  came = λ l. (f, comes_rekeyed says old new t t' e begun);
 })
 leaves_rekeyed says old new s s' t t' (Err x) ample d e dead begun memory = before old.failed _ (λ f. unchanged old new s s' t t' d e (dead f)) (λ f. absurd (ample (memory f)))
 
 -- ---- a whole run
+
+-- before the first step
+pub none_attacked : (t : Tells) (side : Side) (answers : List (Result (Unit {0}) Error)) (end : AttackedEnd) → answers ≡ [] → AttacksSide t side [] answers end end
+none_attacked t side answers end e = subst (λ (a : List (Result (Unit {0}) Error)). AttacksSide t side [] a end end) (sym e) refl
 
 own_live : (b : Bool) (own : Type 0) (old new : AttackedEnd) → OwnStep b own (new ≡ old) → (b ≡ true → own → new.transport.failed ≡ false) → old.transport.failed ≡ false → new.transport.failed ≡ false
 own_live true own old new h f l = f refl h
@@ -122,7 +110,7 @@ all_live t side (Feed s bytes ∷ steps) (Ok tt ∷ answers) old new h k l = all
 all_live t side (Feed s bytes ∷ steps) (Err x ∷ answers) old new h k l = all_live t side steps answers h.0 new h.2 k.1 (own_live (same_side s side) _ old h.0 h.1 (λ e q. absurd (let f : true ≡ false = sym e ∙ k.0 in cc)) l)
 
 -- the report of one
-pub side_answered : (t : Tells) (side : Side) (config : Config) (steps : List AttackStep) (answers reported : List (Result (Unit {0}) Error)) (old new : AttackedEnd) (p p' : PartsStand) (exchanges : List FinishedExchange) → IsNew side config old.transport → AttacksSide t side steps answers old new → LeavesEnd old.transport new.transport p p' → reported ≡ answers → exchanges ≡ new.transport.state.records → AllTaken side steps reported → HasAnswered side exchanges p.tests p'.tests
-side_answered t side config steps answers reported old new p p' exchanges n h d a r k =
+pub side_answered : (t : Tells) (side : Side) (config : Config) (steps : List AttackStep) (answers reported : List (Result (Unit {0}) Error)) (old new : AttackedEnd) (p p' : PartsStand) (wire : List ℕ) (exchanges : List FinishedExchange) → IsNew side config old.transport → AttacksSide t side steps answers old new → LeavesEnd old.transport new.transport p p' → reported ≡ answers → wire ≡ new.transport.output → exchanges ≡ new.transport.state.records → AllTaken side steps reported → HasAnswered side config wire exchanges p.tests p'.tests
+side_answered t side config steps answers reported old new p p' wire exchanges n h d a w r k =
     let live = all_live t side steps answers old new h (subst (AllTaken side steps) a k) (ap (λ (x : Standing). x.failed) n) in
-    answered_new side config old.transport old.transport new.transport exchanges p.tests p'.tests n refl (d.answers live).1 r
+    answered_new side config old.transport old.transport new.transport wire exchanges p.tests p'.tests n refl (d.came live).1 w r

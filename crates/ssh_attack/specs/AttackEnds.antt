@@ -5,13 +5,14 @@ use Rattle.ssh_wire.specs.declared.error.Error.{Error}
 use Rattle.ssh_wire.specs.declared.side.Side.{Side}
 use Rattle.ssh_wire.specs.declared.side.Side.TheVariants.{Client, Server}
 use Rattle.ssh_kex.specs.declared.config.Config.{Config}
-use Rattle.ssh_rules.specs.Answering.{AnswersAll, HasAnswered, PartTests}
+use Rattle.ssh_rules.specs.Answering.{HasAnswered, PartTests}
 use Rattle.ssh_rules.specs.Asking.{PartCalls}
 use Rattle.ssh_rules.specs.Attacking.{AttackedEnd}
 use Rattle.ssh_rules.specs.Standing.{IsNew, Standing}
 use Rattle.ssh_rules.specs.declared.link.AttackReport.{AttackReport}
 use Rattle.ssh_rules.specs.declared.link.AttackStep.{AttackStep}
 use Rattle.ssh_rules.specs.declared.link.AttackStep.TheVariants.{Feed, Rekey, Submit}
+use Rattle.ssh_transport.specs.Coming.{ComesAnswered}
 use Rattle.ssh_transport.specs.Drawing.{PartsStand, StaysDrawn}
 use Rattle.ssh_attack.specs.declared.attack_end.AttackEnd.{AttackEnd}
 
@@ -30,12 +31,10 @@ pub record IsFirstEnd (side : Side) (config : Config) (end : AttackEnd) : Type 0
   pub delivered : end.delivered.items ≡ []
 
 -- A call leaves a side such that its first KEXINIT is drawn from the generator that was handed in at the start, if it was
--- so before. And where the side isn't refused, each part answered all that it was asked.
+-- so before. And where the side isn't refused, each part answered all that it was asked on the way.
 pub record LeavesEnd (old new : Standing) (parts parts' : PartsStand) : Type 0 where
   pub drawn : StaysDrawn old new parts.stream parts'.stream
-  pub side : new.side ≡ old.side
-  pub answers : new.failed ≡ false → (old.failed ≡ false)
-      × AnswersAll old.side old.state new.state parts.tests parts'.tests
+  pub came : new.failed ≡ false → (old.failed ≡ false) × ComesAnswered old new parts.tests parts'.tests
 
 -- all bytes that a side was fed were taken
 abbrev pub AllTaken : Side → List AttackStep → List (Result (Unit {0}) Error) → Type 0
@@ -47,7 +46,9 @@ AllTaken side (Submit s payload ∷ steps) (answer ∷ answers) = AllTaken side 
 AllTaken side (Rekey s ∷ steps) (answer ∷ answers) = AllTaken side steps answers
 
 -- of a side that took all that it was fed, the parts answered all that they were asked
-pub record EndsAnswered (steps : List AttackStep) (client client' server server' : PartTests) (report : AttackReport)
-    : Type 0 where
-  pub of_client : AllTaken Client steps report.answers → HasAnswered Client report.client.exchanges client client'
-  pub of_server : AllTaken Server steps report.answers → HasAnswered Server report.server.exchanges server server'
+pub record EndsAnswered (client server : Config) (steps : List AttackStep)
+    (of_client of_client' of_server of_server' : PartTests) (report : AttackReport) : Type 0 where
+  pub by_client : AllTaken Client steps report.answers
+      → HasAnswered Client client report.client.wire report.client.exchanges of_client of_client'
+  pub by_server : AllTaken Server steps report.answers
+      → HasAnswered Server server report.server.wire report.server.exchanges of_server of_server'

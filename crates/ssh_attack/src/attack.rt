@@ -54,7 +54,7 @@ pub fn run_attacked<A: Agreement, H: HostKeys, G: GroupLookup, R: Rng>(
     ensures server_keeps { ⟦<Parts<A, H, G, R> as Handed>⟧.keeps server_parts.old server_parts.new }
     ensures drawn { IfOk result (λ r. AreDrawn client.now server.now (R.stream client_parts.old.rng)
         (R.stream server_parts.old.rng) r.client.wire r.server.wire) }
-    ensures answered { IfOk result (EndsAnswered steps.now (⟦<Parts<A, H, G, R> as Asked>⟧.tests client_parts.old)
+    ensures answered { IfOk result (EndsAnswered client.now server.now steps.now (⟦<Parts<A, H, G, R> as Asked>⟧.tests client_parts.old)
         (⟦<Parts<A, H, G, R> as Asked>⟧.tests client_parts.new) (⟦<Parts<A, H, G, R> as Asked>⟧.tests server_parts.old)
         (⟦<Parts<A, H, G, R> as Asked>⟧.tests server_parts.new)) }
 {
@@ -100,7 +100,6 @@ impl<'c> Attack<'c> {
     }
 
     /// Carries out all steps, and keeps what each was answered. Memory.
-    #[tactic(auto, using(crate::proofs::Leaving::leaves_same))]
     fn run<A: Agreement, H: HostKeys, G: GroupLookup, R: Rng>(
         &mut self,
         alloc: Global,
@@ -136,7 +135,6 @@ impl<'c> Attack<'c> {
     }
 
     /// Carries out one step.
-    #[tactic(auto, using(crate::proofs::Leaving::leaves_same))]
     fn step<A: Agreement, H: HostKeys, G: GroupLookup, R: Rng>(
         &mut self,
         client_parts: &mut Parts<A, H, G, R>,

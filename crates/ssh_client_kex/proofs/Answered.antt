@@ -1,5 +1,5 @@
 -- How often a client's step asks its agreement, where it takes the message.
-use Rattle.std.proofs.Common.{◌≡◌, ℕ, ◌+◌, Bool, true, false, sym, ap, ◌∙◌, subst, arith, Option, Some, Result, Ok, Err, IfOk, OnOk}
+use Rattle.std.proofs.Common.{◌≡◌, ℕ, Bool, true, ap, ◌∙◌, subst, arith, Result, Ok, Err, IfOk, OnOk}
 use Rattle.ssh_packet.specs.Writing.{Writer}
 use Rattle.ssh_negotiate.specs.declared.kex.KexCause.{KexCause}
 use Rattle.ssh_negotiate.specs.declared.negotiation.Names.{Names}

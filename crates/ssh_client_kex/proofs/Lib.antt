@@ -1,3 +1,4 @@
+mod Drawn
 mod Answered
 mod Faults
 mod Grouped

@@ -1,6 +1,6 @@
 //! A client's side of an exchange, step by step.
 
-ghost use Rattle.std.specs.Prelude.{◌≡◌, ◌+◌, ◌≤◌, ◌^◌, ◌<◌, [], true, false, length, is_some, Option, None, Some, Err, IfOk, IfErr, OnOk, OnErr, IfSome};
+ghost use Rattle.std.specs.Prelude.{◌≡◌, ◌+◌, ◌≤◌, ◌^◌, ◌<◌, [], ◌∷◌, true, false, length, is_some, Option, None, Some, Err, IfOk, IfErr, OnOk, OnErr, IfSome};
 ghost use Rattle.ssh_negotiate.specs.Laws.{AreShort};
 ghost use Rattle.ssh_negotiate.specs.Reading.{behind_cookie, cookie_from, kexinit_drawn};
 ghost use Rattle.ssh_packet.specs.Sealing.{IsAdmissible, IsPadded, item_of, stream_after};
@@ -17,7 +17,7 @@ ghost use Rattle.ssh_client_kex.specs.ClientRows.{AnswersGroup, AnswersKexinit, 
 ghost use Rattle.ssh_client_kex.specs.ClientViews.{client_behind_guess, client_machine, client_drops_guess, ClientHolds, HasNoValues};
 ghost use Rattle.ssh_client_kex.specs.declared.client_kex.ClientState.TheVariants.{AwaitsGroup as awaits_group};
 ghost use Rattle.ssh_kex.specs.declared.progress.KexProgress.TheVariants.{NeedsReply};
-ghost use Rattle.ssh_kex.specs.Drawing.{DrawnByClient, StartsFrom, ValueDrawn};
+ghost use Rattle.ssh_kex.specs.Drawing.{DrawnByClient, SendsAll, StartsFrom, StepDraws, ValueDrawn};
 ghost use Rattle.ssh_kex.specs.Messages.{is_gex, request_message};
 ghost use Rattle.ssh_kex.specs.Parts.{Answers, HasItsGroup, IsSmall, Setup};
 ghost use Rattle.ssh_kex.specs.Fields.{IsInside, IsOutside};
@@ -138,7 +138,8 @@ impl<'c> ClientKex<'c> {
         ensures goes { IfOk result (λ p. Progresses (⟦<Parts<A, H, G, R> as Handed>⟧.says self.entry.setting.config
             parts.old)
             self.entry input.entry output.old p output.new) }
-        ensures drawn { DrawnByClient A.client_draws (R.stream parts.old.rng) self.entry.stage (next_of result) }
+        ensures drawn { OnOk result (StepDraws (DrawnByClient A.client_draws (R.stream parts.old.rng) self.entry.stage
+            (next_of result)) output.old output.new (R.stream parts.new.rng)) }
         ensures causes { IfErr result (λ e. RefusesStep (⟦<Parts<A, H, G, R> as Handed>⟧.says self.entry.setting.config
             parts.old)
             (⟦<Parts<A, H, G, R> as Handed>⟧.denies parts.old parts.new) self.entry input.entry e) }
@@ -321,8 +322,8 @@ fn send_value<A: Agreement, R: Rng>(
         × ((s : Setup) → A.obliging agreement.old agreement.new s algorithm.old.group
         → HasItsGroup algorithm.old.name algorithm.old.group → A.offered agreement.old algorithm.old.name ≡ true
         → ⊥))) }
-    ensures drawn { OnOk result (ValueDrawn (A.client_draws algorithm.old.name algorithm.old.group) (R.stream rng.old)
-        algorithm.new.local client_ephemeral.new) }
+    ensures drawn { OnOk result (StepDraws (ValueDrawn (A.client_draws algorithm.old.name algorithm.old.group)
+        (R.stream rng.old) algorithm.new.local client_ephemeral.new) output.old output.new (R.stream rng.new)) }
     ensures unchanged { OnErr result (SameButRoom output.old output.new) }
     ensures late { IfErr result (λ e. is_early false e ≡ false) }
 {
@@ -356,6 +357,8 @@ fn ask_group<'c, R: Rng>(
     ensures ok { IfOk result (λ p. (p ≡ NeedsReply (client_machine base.entry.config.now base.entry.cause
         base.entry.exchange
         (awaits_group names)) false) × Puts output.old (request_message base.entry.config.now.gex) output.new) }
+    ensures drawn { OnOk result (SendsAll output.old (request_message base.entry.config.now.gex ∷ []) (R.stream rng.old)
+        output.new (R.stream rng.new)) }
     ensures err { IfErr result (λ e. e ≡ Memory) }
     ensures unchanged { OnErr result (SameButRoom output.old output.new) }
 {
@@ -394,7 +397,8 @@ fn open_with_value<'c, A: Agreement, R: Rng>(
         → IsSmall v) (Rose (A.refusals agreement.old) (A.refusals agreement.new)
         × ((s : Setup) → A.obliging agreement.old agreement.new s None → HasItsGroup names.kex None
         → A.offered agreement.old names.kex ≡ true → ⊥))) }
-    ensures drawn { IfSome (next_of result) (StartsFrom A.client_draws (R.stream rng.old)) }
+    ensures drawn { OnOk result (StepDraws (StartsFrom A.client_draws (R.stream rng.old) (next_of result)) output.old
+        output.new (R.stream rng.new)) }
     ensures unchanged { OnErr result (SameButRoom output.old output.new) }
     ensures late { asks_nobody false result ≡ false }
 {
@@ -443,7 +447,8 @@ fn take_kexinit<'c, A: Agreement, R: Rng>(
         → IsSmall v) (λ n. Rose (A.refusals agreement.old) (A.refusals agreement.new)
         × ((s : Setup) → A.obliging agreement.old agreement.new s None → HasItsGroup n None
         → A.offered agreement.old n ≡ true → ⊥)) base.entry.config.now base.entry.cause incoming.entry) }
-    ensures drawn { IfSome (next_of result) (StartsFrom A.client_draws (R.stream rng.old)) }
+    ensures drawn { OnOk result (StepDraws (StartsFrom A.client_draws (R.stream rng.old) (next_of result)) output.old
+        output.new (R.stream rng.new)) }
     ensures unchanged { OnErr result (SameButRoom output.old output.new) }
     ensures unasked { asks_nobody false result ≡ true → agreement.new ≡ agreement.old }
 {
@@ -506,7 +511,8 @@ fn answer_group<'c, A: Agreement, R: Rng>(
         → IsSmall v) (Rose (A.refusals agreement.old) (A.refusals agreement.new)
         × ((s : Setup) → A.obliging agreement.old agreement.new s (Some group)
         → HasItsGroup names.kex (Some group) → A.offered agreement.old names.kex ≡ true → ⊥))) }
-    ensures drawn { IfSome (next_of result) (StartsFrom A.client_draws (R.stream rng.old)) }
+    ensures drawn { OnOk result (StepDraws (StartsFrom A.client_draws (R.stream rng.old) (next_of result)) output.old
+        output.new (R.stream rng.new)) }
     ensures unchanged { OnErr result (SameButRoom output.old output.new) }
     ensures late { asks_nobody false result ≡ false }
 {
@@ -560,7 +566,8 @@ fn take_group<'c, A: Agreement, R: Rng>(
         → IsSmall v) (λ g. Rose (A.refusals agreement.old) (A.refusals agreement.new)
         × ((s : Setup) → A.obliging agreement.old agreement.new s (Some g) → HasItsGroup names.kex (Some g)
         → A.offered agreement.old names.kex ≡ true → ⊥)) base.entry.config.now payload.now) }
-    ensures drawn { IfSome (next_of result) (StartsFrom A.client_draws (R.stream rng.old)) }
+    ensures drawn { OnOk result (StepDraws (StartsFrom A.client_draws (R.stream rng.old) (next_of result)) output.old
+        output.new (R.stream rng.new)) }
     ensures unchanged { OnErr result (SameButRoom output.old output.new) }
     ensures unasked { asks_nobody false result ≡ true → agreement.new ≡ agreement.old }
 {

@@ -1,6 +1,6 @@
 //! The server's reply, which a client agrees on, verifies and answers with NEWKEYS.
 
-ghost use Rattle.std.specs.Prelude.{◌≡◌, ◌⊎◌, ◌+◌, ◌≤◌, ◌^◌, ◌<◌, [], true, false, is_ok, length, List, ℕ, Option, None, Some, Err, IfOk, IfErr, OnOk, OnErr};
+ghost use Rattle.std.specs.Prelude.{◌≡◌, ◌⊎◌, ◌+◌, ◌≤◌, ◌^◌, ◌<◌, [], ◌∷◌, true, false, is_ok, length, List, ℕ, Option, None, Some, Err, IfOk, IfErr, OnOk, OnErr};
 ghost use Rattle.ssh_negotiate.specs.Tables.{shape_of};
 ghost use Rattle.ssh_packet.specs.Stream.{message_type as message_type_of};
 ghost use Rattle.ssh_packet.specs.Writing.{SameButRoom};
@@ -10,10 +10,11 @@ ghost use Rattle.ssh_client_kex.specs.Agreed.{MakesFirst};
 ghost use Rattle.ssh_client_kex.specs.ClientRows.{AcceptsReply, AgreesOnReply, AnswersReply, made_with, RefusesReply, RefusesToAgree};
 ghost use Rattle.ssh_client_kex.specs.ClientViews.{local_of, HasValue};
 ghost use Rattle.ssh_kex.specs.Agreeing.{IsWhole};
+ghost use Rattle.ssh_kex.specs.Drawing.{SendsAll};
 ghost use Rattle.ssh_kex.specs.Fields.{fields, reply_front};
 ghost use Rattle.ssh_kex.specs.Members.{AgreementKept, HostsKept};
 ghost use Rattle.ssh_kex.specs.Signature.{judged, or_same};
-ghost use Rattle.ssh_kex.specs.Messages.{host_with, is_gex, reply_message};
+ghost use Rattle.ssh_kex.specs.Messages.{host_with, is_gex, newkeys, reply_message};
 ghost use Rattle.ssh_kex.specs.Parts.{Answers, HasItsGroup, Setup};
 ghost use Rattle.ssh_kex.specs.Unasked.{asks_nobody, is_early};
 ghost use Rattle.ssh_kex.specs.Views.{HasShortSides};
@@ -170,6 +171,7 @@ fn accept_reply<'c, H: HostKeys, R: Rng>(
         (made_with base.entry.cause names base.entry.exchange algorithm.secret reply.entry.host.now
         reply.entry.value.now).hash
         (judged reply.entry.signature.now) ≡ true → ⊥)))) }
+    ensures drawn { OnOk result (SendsAll output.old (newkeys ∷ []) (R.stream rng.old) output.new (R.stream rng.new)) }
     ensures unchanged { OnErr result (SameButRoom output.old output.new) }
     ensures late { asks_nobody false result ≡ false }
 {
@@ -233,6 +235,8 @@ pub(crate) fn take_reply<'c, A: Agreement, H: HostKeys, G, R: Rng>(
         (H.refused_verify parts.new.hosts) × ((s : Setup) → H.judges parts.old.hosts parts.new.hosts s
         → H.accepts parts.old.hosts h d g ≡ true
         → ⊥)) base.entry.cause base.entry.exchange names algorithm payload.now) }
+    ensures drawn { OnOk result (SendsAll output.old (newkeys ∷ []) (R.stream parts.old.rng) output.new
+        (R.stream parts.new.rng)) }
     ensures unchanged { OnErr result (SameButRoom output.old output.new) }
     ensures unasked_agreement { asks_nobody (is_ok (reply_front (fields payload.now))) result ≡ true
         → parts.new.agreement ≡ parts.old.agreement }

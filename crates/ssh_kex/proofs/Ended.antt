@@ -1,5 +1,5 @@
 -- The peer's NEWKEYS ends an exchange.
-use Rattle.std.proofs.Common.{◌≡◌, ℕ, ◌+◌, Bool, true, [], refl, sym, subst, arith, Option, Some, Result, Ok, Err, inl, inr}
+use Rattle.std.proofs.Common.{◌≡◌, ℕ, Bool, true, [], refl, sym, subst, arith, Option, Some, Result, Ok, Err, inl, inr}
 use Rattle.std.specs.Prelude.{IfOk, IfErr, OnOk}
 use Rattle.std.specs.Global.{Box}
 use Rattle.ssh_packet.specs.Keys.{sealing_of, opening_of}

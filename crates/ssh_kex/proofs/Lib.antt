@@ -6,6 +6,7 @@ pub mod Stretching
 pub mod Rooms
 pub mod Sizes
 pub mod Refused
+pub mod Drawn
 pub mod Ended
 pub mod BitSizes
 pub mod Parting

@@ -1,9 +1,11 @@
 //! The end of an exchange: what is kept of it, and NEWKEYS (RFC 4253 section 7.3).
 
-ghost use Rattle.std.specs.Prelude.{◌≡◌, None, IfOk, IfErr, OnErr};
+ghost use Rattle.std.specs.Prelude.{◌≡◌, [], ◌∷◌, None, IfOk, IfErr, OnErr, OnOk};
 ghost use Rattle.ssh_packet.specs.Writing.{SameButRoom};
 ghost use Rattle.ssh_wire.specs.declared.error.Error.TheVariants.{Memory};
+ghost use Rattle.ssh_kex.specs.Drawing.{SendsAll};
 ghost use Rattle.ssh_kex.specs.Exchange.{side_if};
+ghost use Rattle.ssh_kex.specs.Messages.{newkeys};
 ghost use Rattle.ssh_kex.specs.Setting.{kept_of};
 ghost use Rattle.ssh_kex.specs.Views.{EndsAtOnce, HasKeys, Lasts};
 
@@ -59,6 +61,7 @@ pub fn end_at_once<K, R: Rng>(
     requires secret { algorithm.now.secret ≡ None }
     ensures ok { IfOk result (λ p. EndsAtOnce (side_if is_server) base.entry.cause base.entry.exchange names p
         output.old output.new) }
+    ensures drawn { OnOk result (SendsAll output.old (newkeys ∷ []) (R.stream rng.old) output.new (R.stream rng.new)) }
     ensures err { IfErr result (λ e. e ≡ Memory) }
     ensures unchanged { OnErr result (SameButRoom output.old output.new) }
 {

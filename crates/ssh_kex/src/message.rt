@@ -1,9 +1,10 @@
 //! Messages of an exchange: their types, and packets of them.
 
-ghost use Rattle.std.specs.Prelude.{◌≡◌, ◌==◌, ◌<◌, ◌≤◌, ◌+◌, [], ◌∷◌, IfErr, IsOk, OnErr, OnOk, length};
+ghost use Rattle.std.specs.Prelude.{◌≡◌, ◌==◌, ◌<◌, ◌≤◌, ◌+◌, [], ◌∷◌, false, IfErr, IsOk, OnErr, OnOk, length};
 ghost use Rattle.ssh_packet.specs.Sealing.{longest_payload};
 ghost use Rattle.ssh_packet.specs.Stream.{message_type as message_type_of};
 ghost use Rattle.ssh_packet.specs.Writing.{IsSizeOrMemory, SameButRoom, room_for};
+ghost use Rattle.ssh_kex.specs.Drawing.{SendsAll, is_kexinit};
 ghost use Rattle.ssh_kex.specs.Stepping.{Puts, PutsAll};
 
 use rand_core::Rng;
@@ -29,6 +30,8 @@ pub fn put_message<R: Rng>(
 ) -> Result<(), Error>
     requires { 0 < length message.now }
     ensures puts { OnOk result (Puts output.old message.now output.new) }
+    ensures drawn { OnOk result (is_kexinit message.now ≡ false → SendsAll output.old (message.now ∷ [])
+        (R.stream rng.old) output.new (R.stream rng.new)) }
     ensures unchanged { OnErr result (SameButRoom output.old output.new) }
     ensures causes { IfErr result (IsSizeOrMemory (length message.now)) }
     ensures room { length message.now ≤ longest_payload
@@ -50,6 +53,8 @@ pub fn put_both<R: Rng>(
     requires second { 0 < length second.now }
     requires short { length second.now ≤ longest_payload }
     ensures puts { OnOk result (PutsAll output.old (first.now ∷ second.now ∷ []) output.new) }
+    ensures drawn { OnOk result (is_kexinit first.now ≡ false → is_kexinit second.now ≡ false → SendsAll output.old
+        (first.now ∷ second.now ∷ []) (R.stream rng.old) output.new (R.stream rng.new)) }
     ensures unchanged { OnErr result (SameButRoom output.old output.new) }
     ensures causes { IfErr result (IsSizeOrMemory (length first.now)) }
 {

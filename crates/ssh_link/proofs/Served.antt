@@ -36,14 +36,15 @@ none_first Client = (omega arith, omega arith, omega arith)
 none_first Server = (omega arith, omega arith, omega arith)
 
 -- one side, by how its parts begin
-pub served_side : {A H G : Type 0} (side : Side) (setup : SideSetup) (exchanges : List FinishedExchange) (a a' : Refusing A) (h h' : Refusing H) (g g' : Refusing G)
+pub served_side : {A H G : Type 0} (side : Side) (setup : SideSetup) (wire : List ℕ) (exchanges : List FinishedExchange) (a a' : Refusing A) (h h' : Refusing H) (g g' : Refusing G)
     → a.refuse_at ≡ setup.refuse_agreement → a.calls ≡ 0 → h.refuse_at ≡ setup.refuse_hosts → h.calls ≡ 0 → g.refuse_at ≡ setup.refuse_groups → g.calls ≡ 0
-    → HasAnswered side exchanges (record { agreement = answered_before a; hosts = answered_before h; lookups = answered_before g }) (record { agreement = answered_before a'; hosts = answered_before h'; lookups = answered_before g' })
-    → IsServed side setup exchanges
-served_side side setup exchanges a a' h h' g g' ea fa eh fh eg fg q =
+    → HasAnswered side setup.config wire exchanges (record { agreement = answered_before a; hosts = answered_before h; lookups = answered_before g }) (record { agreement = answered_before a'; hosts = answered_before h'; lookups = answered_before g' })
+    → IsServed side setup wire exchanges
+served_side side setup wire exchanges a a' h h' g g' ea fa eh fh eg fg q =
     let z = none_first side in
     record {
       ends = q.ends;
+      came = q.came;
       records = q.records;
       agreement = not_yet setup.refuse_agreement a'.refuse_at a'.calls (agreement_answered side q.ends) (unasked (answered_before a) (answered_before a') setup.refuse_agreement _ _ z.0 (q.answers).agreement (before_all setup.refuse_agreement a.refuse_at a.calls ea fa));
       hosts = not_yet setup.refuse_hosts h'.refuse_at h'.calls (hosts_answered side q.ends) (unasked (answered_before h) (answered_before h') setup.refuse_hosts _ _ z.1 (q.answers).hosts (before_all setup.refuse_hosts h.refuse_at h.calls eh fh));
@@ -52,19 +53,19 @@ served_side side setup exchanges a a' h h' g g' ea fa eh fh eg fg q =
 
 -- both sides of a report
 pub served_told : (plan : Plan) (p p' q q' : PartTests) (r : Result LinkReport Error)
-    → ((exchanges : List FinishedExchange) → HasAnswered Client exchanges p p' → IsServed Client plan.client exchanges)
-    → ((exchanges : List FinishedExchange) → HasAnswered Server exchanges q q' → IsServed Server plan.server exchanges)
-    → IfOk r (BothAnswered p p' q q') → IfOk r (AreServed plan)
-served_told plan p p' q q' (Ok report) f g h = record { of_client = f report.client.exchanges h.of_client; of_server = g report.server.exchanges h.of_server }
+    → ((wire : List ℕ) (exchanges : List FinishedExchange) → HasAnswered Client plan.client.config wire exchanges p p' → IsServed Client plan.client wire exchanges)
+    → ((wire : List ℕ) (exchanges : List FinishedExchange) → HasAnswered Server plan.server.config wire exchanges q q' → IsServed Server plan.server wire exchanges)
+    → IfOk r (BothAnswered plan.client.config plan.server.config p p' q q') → IfOk r (AreServed plan)
+served_told plan p p' q q' (Ok report) f g h = record { of_client = f report.client.wire report.client.exchanges h.by_client; of_server = g report.server.wire report.server.exchanges h.by_server }
 served_told plan p p' q q' (Err e) f g h = tt
 
 -- both sides of an attack's report
 pub served_attacked : (plan : Plan) (steps : List AttackStep) (p p' q q' : PartTests) (r : Result AttackReport Error) → steps ≡ plan.attack
-    → ((exchanges : List FinishedExchange) → HasAnswered Client exchanges p p' → IsServed Client plan.client exchanges)
-    → ((exchanges : List FinishedExchange) → HasAnswered Server exchanges q q' → IsServed Server plan.server exchanges)
-    → IfOk r (EndsAnswered steps p p' q q') → IfOk r (AreServedAttacked plan)
+    → ((wire : List ℕ) (exchanges : List FinishedExchange) → HasAnswered Client plan.client.config wire exchanges p p' → IsServed Client plan.client wire exchanges)
+    → ((wire : List ℕ) (exchanges : List FinishedExchange) → HasAnswered Server plan.server.config wire exchanges q q' → IsServed Server plan.server wire exchanges)
+    → IfOk r (EndsAnswered plan.client.config plan.server.config steps p p' q q') → IfOk r (AreServedAttacked plan)
 served_attacked plan steps p p' q q' (Ok report) e f g h = record {
-  of_client = λ k. f report.client.exchanges (h.of_client (subst (λ (x : List AttackStep). AllTaken Client x report.answers) (sym e) k));
-  of_server = λ k. g report.server.exchanges (h.of_server (subst (λ (x : List AttackStep). AllTaken Server x report.answers) (sym e) k));
+  of_client = λ k. f report.client.wire report.client.exchanges (h.by_client (subst (λ (x : List AttackStep). AllTaken Client x report.answers) (sym e) k));
+  of_server = λ k. g report.server.wire report.server.exchanges (h.by_server (subst (λ (x : List AttackStep). AllTaken Server x report.answers) (sym e) k));
 }
 served_attacked plan steps p p' q q' (Err x) e f g h = tt

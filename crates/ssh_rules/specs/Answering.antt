@@ -1,12 +1,16 @@
 -- How often the parts of a side have answered, where nothing is refused.
-use Rattle.std.specs.Prelude.{◌≡◌, ℕ, ◌+◌, ◌*◌, Bool, true, List, length, Some}
+use Rattle.std.specs.Prelude.{◌≡◌, ℕ, ◌+◌, ◌*◌, ◌++◌, Bool, true, List, length, Some}
+use Rattle.ssh_wire.specs.Lines.{id_line, id_text}
 use Rattle.ssh_wire.specs.declared.side.Side.{Side}
 use Rattle.ssh_wire.specs.declared.side.Side.TheVariants.{Client, Server}
 use Rattle.ssh_kex.specs.Members.{AgreementMembers, GroupLookupMembers, HostKeysMembers}
 use Rattle.ssh_kex.specs.Stages.{Created, AwaitsGroup, AwaitsReply, AwaitsRequest, AwaitsValue, AwaitsNewkeys}
+use Rattle.ssh_kex.specs.declared.config.Config.{Config}
 use Rattle.ssh_kex.specs.declared.exchange.FinishedExchange.{FinishedExchange}
 use Rattle.ssh_rules.specs.Counting.{calls_of, group_in, groups_in}
-use Rattle.ssh_rules.specs.Machine.{Where, Silent, Outside, Inside, SideState, first_state}
+use Rattle.ssh_rules.specs.Log.{sent_bytes}
+use Rattle.ssh_rules.specs.Machine.{Event, Where, Silent, Outside, Inside, IsQuiet, SideState, Steps, first_state}
+use Rattle.ssh_rules.specs.Standing.{nothing_said}
 
 -- what each part of a side says of itself, by a number that it is known by, where it has answered so many calls and
 -- refused none
@@ -83,8 +87,18 @@ pub record AnswersAll (side : Side) (st st' : SideState) (tests tests' : PartTes
   pub lookups : (known : ℕ) → tests.lookups known (lookups_answered side st) ≡ true
       → tests'.lookups known (lookups_answered side st') ≡ true
 
--- From its start on a side finished these exchanges, and each part answered all that it was asked.
-pub record HasAnswered (side : Side) (exchanges : List FinishedExchange) (tests tests' : PartTests) : Type 0 where
+-- Some events lead a side from its start to where nothing is left to do, and they wrote this wire.
+pub record ComesTo (side : Side) (config : Config) (wire : List ℕ) (ends : SideState) : Type 0 where
+  pub events : List Event
+  pub steps : Steps nothing_said side config (id_text config.id) first_state events ends
+  pub sent : wire ≡ id_line config.id ++ sent_bytes side first_state.writing events
+  pub quiet : IsQuiet config ends
+
+-- From its start on a side wrote this wire and finished these exchanges, and each part answered all that it was asked.
+-- What it wrote tells which messages of an open exchange it has answered.
+pub record HasAnswered (side : Side) (config : Config) (wire : List ℕ) (exchanges : List FinishedExchange)
+    (tests tests' : PartTests) : Type 0 where
   pub ends : SideState
+  pub came : ComesTo side config wire ends
   pub records : ends.records ≡ exchanges
   pub answers : AnswersAll side first_state ends tests tests'

@@ -92,6 +92,21 @@ HearsNone (PayloadDelivered i ∷ es) = HearsNone es
 HearsNone (PacketDropped i ∷ es) = HearsNone es
 HearsNone (ExchangeFinished i x ∷ es) = HearsNone es
 
+-- nothing is said of the parts, since none is asked
+abbrev pub nothing_said : Says
+nothing_said = record {
+  agrees = λ name group client server secret. Unit {0};
+  client_makes = λ name group local public. Unit {0};
+  server_makes = λ name group client public. Unit {0};
+  finds = λ sizes group. Unit {0};
+  signs = λ host hash signature. Unit {0};
+  accepts = λ host hash signature. Unit {0};
+  trusts = λ host. Unit {0};
+  offers = λ name. Unit {0};
+  value_small = λ value. Unit {0};
+  signature_small = λ signature. Unit {0};
+}
+
 -- Some events lead from a transport to another: the bytes that they write are appended, the payloads that they deliver
 -- are queued, and nothing is left undone.
 pub record Acts (says : Says) (old : Standing) (events : List Event) (new : Standing) : Type 0 where

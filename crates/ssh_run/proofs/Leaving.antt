@@ -8,11 +8,10 @@ use Rattle.ssh_kex.specs.declared.config.Config.{Config}
 use Rattle.ssh_wire.specs.declared.side.Side.{Side}
 use Rattle.ssh_wire.specs.declared.side.Side.TheVariants.{Client, Server}
 use Rattle.ssh_rules.specs.Answering.{AnswersAll, PartTests}
-use Rattle.ssh_rules.specs.Standing.{IsNew, Rekeyed, Standing, Submitted}
+use Rattle.ssh_rules.specs.Standing.{IsNew, Rekeyed, Standing, Submitted, TakesInput}
 use Rattle.ssh_rules.specs.declared.link.LinkReport.{LinkReport}
-use Rattle.ssh_rules.proofs.Lemmas.{answers_join, answers_same}
 use Rattle.ssh_transport.specs.Drawing.{AreDrawn, BeginsDrawn, IsDrawn, PartsStand, StaysDrawn}
-use Rattle.ssh_transport.proofs.Lemmas.{answered_new, answers_rekeyed, answers_submitted, drawn_join, drawn_new, drawn_wire, rekeyed_side}
+use Rattle.ssh_transport.proofs.Lemmas.{answered_new, comes_fed, comes_join, comes_rekeyed, comes_still, comes_submitted, drawn_join, drawn_new, drawn_wire}
 use Rattle.ssh_run.specs.Carrying.{CarriedEnd, CarriedLink, IsNewLink, first_carried_end}
 use Rattle.ssh_run.specs.LinkEnds.{BothAnswered, LeavesBoth, LeavesSide}
 
@@ -28,19 +27,19 @@ not_memory answer u a e = (let f : answer ≡ Ok u = a in let h : answer ≡ Err
 
 -- a payload that was submitted
 pub leaves_submitted : (says : Says) (old : Standing) (payload : List ℕ) (new : Standing) (s s' : Stream) (t t' : PartTests) → t' ≡ t → StaysDrawn old new s s' → Submitted says old payload new → LeavesSide old new (record { stream = s; tests = t }) (record { stream = s'; tests = t' })
-leaves_submitted says old payload new s s' t t' e d h = record { drawn = d; side = (h.acts).side; answers = subst (λ q. AnswersAll old.side old.state new.state t q) (sym e) (answers_submitted says old payload new t h) }
+leaves_submitted says old payload new s s' t t' e d h = record { drawn = d; came = comes_submitted says old payload new t t' e h }
 
 -- an exchange that was asked for
 pub leaves_rekeyed : (answer : Result (Unit {0}) Error) (says : Says) (old new : Standing) (s s' : Stream) (t t' : PartTests) → t' ≡ t → OnOk answer (StaysDrawn old new s s') → OnOk answer (Rekeyed says old new) → OnOk answer (LeavesSide old new (record { stream = s; tests = t }) (record { stream = s'; tests = t' }))
-leaves_rekeyed (Ok u) says old new s s' t t' e d h = record { drawn = d; side = rekeyed_side says old new h; answers = subst (λ q. AnswersAll old.side old.state new.state t q) (sym e) (answers_rekeyed says old new t h) }
+leaves_rekeyed (Ok u) says old new s s' t t' e d h = record { drawn = d; came = comes_rekeyed says old new t t' e h }
 leaves_rekeyed (Err x) says old new s s' t t' e d h = tt
 
 -- bytes that were taken, whose payloads were taken over
-pub leaves_fed : (old fed new : Standing) (s s' : Stream) (t t' : PartTests) → new ≡ record fed { delivered = [] } → fed.side ≡ old.side → StaysDrawn old new s s' → AnswersAll old.side old.state fed.state t t' → LeavesSide old new (record { stream = s; tests = t }) (record { stream = s'; tests = t' })
-leaves_fed old fed new s s' t t' e i d a = record { drawn = d; side = ap (λ (x : Standing). x.side) e ∙ i; answers = subst (λ q. AnswersAll old.side old.state q t t') (sym (ap (λ (x : Standing). x.state) e)) a }
+pub leaves_fed : (says : Says) (old fed new : Standing) (piece : List ℕ) (s s' : Stream) (t t' : PartTests) → new ≡ record fed { delivered = [] } → StaysDrawn old new s s' → TakesInput says old piece fed → AnswersAll old.side old.state fed.state t t' → LeavesSide old new (record { stream = s; tests = t }) (record { stream = s'; tests = t' })
+leaves_fed says old fed new piece s s' t t' e d h a = record { drawn = d; came = comes_fed says old fed new piece t t' e h a }
 
 side_still : (t : Standing) (p : PartsStand) → LeavesSide t t p p
-side_still t p = record { drawn = λ side config first d. d; side = refl; answers = answers_same t.side t.state t.state p.tests refl refl }
+side_still t p = record { drawn = λ side config first d. d; came = comes_still t p.tests }
 
 side_same : (a b : Standing) (p : PartsStand) → b ≡ a → LeavesSide a b p p
 side_same a b p e = subst (λ (t : Standing). LeavesSide a t p p) (sym e) (side_still a p)
@@ -48,8 +47,7 @@ side_same a b p e = subst (λ (t : Standing). LeavesSide a t p p) (sym e) (side_
 side_join : (a b c : Standing) (p q r : PartsStand) → LeavesSide a b p q → LeavesSide b c q r → LeavesSide a c p r
 side_join a b c p q r h k = record {
   drawn = drawn_join a b c p.stream q.stream r.stream h.drawn k.drawn;
-  side = k.side ∙ h.side;
-  answers = answers_join a.side a.state b.state c.state p.tests q.tests r.tests h.answers (subst (λ (s : Side). AnswersAll s b.state c.state q.tests r.tests) h.side k.answers);
+  came = comes_join a b c p.tests q.tests r.tests h.came k.came;
 }
 
 -- ---- both sides
@@ -89,9 +87,9 @@ run_drawn client server a b p p' q q' client_wire server_wire n h e f = record {
   from_server = subst (BeginsDrawn Server server q.stream) (sym f) (drawn_wire Server server q.stream q'.stream b.server.transport ((h.of_server).drawn Server server q.stream (new_drawn Server server q.stream a.server n.of_server.0 n.of_server.1 n.of_server.2)));
 }
 
-pub run_answered : (client server : Config) (a b : CarriedLink) (p p' q q' : PartsStand) (report : LinkReport) → IsNewLink client server a → LeavesBoth a b p p' q q' → report.client.exchanges ≡ b.client.transport.state.records → report.server.exchanges ≡ b.server.transport.state.records
-    → BothAnswered p.tests p'.tests q.tests q'.tests report
-run_answered client server a b p p' q q' report n h e f = record {
-  of_client = answered_new Client client n.of_client.0 a.client.transport b.client.transport report.client.exchanges p.tests p'.tests n.of_client.1 (ap (λ (x : CarriedEnd). x.transport) n.of_client.2) (h.of_client).answers e;
-  of_server = answered_new Server server n.of_server.0 a.server.transport b.server.transport report.server.exchanges q.tests q'.tests n.of_server.1 (ap (λ (x : CarriedEnd). x.transport) n.of_server.2) (h.of_server).answers f;
+pub run_answered : (client server : Config) (a b : CarriedLink) (p p' q q' : PartsStand) (report : LinkReport) → IsNewLink client server a → LeavesBoth a b p p' q q' → report.client.wire ≡ b.client.transport.output → report.server.wire ≡ b.server.transport.output → report.client.exchanges ≡ b.client.transport.state.records → report.server.exchanges ≡ b.server.transport.state.records
+    → BothAnswered client server p.tests p'.tests q.tests q'.tests report
+run_answered client server a b p p' q q' report n h e f k l = record {
+  by_client = answered_new Client client n.of_client.0 a.client.transport b.client.transport report.client.wire report.client.exchanges p.tests p'.tests n.of_client.1 (ap (λ (x : CarriedEnd). x.transport) n.of_client.2) (h.of_client).came e k;
+  by_server = answered_new Server server n.of_server.0 a.server.transport b.server.transport report.server.wire report.server.exchanges q.tests q'.tests n.of_server.1 (ap (λ (x : CarriedEnd). x.transport) n.of_server.2) (h.of_server).came f l;
 }

@@ -130,6 +130,9 @@ pub record TurnsSoFar (c s : Says) (times : ℕ) (old new : CarriedLink) : Type 
 pub none_turned : (c s : Says) (l : CarriedLink) → TurnsSoFar c s 0 l l
 none_turned c s l = record { turns = refl; configs = record { of_client = refl; of_server = refl } }
 
+pub no_turns : (c s : Says) (times : ℕ) (l : CarriedLink) → times ≡ 0 → TurnsSoFar c s times l l
+no_turns c s times l e = subst (λ n. TurnsSoFar c s n l l) (sym e) (none_turned c s l)
+
 pub turned_more : (c c' s s' : Says) (times times' : ℕ) (old mid new : CarriedLink) → times' ≡ suc times → Weaker c' c → Weaker s' s → TurnsSoFar c s times old mid → HasWaiting mid → TakesTurns c' s' mid new → TurnsSoFar c s times' old new
 turned_more c c' s s' times times' old mid new e v w h waits t = subst (λ n. TurnsSoFar c s n old new) (sym e) (record { turns = (mid, h.turns, turns_weaker c' c s' s v w mid new t, waits); configs = configs_join old mid new h.configs (turns_config c' s' mid new t) })
 

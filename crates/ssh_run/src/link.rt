@@ -108,7 +108,7 @@ pub fn run_link<A: Agreement, H: HostKeys, G: GroupLookup, R: Rng>(
     ensures server_keeps { ⟦<Parts<A, H, G, R> as Handed>⟧.keeps server_parts.old server_parts.new }
     ensures drawn { IfOk result (λ r. AreDrawn client.now server.now (R.stream client_parts.old.rng)
         (R.stream server_parts.old.rng) r.client.wire r.server.wire) }
-    ensures answered { IfOk result (BothAnswered (⟦<Parts<A, H, G, R> as Asked>⟧.tests client_parts.old)
+    ensures answered { IfOk result (BothAnswered client.now server.now (⟦<Parts<A, H, G, R> as Asked>⟧.tests client_parts.old)
         (⟦<Parts<A, H, G, R> as Asked>⟧.tests client_parts.new) (⟦<Parts<A, H, G, R> as Asked>⟧.tests server_parts.old)
         (⟦<Parts<A, H, G, R> as Asked>⟧.tests server_parts.new)) }
 {
@@ -167,8 +167,8 @@ fn carry_steps<A: Agreement, H: HostKeys, G: GroupLookup, R: Rng>(
     ensures server_keeps { ⟦<Parts<A, H, G, R> as Handed>⟧.keeps server_parts.old server_parts.new }
     ensures drawn { IfOk result (⟦<Parts<A, H, G, R> as Leaving>⟧.drew client.now server.now client_parts.old
         server_parts.old) }
-    ensures answered { IfOk result (⟦<Parts<A, H, G, R> as Leaving>⟧.answered client_parts.old client_parts.new
-        server_parts.old server_parts.new) }
+    ensures answered { IfOk result (⟦<Parts<A, H, G, R> as Leaving>⟧.answered client.now server.now client_parts.old
+        client_parts.new server_parts.old server_parts.new) }
 {
     if let Some(fault) = first_config_fault(client, server) {
         return Err(Error::InvalidConfig(fault));

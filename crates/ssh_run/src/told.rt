@@ -154,7 +154,7 @@ pub trait Leaving {
     // What both sides sent, by the generators at the start; and what was answered in the run.
     ghost drew: { Config → Config → Self → Self → LinkReport → Type 0 };
 
-    ghost answered: { Self → Self → Self → Self → LinkReport → Type 0 };
+    ghost answered: { Config → Config → Self → Self → Self → Self → LinkReport → Type 0 };
 }
 
 impl<A: Agreement, H: HostKeys, G: GroupLookup, R: Rng> Leaving for Parts<A, H, G, R> {
@@ -171,7 +171,7 @@ impl<A: Agreement, H: HostKeys, G: GroupLookup, R: Rng> Leaving for Parts<A, H, 
     ghost drew = { λ client server p q report. AreDrawn client server (R.stream p.rng) (R.stream q.rng)
         report.client.wire report.server.wire };
 
-    ghost answered = { λ p p' q q' report. BothAnswered
+    ghost answered = { λ client server p p' q q' report. BothAnswered client server
         (⟦<Parts<A, H, G, R> as Asked>⟧.tests p) (⟦<Parts<A, H, G, R> as Asked>⟧.tests p')
         (⟦<Parts<A, H, G, R> as Asked>⟧.tests q) (⟦<Parts<A, H, G, R> as Asked>⟧.tests q') report };
 }

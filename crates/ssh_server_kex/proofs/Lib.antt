@@ -1,3 +1,4 @@
+mod Drawn
 mod ServerRows
 mod ServerSteps
 mod ServerOpens

@@ -5,6 +5,7 @@ ghost use Rattle.ssh_packet.specs.Sealing.{longest_payload};
 ghost use Rattle.ssh_packet.specs.Writing.{IsSizeOrMemory, SameButRoom};
 ghost use Rattle.ssh_wire.specs.Outside.{Rose};
 ghost use Rattle.ssh_wire.specs.declared.error.Error.TheVariants.{Memory};
+ghost use Rattle.ssh_kex.specs.Drawing.{StepDraws};
 ghost use Rattle.ssh_kex.specs.Messages.{IsCanonical, group_message, request_message};
 ghost use Rattle.ssh_kex.specs.Parts.{Answers, Setup};
 ghost use Rattle.ssh_kex.specs.Fields.{sizes_in};
@@ -71,6 +72,8 @@ pub(crate) fn answer_request<G: GroupLookup, R: Rng>(
     ensures causes { IfErr result (RefusesRequest (λ sizes q. (s : Setup) → G.lawful groups.old s
         → (q ≡ G.group groups.old sizes) × IsCanonical q) (λ sizes. Rose (G.refusals groups.old) (G.refusals groups.new)
         × ((s : Setup) → G.obliging groups.old groups.new s → ⊥)) payload.now) }
+    ensures drawn { OnOk result (StepDraws (λ behind. behind ≡ R.stream rng.old) output.old output.new
+        (R.stream rng.new)) }
     ensures unchanged { OnErr result (SameButRoom output.old output.new) }
     ensures unasked { IfErr result (λ e. is_early false e ≡ true → groups.new ≡ groups.old) }
 {

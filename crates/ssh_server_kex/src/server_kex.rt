@@ -3,7 +3,7 @@
 ghost use Rattle.std.specs.Prelude.{◌≡◌, ◌≤◌, ◌+◌, ◌<◌, ◌^◌, ◌||◌, true, false, List, [], ℕ, length, is_some, Option, Some, None, Ok, Err, IfOk, IfErr, OnOk, OnErr, IfSome};
 ghost use Rattle.ssh_negotiate.specs.Causes.{was_strict};
 ghost use Rattle.ssh_negotiate.specs.Tables.{shape_of};
-ghost use Rattle.ssh_kex.specs.Drawing.{AnswersFrom, DrawnByServer};
+ghost use Rattle.ssh_kex.specs.Drawing.{AnswersFrom, DrawnByServer, StepDraws};
 ghost use Rattle.ssh_kex.specs.Members.{AgreementKept, GroupsKept, HostsKept};
 ghost use Rattle.ssh_kex.specs.Messages.{IsCanonical, is_gex};
 ghost use Rattle.ssh_negotiate.specs.Laws.{AreShort};
@@ -194,7 +194,8 @@ impl<'c> ServerKex<'c> {
         ensures goes { IfOk result (λ p. Progresses (⟦<Parts<A, H, G, R> as Handed>⟧.says self.entry.setting.config
             parts.old)
             self.entry input.entry output.old p output.new) }
-        ensures drawn { DrawnByServer A.server_draws (R.stream parts.old.rng) self.entry.stage (next_of result) }
+        ensures drawn { OnOk result (StepDraws (DrawnByServer A.server_draws (R.stream parts.old.rng) self.entry.stage
+            (next_of result)) output.old output.new (R.stream parts.new.rng)) }
         ensures causes { IfErr result (λ e. RefusesStep (⟦<Parts<A, H, G, R> as Handed>⟧.says self.entry.setting.config
             parts.old)
             (⟦<Parts<A, H, G, R> as Handed>⟧.denies parts.old parts.new) self.entry input.entry e) }
@@ -305,6 +306,8 @@ fn take_kexinit<'c, A: Agreement, R: Rng>(
     ensures err { IfErr result (ServerRefusesKexinit (λ name. A.offered agreement.now name ≡ true) base.entry.config.now
         base.entry.cause
         incoming.entry) }
+    ensures drawn { OnOk result (StepDraws (λ behind. behind ≡ R.stream rng.old) output.old output.new
+        (R.stream rng.new)) }
     ensures unchanged { OnErr result (SameButRoom output.old output.new) }
 {
     let kept = &mut base;
@@ -342,6 +345,8 @@ fn take_request<'c, G: GroupLookup, R: Rng>(
     ensures causes { IfErr result (RefusesRequest (λ sizes q. (s : Setup) → G.lawful groups.old s
         → (q ≡ G.group groups.old sizes) × IsCanonical q) (λ sizes. Rose (G.refusals groups.old) (G.refusals groups.new)
         × ((s : Setup) → G.obliging groups.old groups.new s → ⊥)) payload.now) }
+    ensures drawn { OnOk result (StepDraws (λ behind. behind ≡ R.stream rng.old) output.old output.new
+        (R.stream rng.new)) }
     ensures unchanged { OnErr result (SameButRoom output.old output.new) }
     ensures unasked { asks_nobody false result ≡ true → groups.new ≡ groups.old }
 {
@@ -394,7 +399,8 @@ fn take_value<'c, A: Agreement, H: HostKeys, G, R: Rng>(
         (λ v. (s : Setup) → A.lawful parts.old.agreement s → IsSmall v)
         (λ v. (s : Setup) → H.lawful parts.old.hosts s → IsSmall v) base.entry.config.now names payload.now)
         payload.now) }
-    ensures drawn { IfSome (next_of result) (AnswersFrom A.server_draws (R.stream parts.old.rng)) }
+    ensures drawn { OnOk result (StepDraws (AnswersFrom A.server_draws (R.stream parts.old.rng) (next_of result))
+        output.old output.new (R.stream parts.new.rng)) }
     ensures unchanged { OnErr result (SameButRoom output.old output.new) }
     ensures unasked_agreement { asks_nobody false result ≡ true → parts.new.agreement ≡ parts.old.agreement }
     ensures unasked_hosts { asks_nobody false result ≡ true → parts.new.hosts ≡ parts.old.hosts }
@@ -420,6 +426,8 @@ fn begin<'c, R: Rng>(
     requires { (shape_of names.kex).skip ≡ false → CanBegin (is_gex names.kex) base.config.now names base.exchange }
     ensures ok { IfOk result (λ p. Begins (shape_of names.kex).skip
         (is_gex names.kex) base.entry.config.now base.entry.cause base.entry.exchange names p output.old output.new) }
+    ensures drawn { OnOk result (StepDraws (λ behind. behind ≡ R.stream rng.old) output.old output.new
+        (R.stream rng.new)) }
     ensures err { IfErr result (λ e. e ≡ Memory) }
     ensures unchanged { OnErr result (SameButRoom output.old output.new) }
 {

@@ -7,7 +7,7 @@ ghost use Rattle.ssh_packet.specs.Stream.{message_type};
 ghost use Rattle.ssh_packet.specs.Writing.{SameButRoom};
 ghost use Rattle.ssh_wire.specs.Outside.{Rose};
 ghost use Rattle.ssh_wire.specs.declared.error.Error.TheVariants.{Kex, Memory};
-ghost use Rattle.ssh_kex.specs.Drawing.{AnswerDrawn, SecretDrawn};
+ghost use Rattle.ssh_kex.specs.Drawing.{AnswerDrawn, SecretDrawn, StepDraws};
 ghost use Rattle.ssh_kex.specs.Messages.{is_gex, reply_message, value_message};
 ghost use Rattle.ssh_kex.specs.Parts.{Answers, HasItsGroup, IsSmall, Setup};
 ghost use Rattle.ssh_kex.specs.Fields.{value_in};
@@ -110,7 +110,7 @@ fn agree<A: Agreement, R: Rng>(
         × A.agrees name (group_of exchange.old.gex) exchange.old.client_ephemeral v x
         × IsSmall v) name exchange.old exchange.new) }
     ensures drawn { IfOk result (λ k. SecretDrawn (A.server_draws name (group_of exchange.old.gex)
-        exchange.old.client_ephemeral) (R.stream rng.old) k.secret exchange.new.server_ephemeral) }
+        exchange.old.client_ephemeral) (R.stream rng.old) k.secret exchange.new.server_ephemeral (R.stream rng.new)) }
     ensures causes { IfErr result (λ e. (e ≡ Kex) ⊎ (e ≡ Memory)) }
     ensures rose { IfErr result (λ e. e ≡ Kex → Rose (A.refusals agreement.old) (A.refusals agreement.new)) }
     ensures owed { IfErr result (λ e. e ≡ Kex → (s : Setup) (local : List ℕ) → A.obliging agreement.old agreement.new s
@@ -198,8 +198,9 @@ pub(crate) fn answer_value<A: Agreement, H: HostKeys, G, R: Rng>(
         (λ v. (s : Setup) → H.lawful parts.old.hosts s → IsSmall v) base.old.config.now names.now payload.now)
         payload.now) }
     ensures base { base.new ≡ record base.old { exchange = base.new.exchange } }
-    ensures drawn { IfOk result (λ f. AnswerDrawn (A.server_draws names.now.kex (group_of base.old.exchange.gex))
-        (R.stream parts.old.rng) base.new.exchange f.0) }
+    ensures drawn { IfOk result (λ f. StepDraws (AnswerDrawn (A.server_draws names.now.kex (group_of
+        base.old.exchange.gex)) (R.stream parts.old.rng) base.new.exchange f.0) output.old output.new
+        (R.stream parts.new.rng)) }
     ensures unchanged { OnErr result (SameButRoom output.old output.new) }
     ensures unasked { IfErr result (λ e. is_early false e ≡ true → (parts.new.agreement ≡ parts.old.agreement)
         × (parts.new.hosts ≡ parts.old.hosts)) }

@@ -15,10 +15,10 @@ use Rattle.ssh_kex.specs.declared.exchange.FinishedExchange.{FinishedExchange}
 use Rattle.ssh_kex.specs.declared.exchange.NewKeys.{NewKeys}
 use Rattle.ssh_kex.specs.declared.exchange.ServerHost.{ServerHost}
 use Rattle.ssh_kex.specs.declared.session_state.SessionKexState.{SessionKexState}
-use Rattle.ssh_rules.specs.Answering.{AnswersAll, HasAnswered, PartTests, agreement_open, hosts_open, lookups_in, lookups_open, tests_by}
+use Rattle.ssh_rules.specs.Answering.{AnswersAll, PartTests, agreement_open, hosts_open, lookups_in, lookups_open, tests_by}
 use Rattle.ssh_rules.specs.Counting.{calls_of, group_in}
 use Rattle.ssh_rules.specs.Machine.{Asked, ExchangeBegun, Inside, Outside, Silent, Where}
-use Rattle.ssh_rules.specs.Standing.{IsNew, Rekeyed, RekeyedFrom, Standing, Submitted, is_outside}
+use Rattle.ssh_rules.specs.Standing.{Rekeyed, RekeyedFrom, Standing, Submitted, is_outside}
 use Rattle.ssh_rules.specs.Valid.{config_fault}
 use Rattle.ssh_rules.proofs.Lemmas.{StageAnswers, answers_at, answers_same, answers_still, dropped_answers, groups_more, taken_answers}
 use Rattle.ssh_transport.specs.Asking.{MoveAnswers, hosts_answer, stage_in, state_of}
@@ -162,20 +162,3 @@ answers_rekeyed says old new t h = by (is_outside old.state.stands) h where
 -- what the parts of a side say of themselves, where no part changed
 pub tests_same : {A H G : Type 0} (ma : AgreementMembers A) (mh : HostKeysMembers H) (mg : GroupLookupMembers G) (a a' : A) (h h' : H) (g g' : G) → a' ≡ a → h' ≡ h → g' ≡ g → tests_by ma mh mg a' h' g' ≡ tests_by ma mh mg a h g
 tests_same ma mh mg a a' h h' g g' e f k = ap (λ x. tests_by ma mh mg x h' g') e ∙ ap (λ x. tests_by ma mh mg a x g') f ∙ ap (λ x. tests_by ma mh mg a h x) k
-
-pub rekeyed_side : (says : Says) (old new : Standing) → Rekeyed says old new → new.side ≡ old.side
-rekeyed_side says old new h = by (is_outside old.state.stands) h where
-  by : (b : Bool) → RekeyedFrom b says old new → new.side ≡ old.side
-  by true k = (k.acts).side
-  by false k = ap (λ (x : Standing). x.side) k
-
--- from a new transport on
-pub answered_new : (side : Side) (config : Config) (first old new : Standing) (exchanges : List FinishedExchange) (t t' : PartTests) → IsNew side config first → old ≡ first → AnswersAll old.side old.state new.state t t' → exchanges ≡ new.state.records → HasAnswered side exchanges t t'
-answered_new side config first old new exchanges t t' n e h r =
-    let of_side : old.side ≡ side = ap (λ (x : Standing). x.side) (e ∙ n) in
-    let of_state = ap (λ (x : Standing). x.state) (e ∙ n) in
-    record {
-      ends = new.state;
-      records = sym r;
-      answers = subst (λ q. AnswersAll side q new.state t t') of_state (subst (λ (s : Side). AnswersAll s old.state new.state t t') of_side h);
-    }

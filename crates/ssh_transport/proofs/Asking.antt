@@ -26,12 +26,12 @@ use Rattle.ssh_rules.specs.Calls.{agreement_left, hosts_left, lookups_left}
 use Rattle.ssh_rules.specs.Counting.{CallsFrom, agreement_to_come, begun, calls_of, group_in, groups_chosen, groups_in, hosts_to_come, lookups_of, lookups_to_come, open_count, request_due}
 use Rattle.ssh_rules.specs.Log.{handled}
 use Rattle.ssh_rules.specs.Machine.{AnswerSent, Event, ExchangeBegun, ExchangeFinished, GuessDropped, IdHeard, Inside, MessageTaken, Outside, PacketDropped, PayloadDelivered, PayloadSent, PayloadSubmitted, SideState, Spot, Steps, Where, names_now}
-use Rattle.ssh_rules.specs.Standing.{OfMemory, OfPacket, RefusalCause}
+use Rattle.ssh_rules.specs.Standing.{OfMemory, OfPacket, RefusalCause, nothing_said}
 use Rattle.ssh_rules.specs.Valid.{config_fault}
 use Rattle.ssh_rules.proofs.Lemmas.{answers_at, answers_join, answers_same, answers_still, asks_join, asks_left, asks_lookups, asks_steps, asks_still, begun_first, begun_steps, cause_none, dropped_asks, dropped_calls, dropped_group, groups_more, request_alone, stage_bounds, taken_group}
 use Rattle.ssh_transport.specs.Asking.{AsksBetween, AsksTo, MoveAnswers, MoveAsks, PartTally, Raises, StepAnswers, StepAsks, StepCalls, asks_trust, nowhere, state_of, trust_in}
 use Rattle.ssh_transport.specs.Handling.{Installs, IsFor, IsOpen, Moves}
-use Rattle.ssh_transport.specs.Saying.{GoesOn, GoesPart, IsFixed, OnlyWrites, nothing_said}
+use Rattle.ssh_transport.specs.Saying.{GoesOn, GoesPart, IsFixed, OnlyWrites}
 use Rattle.ssh_transport.specs.States.{after_exchanges, reading_spot, stands_of, state_at}
 use Rattle.ssh_transport.specs.Taking.{Hears, TakesUp}
 use Rattle.ssh_transport.specs.declared.connection.Connection.{Connection}

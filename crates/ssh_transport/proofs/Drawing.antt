@@ -1,24 +1,16 @@
 -- What a side sends of itself is padded, and its cookie drawn, by what the generator gives next.
-use Rattle.std.proofs.Common.{◌≡◌, ℕ, ◌<◌, ◌++◌, List, length, Some, None, Bool, true, false, Result, Ok, Err, IfErr, IfOk, IsOk, OnOk, OnErr, is_ok, refl, sym, ap, ◌∙◌, subst, inl, inr}
+use Rattle.std.proofs.Common.{◌≡◌, ℕ, ◌<◌, ◌++◌, List, length, Bool, true, false, Result, Ok, Err, IfErr, IfOk, IsOk, OnOk, OnErr, is_ok, refl, sym, ap, ◌∙◌, subst, inl, inr}
 use Rattle.rand_core.specs.Stream.{Stream}
 use Rattle.ssh_wire.specs.Reading.{IdReading}
 use Rattle.ssh_wire.specs.declared.error.Error.{Error}
-use Rattle.ssh_wire.specs.declared.side.Side.{Side}
-use Rattle.ssh_wire.specs.declared.side.Side.TheVariants.{Client, Server}
-use Rattle.ssh_negotiate.specs.Reading.{behind_cookie, kexinit_drawn}
-use Rattle.ssh_negotiate.specs.declared.kex.KexCause.{KexCause}
-use Rattle.ssh_packet.specs.Sealing.{IsAdmissible, item_of}
 use Rattle.ssh_packet.specs.Writing.{Sends, Writer}
 use Rattle.ssh_kex.specs.Refusals.{Denies}
 use Rattle.ssh_kex.specs.Setting.{Says}
-use Rattle.ssh_kex.specs.Stages.{Machine}
-use Rattle.ssh_kex.specs.declared.config.Config.{Config}
 use Rattle.ssh_kex.specs.declared.exchange.ServerHost.{ServerHost}
 use Rattle.ssh_rules.specs.Log.{sent_bytes}
 use Rattle.ssh_rules.specs.Machine.{SideState}
 use Rattle.ssh_rules.specs.Standing.{RefusalCause, Standing}
-use Rattle.ssh_transport.specs.Drawing.{AtMostNext, DrawsFirst, GoesNext, OpensDrawn, kexinit_packet, packet_with, writing_at}
-use Rattle.ssh_transport.specs.Kexinits.{setting_between}
+use Rattle.ssh_transport.specs.Drawing.{AtMostNext, DrawsFirst, GoesNext, OpensDrawn, packet_with, writing_at}
 use Rattle.ssh_transport.specs.Saying.{GoesOn, IsUnsaid}
 use Rattle.ssh_transport.specs.States.{is_silent, standing_of, stands_of, with_more}
 use Rattle.ssh_transport.specs.Stopping.{IsAsBefore, Stops, WantsKeys}
@@ -26,33 +18,11 @@ use Rattle.ssh_transport.specs.Submitting.{Breaks, HoldsAlone}
 use Rattle.ssh_transport.specs.Taking.{PollsOne, Reads, read_by}
 use Rattle.ssh_transport.specs.declared.connection.Connection.{Connection}
 use Rattle.ssh_transport.specs.declared.session.Session.{Session}
-use Rattle.ssh_transport.proofs.Kexinits.{between_config, between_side, sends_item}
+use Rattle.ssh_transport.proofs.Kexinits.{sends_item}
 
 -- a payload that isn't empty goes behind the output
-sent_next : (w w' : Writer) (payload : List ℕ) (stream : Stream) → 0 < length payload → Sends w payload stream w' → w'.output ≡ w.output ++ packet_with (writing_at w) payload stream
+pub sent_next : (w w' : Writer) (payload : List ℕ) (stream : Stream) → 0 < length payload → Sends w payload stream w' → w'.output ≡ w.output ++ packet_with (writing_at w) payload stream
 sent_next w w' payload stream l h = ap (λ (x : Writer). x.output) (sends_item w w' payload stream l h)
-
--- ---- a KEXINIT
-
-pub client_drawn : (side : Side) (config : Config) (w w' : Writer) (stream : Stream) (answer : Result (Unit {0}) Error) → side ≡ Client
-    → OnOk answer (Sends w (kexinit_drawn config.preferred None stream) (behind_cookie stream) w')
-    → OnOk answer (IsAdmissible w.sealing (item_of w.sealing (kexinit_drawn config.preferred None stream) (behind_cookie stream)))
-    → OnOk answer (w'.output ≡ w.output ++ kexinit_packet side config (writing_at w) stream)
-client_drawn side config w w' stream (Ok u) e h a = subst (λ (x : Side). w'.output ≡ w.output ++ kexinit_packet x config (writing_at w) stream) (sym e) (sent_next w w' (kexinit_drawn config.preferred None stream) (behind_cookie stream) a.payload h)
-client_drawn side config w w' stream (Err x) e h a = tt
-
-pub server_drawn : (side : Side) (config : Config) (w w' : Writer) (stream : Stream) (answer : Result (Unit {0}) Error) → side ≡ Server
-    → OnOk answer (Sends w (kexinit_drawn config.preferred (Some config.host) stream) (behind_cookie stream) w')
-    → OnOk answer (IsAdmissible w.sealing (item_of w.sealing (kexinit_drawn config.preferred (Some config.host) stream) (behind_cookie stream)))
-    → OnOk answer (w'.output ≡ w.output ++ kexinit_packet side config (writing_at w) stream)
-server_drawn side config w w' stream (Ok u) e h a = subst (λ (x : Side). w'.output ≡ w.output ++ kexinit_packet x config (writing_at w) stream) (sym e) (sent_next w w' (kexinit_drawn config.preferred (Some config.host) stream) (behind_cookie stream) a.payload h)
-server_drawn side config w w' stream (Err x) e h a = tt
-
--- that of the machine which a side makes
-pub opened_drawn : (s : Session) (m : Machine) (w' : Writer) (cause : KexCause) (peer : List ℕ) (stream : Stream) → m.setting ≡ setting_between s.side s.config.now peer cause → w'.output ≡ s.writer.output ++ kexinit_packet m.setting.side m.setting.config (writing_at s.writer) stream → w'.output ≡ s.writer.output ++ kexinit_packet s.side s.config.now (writing_at s.writer) stream
-opened_drawn s m w' cause peer stream e h =
-    subst (λ (x : Config). w'.output ≡ s.writer.output ++ kexinit_packet s.side x (writing_at s.writer) stream) (ap (λ x. x.config) e ∙ between_config s.side s.config.now peer cause)
-    (subst (λ (x : Side). w'.output ≡ s.writer.output ++ kexinit_packet x m.setting.config (writing_at s.writer) stream) (ap (λ x. x.side) e ∙ between_side s.side s.config.now peer cause) h)
 
 -- ---- a payload
 

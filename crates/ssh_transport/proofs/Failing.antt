@@ -1,5 +1,5 @@
 -- A piece that is refused, as contracts see it.
-use Rattle.std.proofs.Common.{◌≡◌, ℕ, List, [], ◌++◌, take, drop, Result, Ok, Err, IfErr, OnErr, OnOk, refl, sym, ap, ◌∙◌, subst, append_assoc, append-nil, ◌⊎◌, inl, inr}
+use Rattle.std.proofs.Common.{◌≡◌, ℕ, List, [], ◌++◌, take, drop, Result, Ok, Err, IfErr, OnErr, refl, sym, ap, ◌∙◌, subst, append_assoc, append-nil, ◌⊎◌, inl, inr}
 use Rattle.std.proofs.lemmas.List.{take-append-drop}
 use Rattle.std.specs.Borrow.{Bor}
 use Rattle.ssh_wire.specs.Lines as lines
@@ -15,17 +15,16 @@ use Rattle.ssh_kex.specs.Refusals.{Denies}
 use Rattle.ssh_kex.specs.Setting.{Says}
 use Rattle.ssh_kex.specs.declared.config.Config.{Config}
 use Rattle.ssh_kex.specs.declared.exchange.ServerHost.{ServerHost}
-use Rattle.ssh_rules.specs.Answering.{AnswersAll}
-use Rattle.ssh_rules.specs.Asking.{AsksUntil, AsksWithin, PartCalls, RefusesAsking}
+use Rattle.ssh_rules.specs.Asking.{AsksUntil, PartCalls, RefusesAsking}
 use Rattle.ssh_rules.specs.Log.{delivered_in, read_bytes, sent_bytes}
 use Rattle.ssh_rules.specs.Machine.{Event, SideState, Steps}
 use Rattle.ssh_rules.specs.Refusing.{AnswersCause, RefusesPiece, RefusesPieceAsking}
-use Rattle.ssh_rules.specs.Standing.{HearsBy, IsIdleBefore, IsNoId, OfFault, OfMemory, OfPacket, OfVersion, ReadsLineFrom, RefusalCause, Standing, lets_pass}
+use Rattle.ssh_rules.specs.Standing.{HearsBy, IsIdleBefore, IsNoId, OfFault, OfMemory, OfPacket, OfVersion, ReadsLineFrom, RefusalCause, Standing, lets_pass, nothing_said}
 use Rattle.ssh_rules.proofs.Lemmas.{asking_kept, begun_steps, delivered_more, piece_asking_kept, piece_kept, read_join, refused_few, sent_join, steps_join}
-use Rattle.ssh_transport.specs.Asking.{AsksBetween, AsksTo, PartTally}
+use Rattle.ssh_transport.specs.Asking.{AsksTo}
 use Rattle.ssh_transport.specs.Handling.{IsHeard}
 use Rattle.ssh_transport.specs.Kept.{IsLive}
-use Rattle.ssh_transport.specs.Saying.{IsFixed, nothing_said}
+use Rattle.ssh_transport.specs.Saying.{IsFixed}
 use Rattle.ssh_transport.specs.States.{bare_of, emptied, reading_spot, standing_of, state_at}
 use Rattle.ssh_transport.specs.Stopping.{Fails, HearsNot, HearsNothing, IsAsBefore, Stops}
 use Rattle.ssh_transport.specs.Submitting.{Breaks}
@@ -244,13 +243,3 @@ piece_asked says denies untrusted n n' c mid c' piece error x b r f = piece_aski
 pub piece_answer : {T : Type 0} (says : Says) (denies : Denies) (untrusted : ServerHost → Type 0) (n n' : PartCalls) (c mid c' : Connection) (piece : List ℕ) (answer done : Result T Error) → done ≡ answer → IsFixed c.session mid.session → OnErr answer (Breaks (standing_of mid) (standing_of c')) → OnErr answer (IsAsBefore mid.session c'.session) → IfErr answer (λ e. Fails says denies untrusted (AsksTo c.session n n') (emptied c) (c.reader.waiting ++ piece) e mid) → IfErr done (λ e. RefusesPieceAsking says denies untrusted (standing_of c) piece e (standing_of c') n n')
 piece_answer {T} says denies untrusted n n' c mid c' piece (Ok u) done d x b r f = subst (λ (y : Result T Error). IfErr y (λ e. RefusesPieceAsking says denies untrusted (standing_of c) piece e (standing_of c') n n')) (sym d) tt
 piece_answer {T} says denies untrusted n n' c mid c' piece (Err e) done d x b r f = subst (λ (y : Result T Error). IfErr y (λ e. RefusesPieceAsking says denies untrusted (standing_of c) piece e (standing_of c') n n')) (sym d) (piece_asked says denies untrusted n n' c mid c' piece e x b r f)
-
-pub asks_answer : {T : Type 0} (n n' : PartTally) (c mid c' : Connection) (answer done : Result T Error) → done ≡ answer → OnOk answer (c' ≡ mid) → OnOk answer (AsksBetween c.session mid.session n n') → OnOk done (AsksWithin c.session.side (standing_of c).state (standing_of c').state n.calls n'.calls)
-asks_answer {T} n n' c mid c' (Ok u) done d e h = subst (λ (y : Result T Error). OnOk y (AsksWithin c.session.side (standing_of c).state (standing_of c').state n.calls n'.calls)) (sym d)
-    (subst (λ (x : Connection). AsksWithin c.session.side (standing_of c).state (standing_of x).state n.calls n'.calls) (sym e) (record { agreement = (h.within).agreement; hosts = (h.within).hosts; lookups = (h.within).lookups; groups = (h.within).groups }))
-asks_answer {T} n n' c mid c' (Err x) done d e h = subst (λ (y : Result T Error). OnOk y (AsksWithin c.session.side (standing_of c).state (standing_of c').state n.calls n'.calls)) (sym d) tt
-
-pub answers_answer : {T : Type 0} (n n' : PartTally) (c mid c' : Connection) (answer done : Result T Error) → done ≡ answer → OnOk answer (c' ≡ mid) → OnOk answer (AsksBetween c.session mid.session n n') → OnOk done (AnswersAll c.session.side (standing_of c).state (standing_of c').state n.tests n'.tests)
-answers_answer {T} n n' c mid c' (Ok u) done d e h = subst (λ (y : Result T Error). OnOk y (AnswersAll c.session.side (standing_of c).state (standing_of c').state n.tests n'.tests)) (sym d)
-    (subst (λ (x : Connection). AnswersAll c.session.side (standing_of c).state (standing_of x).state n.tests n'.tests) (sym e) (record { agreement = (h.answers).agreement; hosts = (h.answers).hosts; lookups = (h.answers).lookups }))
-answers_answer {T} n n' c mid c' (Err x) done d e h = subst (λ (y : Result T Error). OnOk y (AnswersAll c.session.side (standing_of c).state (standing_of c').state n.tests n'.tests)) (sym d) tt

@@ -18,11 +18,11 @@ use Rattle.ssh_packet.specs.Reading.{Reader}
 use Rattle.ssh_packet.specs.Sealing.{Block, Clear, Gcm, Sealing, sealed_packet}
 use Rattle.ssh_packet.specs.Writing.{Writer}
 use Rattle.ssh_rules.specs.Machine.{Event, ExchangeBegun, IdHeard, Inside, Outside, Silent, Spot, Start, Steps, Where}
-use Rattle.ssh_rules.specs.Standing.{HearsFrom, ReadsLineFrom, WaitsInPart, lets_pass}
+use Rattle.ssh_rules.specs.Standing.{HearsFrom, ReadsLineFrom, WaitsInPart, lets_pass, nothing_said}
 use Rattle.ssh_transport.specs.Handling.{IsHeard}
 use Rattle.ssh_transport.specs.Hearing.{BeginsWhere, EndsBy, HearsLine}
 use Rattle.ssh_transport.specs.Kept.{IsLive}
-use Rattle.ssh_transport.specs.Saying.{Begins, nothing_said}
+use Rattle.ssh_transport.specs.Saying.{Begins}
 use Rattle.ssh_transport.specs.States.{WaitsBehind, emptied, heard_of, is_silent, reading_spot, stands_of, state_at, with_more}
 use Rattle.ssh_transport.specs.Taking.{Hears}
 use Rattle.ssh_transport.specs.declared.connection.Connection.{Connection}

@@ -17,11 +17,10 @@ use Rattle.ssh_kex.specs.declared.config.Config.{Config}
 use Rattle.ssh_rules.specs.Log.{delivered_in, handled, read_bytes, sent_bytes}
 use Rattle.ssh_rules.specs.Machine.{Event, Spot, Steps}
 use Rattle.ssh_rules.specs.Polling.{LendsPayload, Polls}
-use Rattle.ssh_rules.specs.Standing.{HearsFrom, HearsNone, IsInput, ReadsLineFrom, Standing, TakesInput, WaitsInPart, lets_pass, unfinished_by}
+use Rattle.ssh_rules.specs.Standing.{HearsFrom, HearsNone, IsInput, ReadsLineFrom, Standing, TakesInput, WaitsInPart, lets_pass, unfinished_by, nothing_said}
 use Rattle.ssh_rules.proofs.Lemmas.{delivered_more, handled_more, kept_line, read_join, sent_join, steps_join, takes_kept}
 use Rattle.ssh_transport.specs.Handling.{IsHeard}
 use Rattle.ssh_transport.specs.Kept.{IsKept, IsLive}
-use Rattle.ssh_transport.specs.Saying.{nothing_said}
 use Rattle.ssh_transport.specs.States.{CanBegin, WaitsBehind, bare_of, emptied, heard_of, reading_spot, standing_of, state_at}
 use Rattle.ssh_transport.specs.Taking.{Goes, Hears, Lends, LendsBehind, PollsOne, Reads, Takes, TakesPayload, lent_by, read_by}
 use Rattle.ssh_transport.specs.declared.connection.Connection.{Connection}

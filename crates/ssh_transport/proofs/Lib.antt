@@ -2,6 +2,7 @@ pub mod Answered
 pub mod Answering
 pub mod Appending
 pub mod Asking
+pub mod Coming
 pub mod Configs
 pub mod Denying
 pub mod Drawing
@@ -29,4 +30,6 @@ pub mod Stored
 pub mod Turning
 pub mod Wanting
 pub mod Weaker
+pub mod Sending
+pub mod Serving
 pub mod Lemmas

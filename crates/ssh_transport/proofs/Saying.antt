@@ -17,11 +17,11 @@ use Rattle.ssh_kex.specs.declared.config.Config.{Config}
 use Rattle.ssh_rules.specs.Log.{asked, asked_in, causes_in, delivered_in, handled, sent_bytes, submitted_in}
 use Rattle.ssh_rules.specs.Machine.{BeginsExchange, Cause, Event, ExchangeBegun, IdHeard, PayloadSubmitted, AnswerSent, PayloadSent, MessageTaken, GuessDropped, PayloadDelivered, PacketDropped, ExchangeFinished, Inside, MayBegin, Outside, ReadLimit, SendsPayload, SideState, Silent, Spot, Steps, Where, WriteLimit, is_answering, cause_of}
 use Rattle.ssh_rules.specs.MessageTypes.{is_payload_type}
-use Rattle.ssh_rules.specs.Standing.{HearsNone, is_outside}
+use Rattle.ssh_rules.specs.Standing.{HearsNone, is_outside, nothing_said}
 use Rattle.ssh_rules.specs.Valid.{is_bad_size, is_good_payload}
 use Rattle.ssh_rules.proofs.Lemmas.{sent_join, steps_join}
 use Rattle.ssh_transport.specs.Kexinits.{SendsKexinit, setting_between}
-use Rattle.ssh_transport.specs.Saying.{AreGood, Begins, GoesOn, GoesPart, IsSettled, IsUnsaid, OnlyWrites, Opens, Writes, nothing_said}
+use Rattle.ssh_transport.specs.Saying.{AreGood, Begins, GoesOn, GoesPart, IsSettled, IsUnsaid, OnlyWrites, Opens, Writes}
 use Rattle.ssh_transport.specs.States.{heard_of, stands_of, state_at}
 use Rattle.ssh_transport.specs.declared.session.Session.{Session}
 use Rattle.ssh_transport.proofs.Kexinits.{between_config, between_side, sends_item}

@@ -12,9 +12,9 @@ use Rattle.ssh_packet.specs.Sealing.{Item, IsAdmissible, IsPadded, item_of, seal
 use Rattle.ssh_packet.specs.Writing.{Writer, Sends, with_item}
 use Rattle.ssh_kex.specs.Setting.{Says}
 use Rattle.ssh_rules.specs.Machine.{Asked, ExchangeBegun, Outside, PayloadSent, PayloadSubmitted, SendsPayload, Silent, Spot}
-use Rattle.ssh_rules.specs.Standing.{BeginsAsked, Rekeyed, RekeyedFrom, Standing, Submitted, is_outside, line_with, waiting_with}
+use Rattle.ssh_rules.specs.Standing.{BeginsAsked, Rekeyed, RekeyedFrom, Standing, Submitted, is_outside, line_with, waiting_with, nothing_said}
 use Rattle.ssh_rules.specs.Valid.{is_good_payload}
-use Rattle.ssh_transport.specs.Saying.{AreGood, Begins, GoesOn, IsSettled, nothing_said}
+use Rattle.ssh_transport.specs.Saying.{AreGood, Begins, GoesOn, IsSettled}
 use Rattle.ssh_transport.specs.States.{CanBegin, heard_of, reading_spot, standing_of, stands_of, state_at}
 use Rattle.ssh_transport.specs.Submitting.{Breaks, Submits}
 use Rattle.ssh_transport.specs.declared.connection.Connection.{Connection}

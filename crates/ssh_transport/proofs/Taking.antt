@@ -15,11 +15,11 @@ use Rattle.ssh_kex.specs.Setting.{Says}
 use Rattle.ssh_kex.specs.declared.config.Config.{Config}
 use Rattle.ssh_rules.specs.Log.{asked_in, causes_in, delivered_in, handled, read_bytes, sent_bytes, submitted_in}
 use Rattle.ssh_rules.specs.Machine.{AnswerSent, Event, ExchangeBegun, ExchangeFinished, GuessDropped, IdHeard, MessageTaken, PacketDropped, PayloadDelivered, PayloadSent, PayloadSubmitted, Spot, Steps, spot_after, spot_renumbered}
-use Rattle.ssh_rules.specs.Standing.{HearsNone, IsInput, WaitsInPart}
+use Rattle.ssh_rules.specs.Standing.{HearsNone, IsInput, WaitsInPart, nothing_said}
 use Rattle.ssh_rules.proofs.Lemmas.{asked_more, causes_more, delivered_more, handled_more, read_join, sent_join, steps_join, submitted_more}
 use Rattle.ssh_transport.specs.Handling.{DoesWith, Handles, IsReadAt, delivered_by, read_behind, spot_behind}
 use Rattle.ssh_transport.specs.Kept.{IsLive}
-use Rattle.ssh_transport.specs.Saying.{GoesOn, IsFixed, OnlyWrites, Writes, nothing_said}
+use Rattle.ssh_transport.specs.Saying.{GoesOn, IsFixed, OnlyWrites, Writes}
 use Rattle.ssh_transport.specs.States.{reading_spot, state_at, with_more}
 use Rattle.ssh_transport.specs.Taking.{Goes, HandlesOne, IfPacket, Lends, PollsOne, Reads, TakesUp, Took, count_up, kept_by, read_as, spot_up}
 use Rattle.ssh_transport.specs.declared.connection.Connection.{Connection}

@@ -26,12 +26,12 @@ use Rattle.ssh_rules.specs.Machine.{Event, Outside, SideState, Steps}
 use Rattle.ssh_rules.specs.MessageTypes.{is_kex_type, type_of}
 use Rattle.ssh_rules.specs.Polling.{EndsLine, IsCostly, MayWant, WantsBehind}
 use Rattle.ssh_rules.specs.Refusing.{RefusesPacket}
-use Rattle.ssh_rules.specs.Standing.{HearsFrom, OfMemory, ReadsLineFrom, RefusalCause, lets_pass, line_with}
+use Rattle.ssh_rules.specs.Standing.{HearsFrom, OfMemory, ReadsLineFrom, RefusalCause, lets_pass, line_with, nothing_said}
 use Rattle.ssh_rules.proofs.Lemmas.{delivered_more, handled_more, kept_line, read_join, steps_join}
 use Rattle.ssh_transport.specs.Handling.{IsHeard}
 use Rattle.ssh_transport.specs.Hearing.{EndsBy}
 use Rattle.ssh_transport.specs.Kept.{IsLive}
-use Rattle.ssh_transport.specs.Saying.{GoesPart, IsFixed, nothing_said}
+use Rattle.ssh_transport.specs.Saying.{GoesPart, IsFixed}
 use Rattle.ssh_transport.specs.States.{emptied, heard_of, reading_spot, standing_of, stands_of, state_at}
 use Rattle.ssh_transport.specs.Stopping.{Refuses, Stops, Wants, WantsKeys}
 use Rattle.ssh_transport.specs.Taking.{HandlesOne, Hears, Reads, TakesUp, count_up}

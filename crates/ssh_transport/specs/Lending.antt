@@ -5,6 +5,7 @@ use Rattle.std.specs.Io.BufRead.{Rests}
 use mir.Syntax.{named}
 use Rattle.rand_core.specs.Stream.{Stream}
 use Rattle.ssh_wire.specs.declared.error.Error.{Error}
+use Rattle.ssh_wire.specs.declared.side.Side.{Side}
 use Rattle.ssh_wire.specs.declared.error.Error.TheVariants.{Disconnect}
 use Rattle.ssh_kex.specs.Refusals.{Denies}
 use Rattle.ssh_kex.specs.Setting.{Says}
@@ -16,6 +17,7 @@ use Rattle.ssh_rules.specs.Refusing.{RefusesPiece}
 use Rattle.ssh_rules.specs.Standing.{Standing, unfinished}
 use Rattle.ssh_transport.specs.Asking.{PartTally}
 use Rattle.ssh_transport.specs.Drawing.{DrawsFirst}
+use Rattle.ssh_transport.specs.Sending.{SendsBetween}
 use Rattle.ssh_transport.specs.contracts.transport.Transport.{the_row}
 
 -- the payload that is lent
@@ -36,7 +38,7 @@ queued_by (Some payload) t = queued t payload
 -- What a call that lends the next payload leaves, when the loan is over. The parts had been asked and had answered so
 -- often before and so often behind it, and its generator was at one stream and then at the other.
 pub record PollsAs (says : Says) (denies : Denies) (untrusted : ServerHost → Type 0) (n n' : PartTally)
-    (stream stream' : Stream) (old : Standing) (result : Result (Option (Bor (List ℕ))) (Bor Error)) (new : Standing) : Type 0 where
+    (Made : Side → Stream → Stream → Type 0) (stream stream' : Stream) (old : Standing) (result : Result (Option (Bor (List ℕ))) (Bor Error)) (new : Standing) : Type 0 where
   pub dead : old.failed ≡ true → IsRefusedWith result Disconnect × (new ≡ old)
   pub stays : (new.side ≡ old.side) × (new.config ≡ old.config)
   pub lives : old.failed ≡ false → OnOk result (new.failed ≡ false)
@@ -49,8 +51,10 @@ pub record PollsAs (says : Says) (denies : Denies) (untrusted : ServerHost → T
   pub few : IfOk result (λ lent. AsksFew says old (queued_by (payload_in lent) new) n.calls n'.calls)
   pub asks_refused : old.failed ≡ false → OnErr result (RefusesAsking says old [] new n.calls n'.calls)
   pub drawn : DrawsFirst (new.failed ≡ false) old new stream stream'
+  pub sends : OnOk result (SendsBetween Made old new stream stream')
 
-abbrev pub LendsPoll : Says → Denies → (ServerHost → Type 0) → (n n' : PartTally) → (stream stream' : Stream)
+abbrev pub LendsPoll : Says → Denies → (ServerHost → Type 0) → (n n' : PartTally) → (Made : Side → Stream → Stream → Type 0)
+    → (stream stream' : Stream)
     → MutBor Standing → Result (Option (Bor (List ℕ))) (Bor Error) → Fml
-LendsPoll says denies untrusted n n' stream stream' s result =
-    Rests (the_row (record { mir = named 1; lft = [] })) s (PollsAs says denies untrusted n n' stream stream' s.now result)
+LendsPoll says denies untrusted n n' Made stream stream' s result = Rests (the_row (record { mir = named 1; lft = [] })) s
+    (PollsAs says denies untrusted n n' Made stream stream' s.now result)

@@ -1,5 +1,6 @@
 pub mod Asking
 pub mod Kexinits
+pub mod Coming
 pub mod Drawing
 pub mod Handling
 pub mod Hearing
@@ -12,3 +13,4 @@ pub mod Stopping
 pub mod Submitting
 pub mod Taking
 pub mod Usable
+pub mod Sending

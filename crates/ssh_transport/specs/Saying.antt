@@ -3,11 +3,12 @@ use Rattle.std.specs.Prelude.{◌≡◌, ℕ, true, List, [], ◌∷◌, ◌++�
 use Rattle.ssh_wire.specs.Lines.{id_text}
 use Rattle.ssh_wire.specs.Reading.{text_heard}
 use Rattle.ssh_packet.specs.Sealing.{Item}
-use Rattle.ssh_kex.specs.Setting.{Says, Setting}
+use Rattle.ssh_kex.specs.Setting.{Setting}
 use Rattle.ssh_kex.specs.Stages.{Machine, Created}
 use Rattle.ssh_kex.specs.declared.session_state.SessionKexState.TheVariants.{InProgress}
 use Rattle.ssh_rules.specs.Log.{asked, sent_bytes}
 use Rattle.ssh_rules.specs.Machine.{Event, ExchangeBegun, IdHeard, PayloadSubmitted, AnswerSent, PayloadSent, MessageTaken, GuessDropped, PayloadDelivered, PacketDropped, ExchangeFinished, IsQuiet, Spot, Steps, cause_of}
+use Rattle.ssh_rules.specs.Standing.{nothing_said}
 use Rattle.ssh_rules.specs.Valid.{is_good_payload}
 use Rattle.ssh_transport.specs.Kexinits.{SendsKexinit, setting_between}
 use Rattle.ssh_transport.specs.States.{CanBegin, state_at}
@@ -50,21 +51,6 @@ IsFixedIn c c' = IsFixed c.session c'.session × (c'.failed ≡ c.failed)
 -- Whose it is, the version line and what is held stay, and an exchange can be begun.
 abbrev pub Stays : Session → Session → Type 0
 Stays s s' = CanBegin s' × (s'.line ≡ s.line) × (s'.held ≡ s.held) × IsFixed s s'
-
--- nothing is said of the parts, since none is asked
-abbrev pub nothing_said : Says
-nothing_said = record {
-  agrees = λ name group client server secret. Unit {0};
-  client_makes = λ name group local public. Unit {0};
-  server_makes = λ name group client public. Unit {0};
-  finds = λ sizes group. Unit {0};
-  signs = λ host hash signature. Unit {0};
-  accepts = λ host hash signature. Unit {0};
-  trusts = λ host. Unit {0};
-  offers = λ name. Unit {0};
-  value_small = λ value. Unit {0};
-  signature_small = λ signature. Unit {0};
-}
 
 -- exchanges that the caller didn't ask for, and payloads, are all that is written
 abbrev pub OnlyWrites : List Event → Type 0

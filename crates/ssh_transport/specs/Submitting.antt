@@ -5,8 +5,8 @@ use Rattle.ssh_wire.specs.Lines.{id_text}
 use Rattle.ssh_kex.specs.declared.parts.Parts.{Parts}
 use Rattle.ssh_rules.specs.Log.{sent_bytes}
 use Rattle.ssh_rules.specs.Machine.{Event, PayloadSubmitted, Spot, Steps}
-use Rattle.ssh_rules.specs.Standing.{Standing, unfinished}
-use Rattle.ssh_transport.specs.Saying.{AreGood, IsSettled, OnlyWrites, nothing_said}
+use Rattle.ssh_rules.specs.Standing.{Standing, unfinished, nothing_said}
+use Rattle.ssh_transport.specs.Saying.{AreGood, IsSettled, OnlyWrites}
 use Rattle.ssh_transport.specs.States.{state_at}
 use Rattle.ssh_transport.specs.declared.session.Session.{Session}
 

@@ -9,9 +9,8 @@ use Rattle.ssh_kex.specs.Setting.{Says}
 use Rattle.ssh_rules.specs.Log.{delivered_in, handled, read_bytes, sent_bytes}
 use Rattle.ssh_rules.specs.Machine.{Event, Spot, Steps, spot_renumbered}
 use Rattle.ssh_rules.specs.MessageTypes.{is_kex_type, type_of}
-use Rattle.ssh_rules.specs.Standing.{HearsNone, IsInput, ReadsLineFrom, WaitsInPart}
+use Rattle.ssh_rules.specs.Standing.{HearsNone, IsInput, ReadsLineFrom, WaitsInPart, nothing_said}
 use Rattle.ssh_transport.specs.Handling.{Handles, IsHeard, IsReadAt, delivered_by}
-use Rattle.ssh_transport.specs.Saying.{nothing_said}
 use Rattle.ssh_transport.specs.States.{emptied, reading_spot, state_at}
 use Rattle.ssh_transport.specs.declared.connection.Connection.{Connection}
 use Rattle.ssh_transport.specs.declared.connection.PacketRead.{PacketRead}

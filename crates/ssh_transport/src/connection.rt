@@ -42,13 +42,14 @@ pub(crate) enum PacketRead {
 
 impl<'c> Connection<'c> {
     ghost use Rattle.ssh_packet.specs.Reading.{window_length};
-    ghost use Rattle.ssh_rules.specs.Standing.{IsNew, Rekeyed, Submitted, WaitsInPart, input_room, is_outside, unfinished, with_input};
+    ghost use Rattle.ssh_rules.specs.Standing.{IsNew, Rekeyed, Submitted, WaitsInPart, input_room, is_outside, nothing_said, unfinished, with_input};
     ghost use Rattle.ssh_wire.specs.Reading.{waiting_length};
     ghost use Rattle.ssh_transport.specs.Drawing.{AtMostNext, DrawsFirstIn, DrawsFirstOn, GoesNext, OpensDrawn, kexinit_packet, packet_with};
     ghost use Rattle.ssh_transport.specs.Handling.{IsHeard, IsOpen};
     ghost use Rattle.ssh_transport.specs.Hearing.{EndsBy};
     ghost use Rattle.ssh_transport.specs.Kept.{IsKept, IsLive};
-    ghost use Rattle.ssh_transport.specs.Saying.{IsFixed, IsFixedIn, nothing_said};
+    ghost use Rattle.ssh_transport.specs.Saying.{IsFixed, IsFixedIn};
+    ghost use Rattle.ssh_transport.specs.Sending.{NoneMade, SendsBetween, WritesDrawn};
     ghost use Rattle.ssh_transport.specs.States.{CanBegin, IsUnheard, WaitsBehind, emptied, reading_spot, standing_of, with_more};
     ghost use Rattle.ssh_transport.specs.Stopping.{HearsNothing, IsAsBefore};
     ghost use Rattle.ssh_transport.specs.Submitting.{AnswersAlone, Breaks, DrawsAlone, HoldsAlone};
@@ -97,8 +98,7 @@ impl<'c> Connection<'c> {
         ensures refused { self.old.failed ≡ false → IfErr result
             (λ e. ⟦<Parts<A, H, G, R> as Served>⟧.refuses_piece self.old parts.old parts.new piece.now e self.new) }
         ensures keeps { ⟦<Parts<A, H, G, R> as Handed>⟧.keeps parts.old parts.new }
-        ensures asks { OnOk result (⟦<Parts<A, H, G, R> as Served>⟧.asks_within self.old self.new parts.old parts.new) }
-        ensures answers { OnOk result (⟦<Parts<A, H, G, R> as Served>⟧.answers self.old self.new parts.old parts.new) }
+        ensures serves { OnOk result (⟦<Parts<A, H, G, R> as Served>⟧.serves self.old self.new parts.old parts.new) }
         ensures asked { self.old.failed ≡ false → OnErr result (⟦<Parts<A, H, G, R> as Served>⟧.asks_refusing self.old
             parts.old parts.new piece.now self.new) }
         ensures refused_few { self.old.failed ≡ false → IfErr result
@@ -134,8 +134,7 @@ impl<'c> Connection<'c> {
             self.old parts.old }
         ensures unqueued { self.new.delivered.items ≡ self.old.delivered.items }
         ensures keeps { ⟦<Parts<A, H, G, R> as Handed>⟧.keeps parts.old parts.new }
-        ensures asks { OnOk result (⟦<Parts<A, H, G, R> as Served>⟧.asks_within self.old self.new parts.old parts.new) }
-        ensures answers { OnOk result (⟦<Parts<A, H, G, R> as Served>⟧.answers self.old self.new parts.old parts.new) }
+        ensures serves { OnOk result (⟦<Parts<A, H, G, R> as Served>⟧.serves self.old self.new parts.old parts.new) }
         ensures asked { self.old.failed ≡ false → OnErr result (⟦<Parts<A, H, G, R> as Served>⟧.asks_refusing self.old
             parts.old parts.new [] self.new) }
     {
@@ -255,6 +254,8 @@ impl<'c> Connection<'c> {
         ensures drawn { is_outside (standing_of self.old).state.stands ≡ true → OnOk result
             (GoesNext (standing_of self.old).output (packet_with (standing_of self.old).state.writing payload.now
             (R.stream parts.old.rng)) (standing_of self.new).output) }
+        ensures sends { OnOk result (SendsBetween NoneMade (standing_of self.old) (standing_of self.new)
+            (R.stream parts.old.rng) (R.stream parts.new.rng)) }
         ensures held { is_outside (standing_of self.old).state.stands ≡ false → (parts.new ≡ parts.old)
             × HoldsAlone result (standing_of self.old) (standing_of self.new) }
         ensures leaves { self.old.failed ≡ false → is_good_payload payload.now ≡ true → OnErr result
@@ -291,6 +292,8 @@ impl<'c> Connection<'c> {
         ensures drawn { is_outside (standing_of self.old).state.stands ≡ true → OnOk result
             ((standing_of self.new).output ≡ (standing_of self.old).output ++ kexinit_packet (standing_of self.old).side
             (standing_of self.old).config (standing_of self.old).state.writing (R.stream parts.old.rng)) }
+        ensures sends { OnOk result (SendsBetween NoneMade (standing_of self.old) (standing_of self.new)
+            (R.stream parts.old.rng) (R.stream parts.new.rng)) }
         ensures leaves { self.old.failed ≡ false → OnErr result
             (((standing_of self.new).state.records ≡ (standing_of self.old).state.records)
             × ((standing_of self.new).output ≡ (standing_of self.old).output)) }
@@ -407,6 +410,8 @@ impl<'c> Connection<'c> {
         ensures drawn { result ≡ Ok true → OpensDrawn self.old.session self.new.session (R.stream rng.old) }
         ensures still { result ≡ Ok false → (self.new.session ≡ record self.old.session
             { line = self.new.session.line }) × (rng.new ≡ rng.old) }
+        ensures wrote { OnOk result (WritesDrawn self.old.session self.new.session (R.stream rng.old)
+            (R.stream rng.new)) }
         ensures fixed { IsFixedIn self.old self.new }
     {
         let Some(used) = self.session.hear(rng, self.reader.unread())? else {

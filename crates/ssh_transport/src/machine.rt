@@ -1,13 +1,14 @@
 //! The machine of an exchange, of either side.
 
-ghost use Rattle.std.specs.Prelude.{◌≡◌, ◌++◌, ◌+◌, ◌≤◌, ◌<◌, ◌^◌, [], Some, IfErr, IfOk, OnErr, OnOk, length, is_some};
+ghost use Rattle.std.specs.Prelude.{◌≡◌, ◌+◌, ◌≤◌, ◌<◌, ◌^◌, [], Some, IfErr, IfOk, OnErr, OnOk, length, is_some};
+ghost use Rattle.ssh_kex.specs.Drawing.{StepDraws};
 ghost use Rattle.ssh_kex.specs.Refusals.{IsCreated};
 ghost use Rattle.ssh_kex.specs.Stages.{Created, is_strict, names_in_stage, has_ignored};
 ghost use Rattle.ssh_kex.specs.Stepping.{Progresses, RefusesStep, next_of};
 ghost use Rattle.ssh_packet.specs.Sealing.{Item};
 ghost use Rattle.ssh_packet.specs.Writing.{SameButRoom};
-ghost use Rattle.ssh_transport.specs.Drawing.{kexinit_packet, writing_at};
 ghost use Rattle.ssh_transport.specs.Kexinits.{SendsKexinit, setting_between};
+ghost use Rattle.ssh_transport.specs.Sending.{DrawnBySide, PutsKexinit};
 ghost use Rattle.ssh_transport.specs.Usable.{IsUsable};
 ghost use Rattle.ssh_wire.specs.declared.error.Error.TheVariants.{Memory};
 ghost use Rattle.ssh_wire.specs.declared.side.Side.TheVariants.{Client as client_side, Server as server_side};
@@ -90,8 +91,8 @@ impl<'c> SessionKex<'c> {
         ensures sent { OnOk result ((item : Item) × SendsKexinit self.old.setting.side self.old.setting.config
             output.old item output.new
             × (self.new ≡ record self.old { stage = Created item.payload })) }
-        ensures drawn { OnOk result (output.new.output ≡ output.old.output ++ kexinit_packet self.old.setting.side
-            self.old.setting.config (writing_at output.old) (R.stream rng.old)) }
+        ensures wrote { OnOk result (PutsKexinit self.old.setting.side self.old.setting.config output.old
+            (R.stream rng.old) output.new (R.stream rng.new)) }
         ensures unchanged { OnErr result ((self.new ≡ self.old) × SameButRoom output.old output.new) }
         ensures err { IfErr result (λ e. e ≡ Memory) }
     {
@@ -145,6 +146,8 @@ impl<'c> SessionKex<'c> {
             parts.old parts.new) }
         ensures goes { IfOk result (λ p. Progresses (⟦<Parts<A, H, G, R> as Handed>⟧.says self.entry.setting.config
             parts.old) self.entry (Some incoming.entry) output.old p output.new) }
+        ensures drawn { OnOk result (StepDraws (DrawnBySide A.client_draws A.server_draws self.entry.setting.side
+            (R.stream parts.old.rng) self.entry.stage (next_of result)) output.old output.new (R.stream parts.new.rng)) }
         ensures causes { IfErr result (λ e. RefusesStep (⟦<Parts<A, H, G, R> as Handed>⟧.says self.entry.setting.config
             parts.old)
             (⟦<Parts<A, H, G, R> as Handed>⟧.denies parts.old parts.new)
@@ -168,8 +171,8 @@ fn client_kexinit<'c, R: Rng>(
     ensures sent { OnOk result ((item : Item) × SendsKexinit kex.old.setting.side kex.old.setting.config output.old item
         output.new
         × (kex.new ≡ record kex.old { stage = Created item.payload })) }
-    ensures drawn { OnOk result (output.new.output ≡ output.old.output ++ kexinit_packet kex.old.setting.side
-        kex.old.setting.config (writing_at output.old) (R.stream rng.old)) }
+    ensures wrote { OnOk result (PutsKexinit kex.old.setting.side kex.old.setting.config output.old (R.stream rng.old)
+        output.new (R.stream rng.new)) }
     ensures unchanged { OnErr result ((kex.new ≡ kex.old) × SameButRoom output.old output.new) }
     ensures err { IfErr result (λ e. e ≡ Memory) }
 {
@@ -186,8 +189,8 @@ fn server_kexinit<'c, R: Rng>(
     ensures sent { OnOk result ((item : Item) × SendsKexinit kex.old.setting.side kex.old.setting.config output.old item
         output.new
         × (kex.new ≡ record kex.old { stage = Created item.payload })) }
-    ensures drawn { OnOk result (output.new.output ≡ output.old.output ++ kexinit_packet kex.old.setting.side
-        kex.old.setting.config (writing_at output.old) (R.stream rng.old)) }
+    ensures wrote { OnOk result (PutsKexinit kex.old.setting.side kex.old.setting.config output.old (R.stream rng.old)
+        output.new (R.stream rng.new)) }
     ensures unchanged { OnErr result ((kex.new ≡ kex.old) × SameButRoom output.old output.new) }
     ensures err { IfErr result (λ e. e ≡ Memory) }
 {

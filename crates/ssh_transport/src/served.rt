@@ -4,14 +4,14 @@ ghost use Rattle.std.specs.Prelude.{Bool, ℕ, List, Option};
 ghost use Rattle.ssh_kex.specs.Stages.{Machine, Stage};
 ghost use Rattle.ssh_packet.specs.Stream.{message_type};
 ghost use Rattle.ssh_packet.specs.declared.reader.Incoming.{Incoming};
-ghost use Rattle.ssh_rules.specs.Answering.{AnswersAll};
-ghost use Rattle.ssh_rules.specs.Asking.{AsksForMessage, AsksForType, AsksWithin, RefusesAsking};
+ghost use Rattle.ssh_rules.specs.Asking.{AsksForMessage, AsksForType, RefusesAsking};
 ghost use Rattle.ssh_rules.specs.Machine.{Inside};
 ghost use Rattle.ssh_rules.specs.Polling.{MayWant, Polls};
 ghost use Rattle.ssh_rules.specs.Refusing.{RefusesPiece, RefusesPieceAsking};
 ghost use Rattle.ssh_rules.specs.Standing.{TakesInput};
-ghost use Rattle.ssh_transport.specs.Asking.{AsksBetween, AsksTo, MoveAsks, StepAnswers, StepCalls, tally};
+ghost use Rattle.ssh_transport.specs.Asking.{AsksTo, StepAnswers, StepCalls, tally};
 ghost use Rattle.ssh_transport.specs.Handling.{Handles, Moves};
+ghost use Rattle.ssh_transport.specs.Sending.{MadeBy, MoveServes, ServesBetween, ServesCall};
 ghost use Rattle.ssh_transport.specs.States.{emptied, standing_of, stands_of};
 ghost use Rattle.ssh_transport.specs.Stopping.{Fails, Refuses, RefusesMove, Stops, Wants};
 ghost use Rattle.ssh_transport.specs.Taking.{HandlesOne, PollsOne, Reads, Takes, TakesPayload, lent_by};
@@ -22,6 +22,7 @@ ghost use Rattle.ssh_transport.specs.declared.session.Session.{Session};
 ghost use Rattle.ssh_wire.specs.Orders.{is_kex};
 ghost use Rattle.ssh_wire.specs.declared.error.Error.{Error};
 
+use rand_core::Rng;
 use ssh_kex::{Agreement, GroupLookup, Handed, HostKeys, Parts};
 use ssh_rules::Asked;
 
@@ -34,17 +35,16 @@ pub trait Served {
 
     ghost refuses_piece: { Connection → Self → Self → List ℕ → Error → Connection → Type 0 };
 
-    // How often the parts were asked: where all was taken, and up to a refusal.
-    ghost asks_within: { Connection → Connection → Self → Self → Type 0 };
+    // Where all was taken: how often the parts were asked and answered, and what was drawn.
+    ghost serves: { Connection → Connection → Self → Self → Type 0 };
+
+    // How often they were asked up to a refusal.
 
     ghost asks_refusing: { Connection → Self → Self → List ℕ → Connection → Type 0 };
 
     ghost refuses_asking: { Connection → Self → Self → List ℕ → Error → Connection → Type 0 };
 
-    // Where all was taken, each of them answered all that it was asked.
-    ghost answers: { Connection → Connection → Self → Self → Type 0 };
-
-    // How often they were asked between two connections.
+    // How often they were asked between two connections, and what was drawn.
     ghost asks: { Connection → Connection → Self → Self → Type 0 };
 
     // The same by what it holds, of bytes behind what its reader holds.
@@ -68,7 +68,7 @@ pub trait Served {
     ghost may_want: { Connection → Self → Type 0 };
 }
 
-impl<A: Agreement, H: HostKeys, G: GroupLookup, R> Served for Parts<A, H, G, R> {
+impl<A: Agreement, H: HostKeys, G: GroupLookup, R: Rng> Served for Parts<A, H, G, R> {
     ghost feeds = { λ c p piece c'. TakesInput (⟦<Parts<A, H, G, R> as Handed>⟧.says c.session.config.now p)
         (standing_of c) piece (standing_of c') };
 
@@ -79,8 +79,10 @@ impl<A: Agreement, H: HostKeys, G: GroupLookup, R> Served for Parts<A, H, G, R> 
         (⟦<Parts<A, H, G, R> as Handed>⟧.says c.session.config.now p) (⟦<Parts<A, H, G, R> as Handed>⟧.denies p q)
         (⟦<Parts<A, H, G, R> as Asked>⟧.distrusts p q) (standing_of c) piece e (standing_of c') };
 
-    ghost asks_within = { λ c c' p q. AsksWithin c.session.side (standing_of c).state (standing_of c').state
-        (⟦<Parts<A, H, G, R> as Asked>⟧.calls p) (⟦<Parts<A, H, G, R> as Asked>⟧.calls q) };
+    ghost serves = { λ c c' p q. ServesCall (MadeBy A.client_draws A.server_draws) (standing_of c) (standing_of c')
+        (tally (⟦<Parts<A, H, G, R> as Asked>⟧.calls p) (⟦<Parts<A, H, G, R> as Asked>⟧.tests p))
+        (tally (⟦<Parts<A, H, G, R> as Asked>⟧.calls q) (⟦<Parts<A, H, G, R> as Asked>⟧.tests q))
+        (R.stream p.rng) (R.stream q.rng) };
 
     ghost asks_refusing = { λ c p q piece c'. RefusesAsking
         (⟦<Parts<A, H, G, R> as Handed>⟧.says c.session.config.now p) (standing_of c) piece (standing_of c')
@@ -91,12 +93,10 @@ impl<A: Agreement, H: HostKeys, G: GroupLookup, R> Served for Parts<A, H, G, R> 
         (⟦<Parts<A, H, G, R> as Asked>⟧.distrusts p q) (standing_of c) piece e (standing_of c')
         (⟦<Parts<A, H, G, R> as Asked>⟧.calls p) (⟦<Parts<A, H, G, R> as Asked>⟧.calls q) };
 
-    ghost asks = { λ c c' p q. AsksBetween c.session c'.session
+    ghost asks = { λ c c' p q. ServesBetween (MadeBy A.client_draws A.server_draws) c.session c'.session
         (tally (⟦<Parts<A, H, G, R> as Asked>⟧.calls p) (⟦<Parts<A, H, G, R> as Asked>⟧.tests p))
-        (tally (⟦<Parts<A, H, G, R> as Asked>⟧.calls q) (⟦<Parts<A, H, G, R> as Asked>⟧.tests q)) };
-
-    ghost answers = { λ c c' p q. AnswersAll c.session.side (standing_of c).state (standing_of c').state
-        (⟦<Parts<A, H, G, R> as Asked>⟧.tests p) (⟦<Parts<A, H, G, R> as Asked>⟧.tests q) };
+        (tally (⟦<Parts<A, H, G, R> as Asked>⟧.calls q) (⟦<Parts<A, H, G, R> as Asked>⟧.tests q))
+        (R.stream p.rng) (R.stream q.rng) };
 
     ghost takes = { λ c p bytes c'. Takes (⟦<Parts<A, H, G, R> as Handed>⟧.says c.session.config.now p) (emptied c)
         bytes c' };
@@ -140,14 +140,14 @@ pub trait Attended {
     ghost refuses_move: { Machine → Self → Self → Incoming → Error → Type 0 };
 
     // How often the parts were asked: between two sessions, for a message of any type, for one of an exchange, for one
-    // that a machine took or refused.
+    // that a machine took or refused. Where it was taken, what was drawn, too.
     ghost asks: { Session → Session → Self → Self → Type 0 };
 
     ghost asks_for: { Session → Incoming → Self → Self → Type 0 };
 
     ghost asks_for_message: { Session → Self → Self → Type 0 };
 
-    ghost asks_for_move: { Machine → Session → Self → Self → Type 0 };
+    ghost asks_for_move: { Machine → Session → Session → Self → Self → Type 0 };
 
     ghost asks_inside: { Machine → Self → Self → Type 0 };
 
@@ -157,7 +157,7 @@ pub trait Attended {
     ghost answers_step: { Machine → Option Stage → Self → Self → Type 0 };
 }
 
-impl<A: Agreement, H: HostKeys, G: GroupLookup, R> Attended for Parts<A, H, G, R> {
+impl<A: Agreement, H: HostKeys, G: GroupLookup, R: Rng> Attended for Parts<A, H, G, R> {
     ghost handles = { λ s p i handled s'. Handles (⟦<Parts<A, H, G, R> as Handed>⟧.says s.config.now p) s i.seqn
         i.payload.now handled s' };
 
@@ -171,9 +171,10 @@ impl<A: Agreement, H: HostKeys, G: GroupLookup, R> Attended for Parts<A, H, G, R
     ghost refuses_move = { λ m p q i e. RefusesMove (⟦<Parts<A, H, G, R> as Handed>⟧.says m.setting.config p)
         (⟦<Parts<A, H, G, R> as Handed>⟧.denies p q) (⟦<Parts<A, H, G, R> as Asked>⟧.distrusts p q) m i e };
 
-    ghost asks = { λ s s' p q. AsksBetween s s'
+    ghost asks = { λ s s' p q. ServesBetween (MadeBy A.client_draws A.server_draws) s s'
         (tally (⟦<Parts<A, H, G, R> as Asked>⟧.calls p) (⟦<Parts<A, H, G, R> as Asked>⟧.tests p))
-        (tally (⟦<Parts<A, H, G, R> as Asked>⟧.calls q) (⟦<Parts<A, H, G, R> as Asked>⟧.tests q)) };
+        (tally (⟦<Parts<A, H, G, R> as Asked>⟧.calls q) (⟦<Parts<A, H, G, R> as Asked>⟧.tests q))
+        (R.stream p.rng) (R.stream q.rng) };
 
     ghost asks_for = { λ s i p q. AsksForType (is_kex (message_type i.payload.now)) s.side
         (stands_of s.finished.items s.kex) (⟦<Parts<A, H, G, R> as Asked>⟧.calls p)
@@ -182,9 +183,10 @@ impl<A: Agreement, H: HostKeys, G: GroupLookup, R> Attended for Parts<A, H, G, R
     ghost asks_for_message = { λ s p q. AsksForMessage s.side (stands_of s.finished.items s.kex)
         (⟦<Parts<A, H, G, R> as Asked>⟧.calls p) (⟦<Parts<A, H, G, R> as Asked>⟧.calls q) };
 
-    ghost asks_for_move = { λ m s p q. MoveAsks m.setting.side m.stage (stands_of s.finished.items s.kex)
+    ghost asks_for_move = { λ m s s' p q. MoveServes (MadeBy A.client_draws A.server_draws) m s s'
         (tally (⟦<Parts<A, H, G, R> as Asked>⟧.calls p) (⟦<Parts<A, H, G, R> as Asked>⟧.tests p))
-        (tally (⟦<Parts<A, H, G, R> as Asked>⟧.calls q) (⟦<Parts<A, H, G, R> as Asked>⟧.tests q)) };
+        (tally (⟦<Parts<A, H, G, R> as Asked>⟧.calls q) (⟦<Parts<A, H, G, R> as Asked>⟧.tests q))
+        (R.stream p.rng) (R.stream q.rng) };
 
     ghost asks_step = { λ m next p q. StepCalls m.setting.side m.stage next (⟦<Parts<A, H, G, R> as Asked>⟧.calls p)
         (⟦<Parts<A, H, G, R> as Asked>⟧.calls q) };

@@ -3,7 +3,8 @@
 ghost use Rattle.std.specs.Prelude.{◌≡◌, [], ◌++◌, ◌+◌, ◌<◌, ◌≤◌, ◌-◌, if◌then◌else◌, ◌^◌, ◌||◌, ◌&&◌, ◌⊎◌, ℕ, nat_le, not, List, None, Some, Ok, Err, true, false, IfErr, IfOk, IfSome, OnErr, OnOk, length, take};
 ghost use Rattle.ssh_rules.specs.MessageTypes.{is_payload_type, is_violation};
 ghost use Rattle.ssh_transport.specs.Asking.{asks_trust};
-ghost use Rattle.ssh_transport.specs.Drawing.{AtMostNext, GoesNext, OpensDrawn, WritesKexinit, packet_with, writing_at};
+ghost use Rattle.ssh_transport.specs.Drawing.{AtMostNext, GoesNext, OpensDrawn, packet_with, writing_at};
+ghost use Rattle.ssh_transport.specs.Sending.{OpensWith, WritesDrawn};
 ghost use Rattle.ssh_transport.specs.Stopping.{IsDistrusted};
 ghost use Rattle.ssh_transport.specs.declared.session.Handled.TheVariants.{Delivers};
 ghost use Rattle.ssh_packet.specs.Sealing.{next_number};
@@ -126,6 +127,7 @@ impl<'c> Session<'c> {
         ensures line { IfOk result (λ used. HearsLine self.old piece.now used self.new) }
         ensures drawn { IfOk result (λ used. IfSome used (λ _. OpensDrawn self.old self.new (R.stream rng.old))) }
         ensures undrawn { result ≡ Ok None → rng.new ≡ rng.old }
+        ensures wrote { OnOk result (WritesDrawn self.old self.new (R.stream rng.old) (R.stream rng.new)) }
         ensures unheard { IfErr result (λ e. HearsNot self.old piece.now e self.new) }
         ensures ended { IsUnheard self.old → result ≡ Err Memory → EndsBy self.old.side self.old.line piece.now }
     {
@@ -145,7 +147,7 @@ impl<'c> Session<'c> {
     fn open<R: Rng>(&mut self, rng: &mut R) -> Result<SessionKex<'c>, Error>
         requires { CanBegin self.old }
         ensures opens { IfOk result (λ k. Opens self.old k self.new) }
-        ensures drawn { OnOk result (WritesKexinit self.old self.new (R.stream rng.old)) }
+        ensures drawn { OnOk result (OpensWith self.old self.new (R.stream rng.old) (R.stream rng.new)) }
         ensures begins { CanBegin self.new }
         ensures line { self.new.line ≡ self.old.line }
         ensures unsaid { OnErr result (IsUnsaid self.old self.new) }
@@ -163,7 +165,7 @@ impl<'c> Session<'c> {
     pub(crate) fn begin<R: Rng>(&mut self, rng: &mut R) -> Result<(), Error>
         requires { CanBegin self.old }
         ensures begun { OnOk result (Begins self.old self.new) }
-        ensures drawn { OnOk result (WritesKexinit self.old self.new (R.stream rng.old)) }
+        ensures drawn { OnOk result (OpensWith self.old self.new (R.stream rng.old) (R.stream rng.new)) }
         ensures begins { CanBegin self.new }
         ensures line { self.new.line ≡ self.old.line }
         ensures unsaid { OnErr result (IsUnsaid self.old self.new) }
@@ -204,6 +206,7 @@ impl<'c> Session<'c> {
         ensures drawn { is_outside (stands_of self.old.finished.items self.old.kex) ≡ true → OnOk result
             (GoesNext self.old.writer.output (packet_with (writing_at self.old.writer) payload.now (R.stream rng.old))
             self.new.writer.output) }
+        ensures wrote { OnOk result (WritesDrawn self.old self.new (R.stream rng.old) (R.stream rng.new)) }
         ensures held { is_outside (stands_of self.old.finished.items self.old.kex) ≡ false → (rng.new ≡ rng.old)
             × (self.new ≡ record self.old { held = self.new.held }) }
         ensures leaves { OnErr result ((self.new.finished.items ≡ self.old.finished.items)
@@ -231,6 +234,7 @@ impl<'c> Session<'c> {
         requires opened { IsOpen self.old }
         ensures opened { OnOk result (IsOpen self.new) }
         ensures ok { OnOk result (GoesOn self.old read self.new) }
+        ensures wrote { OnOk result (WritesDrawn self.old self.new (R.stream rng.old) (R.stream rng.new)) }
         ensures wanting { OnErr result (GoesPart self.old read self.new) }
         ensures due { (stands_of self.old.finished.items self.old.kex ≡ Outside → self.old.held.items ≡ []) → OnErr
             result (WantsKeys self.old read self.new) }
@@ -419,6 +423,7 @@ impl<'c> Session<'c> {
         ensures stays { Stays self.old self.new }
         ensures taken { IfOk result (λ k. IsFor self.old k self.new) }
         ensures kexinit { OnOk result (BeginsAt self.old message_type) }
+        ensures wrote { OnOk result (WritesDrawn self.old self.new (R.stream rng.old) (R.stream rng.new)) }
         ensures refused { IfErr result (λ e. ((e ≡ Memory) × BeginsAt self.old message_type)
             ⊎ ((e ≡ Inconsistent) × IsForNone self.old message_type)) }
         ensures rests { OnErr result (IsAsBefore self.old self.new) }
@@ -478,8 +483,8 @@ impl<'c> Session<'c> {
         ensures stays { Stays self.old self.new }
         ensures unheard { OnOk result (IsUnheard self.new) }
         ensures keeps { ⟦<Parts<A, H, G, R> as Handed>⟧.keeps parts.old parts.new }
-        ensures asks { OnOk result (⟦<Parts<A, H, G, R> as Attended>⟧.asks_for_move kex.entry self.new parts.old
-            parts.new) }
+        ensures asks { OnOk result (⟦<Parts<A, H, G, R> as Attended>⟧.asks_for_move kex.entry self.old self.new
+            parts.old parts.new) }
         ensures asked { OnErr result (⟦<Parts<A, H, G, R> as Attended>⟧.asks_inside kex.entry parts.old parts.new) }
         ensures moves { IfOk result (λ h. ⟦<Parts<A, H, G, R> as Attended>⟧.moves self.old parts.old kex.entry
             incoming.entry h self.new) }

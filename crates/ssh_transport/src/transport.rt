@@ -51,6 +51,7 @@ impl<'c> Transport<'c> {
     ghost use Rattle.ssh_transport.specs.Asking.{tally};
     ghost use Rattle.ssh_transport.specs.Drawing.{AtMostNext, DrawsFirst, GoesNext, kexinit_packet, packet_with};
     ghost use Rattle.ssh_transport.specs.Lending.{IsRefusedWith, LendsPoll};
+    ghost use Rattle.ssh_transport.specs.Sending.{MadeBy, NoneMade, SendsBetween};
     ghost use Rattle.ssh_transport.specs.Submitting.{AnswersAlone, Breaks, DrawsAlone, HoldsAlone};
 
     /// A client that has written its version line. InvalidConfig names the first test that refuses its configuration:
@@ -89,8 +90,8 @@ impl<'c> Transport<'c> {
     }
 
     /// Takes the next bytes that the other side sent, however they are cut: its version line, and then its packets,
-    /// each as soon as it is whole. Payloads are delivered, and the messages that are due are written. The cookie of
-    /// the first KEXINIT and its padding are what the handed-in generator gives next (RFC 4253 section 7.1). A refusal
+    /// each as soon as it is whole. Payloads are delivered, and the messages that are due are written. Each cookie and
+    /// each padding is what the handed-in generator gives next (RFC 4253 sections 6 and 7.1). A refusal
     /// is the end of the transport: each later `feed`, `submit` and `rekey` answers Disconnect, and what was delivered
     /// stays.
     ///
@@ -121,6 +122,8 @@ impl<'c> Transport<'c> {
             (⟦<Parts<A, H, G, R> as Asked>⟧.calls parts.old) (⟦<Parts<A, H, G, R> as Asked>⟧.calls parts.new)) }
         ensures answers { OnOk result (AnswersAll self.old.side self.old.state self.new.state
             (⟦<Parts<A, H, G, R> as Asked>⟧.tests parts.old) (⟦<Parts<A, H, G, R> as Asked>⟧.tests parts.new)) }
+        ensures sends { OnOk result (SendsBetween (MadeBy A.client_draws A.server_draws) self.old self.new
+            (R.stream parts.old.rng) (R.stream parts.new.rng)) }
         ensures few { OnOk result (AsksFew (⟦<Parts<A, H, G, R> as Handed>⟧.says self.old.config parts.old)
             self.old self.new (⟦<Parts<A, H, G, R> as Asked>⟧.calls parts.old)
             (⟦<Parts<A, H, G, R> as Asked>⟧.calls parts.new)) }
@@ -168,7 +171,8 @@ impl<'c> Transport<'c> {
             (⟦<Parts<A, H, G, R> as Asked>⟧.distrusts parts.old parts.new)
             (tally (⟦<Parts<A, H, G, R> as Asked>⟧.calls parts.old) (⟦<Parts<A, H, G, R> as Asked>⟧.tests parts.old))
             (tally (⟦<Parts<A, H, G, R> as Asked>⟧.calls parts.new) (⟦<Parts<A, H, G, R> as Asked>⟧.tests parts.new))
-            (R.stream parts.old.rng) (R.stream parts.new.rng) self.entry result) }
+            (MadeBy A.client_draws A.server_draws) (R.stream parts.old.rng) (R.stream parts.new.rng) self.entry
+            result) }
         ensures dead { self.old.failed ≡ true → IsRefusedWith result Disconnect × (parts.new ≡ parts.old) }
         ensures memory { self.old.failed ≡ false → IsRefusedWith result Memory → MayWant
             (⟦<Parts<A, H, G, R> as Handed>⟧.says self.old.config parts.old) self.old }
@@ -205,6 +209,8 @@ impl<'c> Transport<'c> {
             payload.now self.new) }
         ensures drawn { is_outside self.old.state.stands ≡ true → OnOk result (GoesNext self.old.output
             (packet_with self.old.state.writing payload.now (R.stream parts.old.rng)) self.new.output) }
+        ensures sends { OnOk result (SendsBetween NoneMade self.old self.new (R.stream parts.old.rng)
+            (R.stream parts.new.rng)) }
         ensures held { is_outside self.old.state.stands ≡ false → (parts.new ≡ parts.old)
             × HoldsAlone result self.old self.new }
         ensures leaves { self.old.failed ≡ false → is_good_payload payload.now ≡ true → OnErr result
@@ -229,6 +235,8 @@ impl<'c> Transport<'c> {
         ensures drawn { is_outside self.old.state.stands ≡ true → OnOk result (self.new.output
             ≡ self.old.output ++ kexinit_packet self.old.side self.old.config self.old.state.writing
             (R.stream parts.old.rng)) }
+        ensures sends { OnOk result (SendsBetween NoneMade self.old self.new (R.stream parts.old.rng)
+            (R.stream parts.new.rng)) }
         ensures leaves { self.old.failed ≡ false → OnErr result
             ((self.new.state.records ≡ self.old.state.records) × (self.new.output ≡ self.old.output)) }
         ensures inside { self.old.failed ≡ false → is_outside self.old.state.stands ≡ false

@@ -34,8 +34,8 @@ returns-clause-drawn g c = record {
 
 pub returns-clause-answered : goal.returns-clause-answered
 returns-clause-answered g c = record {
-  of_client = λ k. side_answered _ Client c.args.client.now c.args.steps.now c.in_ok-answers.answers.items _ (attacked_end c.in_ok-attack.attack.client (counted_by g.A.Agreement g.H.HostKeys g.G.GroupLookup c.args.client_parts.now.agreement c.args.client_parts.now.hosts c.args.client_parts.now.groups)) (attacked_end c.run.new.self.client (counted_by g.A.Agreement g.H.HostKeys g.G.GroupLookup c.run.new.client_parts.agreement c.run.new.client_parts.hosts c.run.new.client_parts.groups)) _ _ _ c.in_ok-attack.ensures.client.new c.in_ok-answers.ensures.client c.in_ok-answers.ensures.client_leaves (ap (λ r. r.answers) c.in_ok-report.ensures) (ap (λ r. r.client.exchanges) c.in_ok-report.ensures) k;
-  of_server = λ k. side_answered _ Server c.args.server.now c.args.steps.now c.in_ok-answers.answers.items _ (attacked_end c.in_ok-attack.attack.server (counted_by g.A.Agreement g.H.HostKeys g.G.GroupLookup c.args.server_parts.now.agreement c.args.server_parts.now.hosts c.args.server_parts.now.groups)) (attacked_end c.run.new.self.server (counted_by g.A.Agreement g.H.HostKeys g.G.GroupLookup c.run.new.server_parts.agreement c.run.new.server_parts.hosts c.run.new.server_parts.groups)) _ _ _ c.in_ok-attack.ensures.server.new c.in_ok-answers.ensures.server c.in_ok-answers.ensures.server_leaves (ap (λ r. r.answers) c.in_ok-report.ensures) (ap (λ r. r.server.exchanges) c.in_ok-report.ensures) k;
+  by_client = λ k. side_answered _ Client c.args.client.now c.args.steps.now c.in_ok-answers.answers.items _ (attacked_end c.in_ok-attack.attack.client (counted_by g.A.Agreement g.H.HostKeys g.G.GroupLookup c.args.client_parts.now.agreement c.args.client_parts.now.hosts c.args.client_parts.now.groups)) (attacked_end c.run.new.self.client (counted_by g.A.Agreement g.H.HostKeys g.G.GroupLookup c.run.new.client_parts.agreement c.run.new.client_parts.hosts c.run.new.client_parts.groups)) _ _ _ _ c.in_ok-attack.ensures.client.new c.in_ok-answers.ensures.client c.in_ok-answers.ensures.client_leaves (ap (λ r. r.answers) c.in_ok-report.ensures) (ap (λ r. r.client.wire) c.in_ok-report.ensures) (ap (λ r. r.client.exchanges) c.in_ok-report.ensures) k;
+  by_server = λ k. side_answered _ Server c.args.server.now c.args.steps.now c.in_ok-answers.answers.items _ (attacked_end c.in_ok-attack.attack.server (counted_by g.A.Agreement g.H.HostKeys g.G.GroupLookup c.args.server_parts.now.agreement c.args.server_parts.now.hosts c.args.server_parts.now.groups)) (attacked_end c.run.new.self.server (counted_by g.A.Agreement g.H.HostKeys g.G.GroupLookup c.run.new.server_parts.agreement c.run.new.server_parts.hosts c.run.new.server_parts.groups)) _ _ _ _ c.in_ok-attack.ensures.server.new c.in_ok-answers.ensures.server c.in_ok-answers.ensures.server_leaves (ap (λ r. r.answers) c.in_ok-report.ensures) (ap (λ r. r.server.wire) c.in_ok-report.ensures) (ap (λ r. r.server.exchanges) c.in_ok-report.ensures) k;
 }
 
 pub new-requires-clause-of_client : goal.new-requires-clause-of_client

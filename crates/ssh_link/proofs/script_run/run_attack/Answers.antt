@@ -28,8 +28,8 @@ returns c =
           c.run_attacked.ensures.run
           (seeded_told (λ x. x.client.wire) (λ x. x.server.wire) plan p.rng q.rng c.run_attacked.result client.rng server.rng c.run_attacked.ensures.drawn)
           (served_attacked plan c.as_slice.result.now _ _ _ _ c.run_attacked.result c.as_slice.ensures.value
-          (λ x. served_side Client plan.client x p.agreement p'.agreement p.hosts p'.hosts p.groups p'.groups client.agreement client.agreement_unasked client.hosts client.hosts_unasked client.groups client.groups_unasked)
-          (λ x. served_side Server plan.server x q.agreement q'.agreement q.hosts q'.hosts q.groups q'.groups server.agreement server.agreement_unasked server.hosts server.hosts_unasked server.groups server.groups_unasked)
+          (λ w x. served_side Client plan.client w x p.agreement p'.agreement p.hosts p'.hosts p.groups p'.groups client.agreement client.agreement_unasked client.hosts client.hosts_unasked client.groups client.groups_unasked)
+          (λ w x. served_side Server plan.server w x q.agreement q'.agreement q.hosts q'.hosts q.groups q'.groups server.agreement server.agreement_unasked server.hosts server.hosts_unasked server.groups server.groups_unasked)
           c.run_attacked.ensures.answered));
       valid = subst (λ x. OnOk c.run_attacked.result (IsValidPlan x)) c.script.view_is (passed _ c.run_attacked.result c.run_attacked.ensures.configs);
       causes = subst (λ x. IfErr c.run_attacked.result (λ e. (e ≡ Memory) ⊎ IsInvalidPlan x e)) c.script.view_is c.run_attacked.ensures.refused;

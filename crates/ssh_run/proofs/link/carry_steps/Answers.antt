@@ -32,4 +32,4 @@ pub returns-clause-drawn : goal.returns-clause-drawn
 returns-clause-drawn g c = run_drawn c.args.client.now c.args.server.now (link_of c.in_ok-link.link) (link_of c.run.new.self) _ _ _ _ _ _ c.in_ok-link.ensures.new c.in_ok-marks.ensures.leaves (ap (λ r. r.client.wire) c.in_ok-report.ensures) (ap (λ r. r.server.wire) c.in_ok-report.ensures)
 
 pub returns-clause-answered : goal.returns-clause-answered
-returns-clause-answered g c = run_answered c.args.client.now c.args.server.now (link_of c.in_ok-link.link) (link_of c.run.new.self) _ _ _ _ _ c.in_ok-link.ensures.new c.in_ok-marks.ensures.leaves (ap (λ r. r.client.exchanges) c.in_ok-report.ensures) (ap (λ r. r.server.exchanges) c.in_ok-report.ensures)
+returns-clause-answered g c = run_answered c.args.client.now c.args.server.now (link_of c.in_ok-link.link) (link_of c.run.new.self) _ _ _ _ _ c.in_ok-link.ensures.new c.in_ok-marks.ensures.leaves (ap (λ r. r.client.wire) c.in_ok-report.ensures) (ap (λ r. r.server.wire) c.in_ok-report.ensures) (ap (λ r. r.client.exchanges) c.in_ok-report.ensures) (ap (λ r. r.server.exchanges) c.in_ok-report.ensures)

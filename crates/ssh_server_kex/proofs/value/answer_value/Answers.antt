@@ -3,6 +3,7 @@ use Rattle.ssh_kex.specs.Parts.{IsRefused}
 use Rattle.ssh_kex.specs.Signature.{judged}
 use Rattle.ssh_kex.specs.declared.parts.Refusal.{Refusal}
 use Rattle.ssh_server_kex.proofs.ServerRows.{hashes, reply_refused, shown_short, sign_refused, signs_it, unsigned_it, value_done}
+use Rattle.ssh_server_kex.proofs.Drawn.{value_drawn}
 use Rattle.ssh_server_kex.proofs.value.answer_value.Goals as goal
 
 pub compute_exchange_hash-hash-requires : goal.compute_exchange_hash-hash-requires
@@ -42,3 +43,9 @@ returns-clause-causes g c =
     c.in_ok-algorithm.ensures.ok (λ v w m s l. (m s l).0) (λ v w m s l. (m s l).2) c.in-Ok-sign.ensures.small
     c.in-Some.ensures
     c.as_slice-2.ensures c.as_slice-3.ensures (let e = c.as_slice-4.ensures in let v = c.signature.view_is in cc) (c.as_slice-5.ensures.value ∙ c.in_ok-reply.ensures.ok) c.in-Err-put_both.ensures.causes
+
+pub returns-in-Ok-put_both-clause-drawn : goal.returns-in-Ok-put_both-clause-drawn
+returns-in-Ok-put_both-clause-drawn g c =
+    value_drawn g.A.Agreement.server_draws _ (g.R.Rng.stream c.args.parts.now.rng) (g.R.Rng.stream c.agree.new.rng) (g.R.Rng.stream c.put_both.new.rng) c.args.base.now.cause c.args.names.now c.args.base.now.exchange c.agree.new.exchange c.in_ok-algorithm.algorithm c.in_ok-ended.ended.0 c.args.output.now c.put_both.new.output
+    c.in_ok-base.field-0 c.as_slice.result.now c.compute_exchange_hash-hash.result c.as_slice-5.result.now c.as_slice-2.result.now c.as_slice-3.result.now c.as_slice-4.result.now _
+    c.in_ok-algorithm.ensures.ok c.in_ok-algorithm.ensures.drawn c.compute_exchange_hash-hash.ensures c.in_ok-ended.ensures.made (c.as_slice-5.ensures.value ∙ c.in_ok-reply.ensures.ok) c.in-Ok-put_both.ensures.drawn

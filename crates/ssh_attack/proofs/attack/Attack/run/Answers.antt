@@ -1,10 +1,28 @@
-use Rattle.std.proofs.Common.{rules, ◌∙◌, arith}
-use Rattle.ssh_transport.proofs.Lemmas.{agreement_after, hosts_after, groups_after, taken_more}
+use Rattle.std.proofs.Common.{rules, ◌∙◌, arith, refl}
+use Rattle.ssh_transport.proofs.Lemmas.{agreement_after, agreement_same, groups_after, groups_same, hosts_after, hosts_same, taken_more}
 use Rattle.ssh_wire.specs.declared.side.Side.TheVariants.{Client, Server}
-use Rattle.ssh_attack.proofs.Leaving.{leaves_join}
+use Rattle.ssh_rules.specs.Attacking.{tells_by}
+use Rattle.ssh_attack.proofs.Leaving.{leaves_join, leaves_still, none_attacked}
 use Rattle.ssh_attack.proofs.Running.{config_kept, side_more}
 use Rattle.ssh_attack.proofs.attack.Attack.run.Goals as goal
 use Rattle.ssh_attack.proofs.attack.Attack.run.Goals.{in-Err+in-KexInit-1, in-Ok-2}
+
+pub loop-step-init : goal.loop-step-init
+loop-step-init g c = record {
+  within = omega arith;
+  client_config = refl;
+  client = none_attacked (tells_by g.A.Agreement g.H.HostKeys g.G.GroupLookup c.args.self.now.client.transport.config c.args.client_parts.now.agreement c.args.client_parts.now.agreement c.args.client_parts.now.hosts c.args.client_parts.now.hosts c.args.client_parts.now.groups c.args.client_parts.now.groups) Client _ _ c.in_ok-answers.ensures.items;
+  client_agreement = agreement_same _ _ _ _ _ _;
+  client_hosts = hosts_same _ _ _ _ _ _ _ _ _ _;
+  client_groups = groups_same _ _ _ _ _ _;
+  server_config = refl;
+  server = none_attacked (tells_by g.A.Agreement g.H.HostKeys g.G.GroupLookup c.args.self.now.server.transport.config c.args.server_parts.now.agreement c.args.server_parts.now.agreement c.args.server_parts.now.hosts c.args.server_parts.now.hosts c.args.server_parts.now.groups c.args.server_parts.now.groups) Server _ _ c.in_ok-answers.ensures.items;
+  server_agreement = agreement_same _ _ _ _ _ _;
+  server_hosts = hosts_same _ _ _ _ _ _ _ _ _ _;
+  server_groups = groups_same _ _ _ _ _ _;
+  client_leaves = leaves_still _ _;
+  server_leaves = leaves_still _ _;
+}
 
 pub loop-step-preserved : goal.loop-step-preserved
 loop-step-preserved g c = record {

@@ -1,4 +1,4 @@
-use Rattle.std.proofs.Common.{sym, ◌∙◌, ap, subst, ◌<◌, ◌^◌, List, ℕ, length, Some}
+use Rattle.std.proofs.Common.{[], ◌∷◌, refl, sym, ◌∙◌, ap, subst, ◌<◌, ◌^◌, List, ℕ, length, Some}
 use Rattle.std.specs.Prelude.{IfSome}
 use Rattle.ssh_packet.specs.declared.reader.Incoming.{Incoming}
 use Rattle.ssh_wire.specs.declared.side.Side.TheVariants.{Client}
@@ -12,6 +12,10 @@ use Rattle.ssh_client_kex.proofs.ClientAnswers.{group_progresses, kept_group, re
 use Rattle.ssh_client_kex.proofs.ClientRefusals.{group_refused, kexinit_refused}
 use Rattle.ssh_client_kex.proofs.ClientSteps.{kexinit_progresses}
 use Rattle.ssh_kex.proofs.Lemmas.{last_answers, last_done, last_refused_if}
+use Rattle.ssh_kex.specs.Messages.{newkeys}
+use Rattle.ssh_kex.proofs.Lemmas.{draws_sent}
+use Rattle.ssh_client_kex.specs.declared.client_kex.ClientState.TheVariants as states
+use Rattle.ssh_client_kex.proofs.Drawn.{dropped_draws, on_stage, still_draws}
 use Rattle.ssh_client_kex.proofs.client_kex.ClientKex.step.Goals as goal
 
 pub waits-requires : goal.waits-requires
@@ -129,3 +133,18 @@ returns-in-AwaitsReply-clause-agreed g c =
 pub returns-in-AwaitsNewkeys-clause-answers : goal.returns-in-AwaitsNewkeys-clause-answers
 returns-in-AwaitsNewkeys-clause-answers g c = last_answers g.A.Agreement g.H.HostKeys g.G.GroupLookup _ _ _ _ _ _ _ _ c.last.result
     (ap (λ (m : Machine). m.stage) (sym c.self.view_is) ∙ ap (client_stage c.self.inside.base.exchange) c.in-AwaitsNewkeys.is)
+
+pub returns-then-drops_guess-clause-drawn : goal.returns-then-drops_guess-clause-drawn
+returns-then-drops_guess-clause-drawn g c = dropped_draws g.A.Agreement.client_draws (g.R.Rng.stream c.args.parts.now.rng) c.self.inside.base.config.now c.self.inside.base.cause c.self.inside.base.exchange c.self.inside.state _ c.args.self c.waits.result c.args.output.now c.self.view_is c.behind_guess-state.ensures c.waits.ensures
+
+pub returns-in-Created-clause-drawn : goal.returns-in-Created-clause-drawn
+returns-in-Created-clause-drawn g c = on_stage c.take_kexinit.result g.A.Agreement.client_draws (g.R.Rng.stream c.args.parts.now.rng) (g.R.Rng.stream c.take_kexinit.new.rng) c.self.inside.base.config.now c.self.inside.base.cause c.self.inside.base.exchange c.self.inside.state states.Created c.args.self c.args.output.now c.take_kexinit.new.output c.self.view_is c.in-Created.is c.take_kexinit.ensures.drawn
+
+pub returns-in-AwaitsGroup-clause-drawn : goal.returns-in-AwaitsGroup-clause-drawn
+returns-in-AwaitsGroup-clause-drawn g c = on_stage c.take_group.result g.A.Agreement.client_draws (g.R.Rng.stream c.args.parts.now.rng) (g.R.Rng.stream c.take_group.new.rng) c.self.inside.base.config.now c.self.inside.base.cause c.self.inside.base.exchange c.self.inside.state (states.AwaitsGroup c.in-AwaitsGroup.names) c.args.self c.args.output.now c.take_group.new.output c.self.view_is c.in-AwaitsGroup.is c.take_group.ensures.drawn
+
+pub returns-in-AwaitsReply-clause-drawn : goal.returns-in-AwaitsReply-clause-drawn
+returns-in-AwaitsReply-clause-drawn g c = on_stage c.take_reply.result g.A.Agreement.client_draws (g.R.Rng.stream c.args.parts.now.rng) (g.R.Rng.stream c.take_reply.new.parts.rng) c.self.inside.base.config.now c.self.inside.base.cause c.self.inside.base.exchange c.self.inside.state (states.AwaitsReply c.in-AwaitsReply.names c.in-AwaitsReply.algorithm) c.args.self c.args.output.now c.take_reply.new.output c.self.view_is c.in-AwaitsReply.is (draws_sent c.take_reply.result _ (g.R.Rng.stream c.args.parts.now.rng) (newkeys ∷ []) c.args.output.now c.take_reply.new.output (g.R.Rng.stream c.take_reply.new.parts.rng) refl c.take_reply.ensures.drawn)
+
+pub returns-in-AwaitsNewkeys-clause-drawn : goal.returns-in-AwaitsNewkeys-clause-drawn
+returns-in-AwaitsNewkeys-clause-drawn g c = still_draws c.last.result g.A.Agreement.client_draws (g.R.Rng.stream c.args.parts.now.rng) c.self.inside.base.config.now c.self.inside.base.cause c.self.inside.base.exchange c.self.inside.state (states.AwaitsNewkeys c.in-AwaitsNewkeys.host c.in-AwaitsNewkeys.made c.in-AwaitsNewkeys.cipher) c.args.self c.args.output.now c.self.view_is c.in-AwaitsNewkeys.is refl

@@ -1,13 +1,31 @@
-use Rattle.ssh_run.proofs.Leaving.{both_join}
-use Rattle.std.proofs.Common.{◌+◌, drop, refl, sym, take, ◌++◌, ◌∷◌, [], ap, ◌∙◌, arith}
+use Rattle.ssh_run.proofs.Leaving.{both_join, both_still}
+use Rattle.std.proofs.Common.{◌+◌, drop, refl, rules, sym, take, ◌++◌, ◌∷◌, [], ap, ◌∙◌, arith}
 use Rattle.std.proofs.lemmas.List.{length-take-le, take-append-drop}
 use Rattle.std.proofs.lemmas.Result.{err_from_is_err_and}
-use Rattle.ssh_transport.proofs.Lemmas.{agreement_after, hosts_after, groups_after, taken_more}
+use Rattle.ssh_transport.proofs.Lemmas.{agreement_after, agreement_same, groups_after, groups_same, hosts_after, hosts_same, taken_more}
 use Rattle.ssh_run.specs.Carrying.{both_marks}
 use Rattle.ssh_run.specs.LinkEnds.{link_of}
-use Rattle.ssh_run.proofs.Asking.{link_behind, link_end, link_none, side_join}
-use Rattle.ssh_run.proofs.LinkSoFar.{bound_next, bound_on, later_tells, later_weaker, run_refused, runs_more, steps_split}
+use Rattle.ssh_run.proofs.Asking.{link_behind, link_end, link_none, side_join, side_still}
+use Rattle.ssh_run.proofs.LinkSoFar.{bound_next, bound_on, later_tells, later_weaker, none_run, run_refused, runs_more, steps_split}
 use Rattle.ssh_run.proofs.link.Carrier.run.Goals as goal
+
+pub loop-step-init : goal.loop-step-init
+loop-step-init g c = record {
+  within = omega arith;
+  few = search rules;
+  bound = λ b. b;
+  now = refl;
+  runs = none_run _ _ _ _ _ (c.in_ok-push.ensures.items ∙ ap (λ m. m ++ c.mark.result ∷ []) c.in_ok-marks.ensures.items ∙ ap (λ m. m ∷ []) c.mark.ensures);
+  asks_client = side_still _ _ _ refl;
+  asks_server = side_still _ _ _ refl;
+  client_agreement = agreement_same _ _ _ _ _ _;
+  client_hosts = hosts_same _ _ _ _ _ _ _ _ _ _;
+  client_groups = groups_same _ _ _ _ _ _;
+  server_agreement = agreement_same _ _ _ _ _ _;
+  server_hosts = hosts_same _ _ _ _ _ _ _ _ _ _;
+  server_groups = groups_same _ _ _ _ _ _;
+  leaves = both_still _ _ _;
+}
 
 pub loop-step-preserved : goal.loop-step-preserved
 loop-step-preserved g c = record {

@@ -1,12 +1,28 @@
-use Rattle.ssh_run.proofs.Leaving.{both_join}
+use Rattle.ssh_run.proofs.Leaving.{both_join, both_still}
 use Rattle.std.proofs.Common.{◌∙◌, arith, inr, refl, rules}
 use Rattle.std.proofs.lemmas.Result.{err_from_is_err_and}
-use Rattle.ssh_transport.proofs.Lemmas.{agreement_after, hosts_after, groups_after}
-use Rattle.ssh_run.proofs.Asking.{always_err, side_join, turns_behind, turns_end}
-use Rattle.ssh_run.proofs.LinkSoFar.{later_tells, later_weaker, settle_refused, turned_more}
+use Rattle.ssh_transport.proofs.Lemmas.{agreement_after, agreement_same, groups_after, groups_same, hosts_after, hosts_same}
+use Rattle.ssh_run.proofs.Asking.{always_err, side_join, side_still, turns_behind, turns_end}
+use Rattle.ssh_run.proofs.LinkSoFar.{later_tells, later_weaker, no_turns, settle_refused, turned_more}
 use Rattle.ssh_run.specs.LinkEnds.{link_of}
 use Rattle.ssh_run.proofs.link.Carrier.settle.Goals as goal
-use Rattle.ssh_run.proofs.link.Carrier.settle.Goals.{then-begun_too_many-2-via-then-begun_too_many-2, then-begun_too_many-2-via-else-begun_too_many-2+then-not-rests, then-begun_too_many-2-via-else-begun_too_many-2+else-not-rests+then-not-rests-2}
+use Rattle.ssh_run.proofs.link.Carrier.settle.Goals.{then-turns-eq0-via-then-turns-eq0, then-turns-eq0-via-else-turns-eq0+then-begun_too_many, then-begun_too_many-2-via-then-begun_too_many-2, then-begun_too_many-2-via-else-begun_too_many-2+then-not-rests, then-begun_too_many-2-via-else-begun_too_many-2+else-not-rests+then-not-rests-2}
+
+pub loop-self-init : goal.loop-self-init
+loop-self-init g c = record {
+  room = (let e = c.saturating_mul-turns.ensures in omega (arith, e));
+  bound = refl;
+  turns = no_turns _ _ _ _ (let e = c.saturating_mul-turns.ensures in omega (arith, e));
+  asks_client = side_still _ _ _ refl;
+  asks_server = side_still _ _ _ refl;
+  client_agreement = agreement_same _ _ _ _ _ _;
+  client_hosts = hosts_same _ _ _ _ _ _ _ _ _ _;
+  client_groups = groups_same _ _ _ _ _ _;
+  server_agreement = agreement_same _ _ _ _ _ _;
+  server_hosts = hosts_same _ _ _ _ _ _ _ _ _ _;
+  server_groups = groups_same _ _ _ _ _ _;
+  leaves = both_still _ _ _;
+}
 
 pub loop-self-preserved : goal.loop-self-preserved
 loop-self-preserved g c = record {
@@ -50,5 +66,19 @@ returns-then-begun_too_many-2-clause-refused g c = λ lc ls. record {
       | then-begun_too_many-2-via-else-begun_too_many-2+then-not-rests w ↦ search rules
       | then-begun_too_many-2-via-else-begun_too_many-2+else-not-rests+then-not-rests-2 w ↦ search rules
     ]),
+  );
+}
+
+pub returns-then-turns-eq0-clause-refused : goal.returns-then-turns-eq0-clause-refused
+returns-then-turns-eq0-clause-refused g c = λ lc ls. record {
+  times = _;
+  mid = link_of c.loop-self.self;
+  turns = c.loop-self.invariant.turns.turns;
+  refused = inr (
+    refl,
+    elim c.then-turns-eq0.branch [
+      | then-turns-eq0-via-then-turns-eq0 w ↦ search rules
+      | then-turns-eq0-via-else-turns-eq0+then-begun_too_many w ↦ search rules
+    ],
   );
 }

@@ -12,7 +12,7 @@ pub returns-clause-asks : goal.returns-clause-asks
 returns-clause-asks g c = fed_asks _ c.args.self.now.transport c.feed.new.self c.take_delivered.new.self _ _ _ c.in_ok-feed.ensures.fed c.take_delivered.ensures.left c.in_ok-feed.ensures.calls
 
 pub returns-clause-leaves : goal.returns-clause-leaves
-returns-clause-leaves g c = leaves_fed c.args.self.now.transport c.feed.new.self c.take_delivered.new.self _ _ _ _ c.take_delivered.ensures.left c.feed.ensures.stays.0
+returns-clause-leaves g c = leaves_fed _ c.args.self.now.transport c.feed.new.self c.take_delivered.new.self _ _ _ _ _ c.take_delivered.ensures.left
     (drawn_taken c.args.self.now.transport c.feed.new.self c.take_delivered.new.self _ _ c.take_delivered.ensures.left (drawn_fed _ _ _ c.args.self.now.transport c.feed.new.self _ _ _ c.feed.result
     (λ f. let d = c.feed.ensures.dead f in (d.1, ap (λ p. g.R.Rng.stream p.rng) d.2)) c.feed.ensures.stays c.feed.ensures.fed c.feed.ensures.refused c.feed.ensures.drawn))
-    c.in_ok-feed.ensures.answers
+    c.in_ok-feed.ensures.fed c.in_ok-feed.ensures.answers

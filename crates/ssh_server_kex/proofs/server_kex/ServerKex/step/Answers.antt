@@ -1,4 +1,4 @@
-use Rattle.std.proofs.Common.{◌<◌, ◌^◌, length, None, sym, ◌∙◌, ap, subst}
+use Rattle.std.proofs.Common.{◌<◌, ◌^◌, length, None, refl, sym, ◌∙◌, ap, subst}
 use Rattle.std.specs.Prelude.{IfSome}
 use Rattle.ssh_packet.specs.declared.reader.Incoming.{Incoming}
 use Rattle.ssh_server_kex.specs.ServerViews.{ServerKeeps, server_stage}
@@ -8,6 +8,8 @@ use Rattle.ssh_kex.proofs.Lemmas.{last_answers, last_refused_if}
 use Rattle.ssh_server_kex.proofs.ServerOpens.{ended, opening_progresses}
 use Rattle.ssh_server_kex.proofs.ServerRefusals.{opening_refused, request_refused, value_refused}
 use Rattle.ssh_server_kex.proofs.ServerSteps.{request_progresses, still_keeps, value_progresses}
+use Rattle.ssh_server_kex.specs.declared.server_kex.ServerState.TheVariants as states
+use Rattle.ssh_server_kex.proofs.Drawn.{dropped_draws, on_stage, still_draws}
 use Rattle.ssh_server_kex.proofs.server_kex.ServerKex.step.Goals as goal
 
 pub waits-requires : goal.waits-requires
@@ -78,3 +80,18 @@ returns-in-AwaitsNewkeys-clause-causes g c =
 pub returns-in-AwaitsNewkeys-clause-answers : goal.returns-in-AwaitsNewkeys-clause-answers
 returns-in-AwaitsNewkeys-clause-answers g c = last_answers g.A.Agreement g.H.HostKeys g.G.GroupLookup _ _ _ _ _ _ _ _ c.last.result
     (ap (λ (m : Machine). m.stage) (sym c.self.view_is) ∙ ap (server_stage c.self.inside.base.exchange) c.in-AwaitsNewkeys.is)
+
+pub returns-then-drops_guess-clause-drawn : goal.returns-then-drops_guess-clause-drawn
+returns-then-drops_guess-clause-drawn g c = dropped_draws g.A.Agreement.server_draws (g.R.Rng.stream c.args.parts.now.rng) c.self.inside.base.config.now c.self.inside.base.cause c.self.inside.base.exchange c.self.inside.state _ c.args.self c.waits.result c.args.output.now c.self.view_is c.behind_guess-state.ensures c.waits.ensures
+
+pub returns-in-Created-clause-drawn : goal.returns-in-Created-clause-drawn
+returns-in-Created-clause-drawn g c = on_stage c.take_kexinit.result g.A.Agreement.server_draws (g.R.Rng.stream c.args.parts.now.rng) (g.R.Rng.stream c.take_kexinit.new.rng) c.self.inside.base.config.now c.self.inside.base.cause c.self.inside.base.exchange c.self.inside.state states.Created c.args.self c.args.output.now c.take_kexinit.new.output c.self.view_is c.in-Created.is c.take_kexinit.ensures.drawn
+
+pub returns-in-AwaitsRequest-clause-drawn : goal.returns-in-AwaitsRequest-clause-drawn
+returns-in-AwaitsRequest-clause-drawn g c = on_stage c.take_request.result g.A.Agreement.server_draws (g.R.Rng.stream c.args.parts.now.rng) (g.R.Rng.stream c.take_request.new.rng) c.self.inside.base.config.now c.self.inside.base.cause c.self.inside.base.exchange c.self.inside.state (states.AwaitsRequest c.in-AwaitsRequest.names) c.args.self c.args.output.now c.take_request.new.output c.self.view_is c.in-AwaitsRequest.is c.take_request.ensures.drawn
+
+pub returns-in-AwaitsValue-clause-drawn : goal.returns-in-AwaitsValue-clause-drawn
+returns-in-AwaitsValue-clause-drawn g c = on_stage c.take_value.result g.A.Agreement.server_draws (g.R.Rng.stream c.args.parts.now.rng) (g.R.Rng.stream c.take_value.new.parts.rng) c.self.inside.base.config.now c.self.inside.base.cause c.self.inside.base.exchange c.self.inside.state (states.AwaitsValue c.in-AwaitsValue.names) c.args.self c.args.output.now c.take_value.new.output c.self.view_is c.in-AwaitsValue.is c.take_value.ensures.drawn
+
+pub returns-in-AwaitsNewkeys-clause-drawn : goal.returns-in-AwaitsNewkeys-clause-drawn
+returns-in-AwaitsNewkeys-clause-drawn g c = still_draws c.last.result g.A.Agreement.server_draws (g.R.Rng.stream c.args.parts.now.rng) c.self.inside.base.config.now c.self.inside.base.cause c.self.inside.base.exchange c.self.inside.state (states.AwaitsNewkeys c.in-AwaitsNewkeys.made c.in-AwaitsNewkeys.cipher) c.args.self c.args.output.now c.self.view_is c.in-AwaitsNewkeys.is refl

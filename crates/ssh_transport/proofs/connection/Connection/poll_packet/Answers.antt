@@ -4,10 +4,11 @@ use Rattle.ssh_transport.specs.Saying.{IsSettled}
 use Rattle.ssh_transport.specs.declared.connection.Connection.{Connection}
 use Rattle.ssh_transport.specs.declared.session.Handled.{Handled}
 use Rattle.std.proofs.lemmas.Result.{err_from_is_err_and}
-use Rattle.ssh_transport.proofs.Asking.{asks_on, to_kept, to_part}
+use Rattle.ssh_transport.proofs.Asking.{to_kept, to_part}
 use Rattle.ssh_transport.proofs.Kept.{live_unlent}
 use Rattle.ssh_transport.proofs.Opened.{heeds_heard, short_heard}
 use Rattle.ssh_transport.proofs.Refusing.{from_err}
+use Rattle.ssh_transport.proofs.Serving.{serves_on}
 use Rattle.ssh_transport.proofs.Taking.{numbered_up, polls_as, polls_none, some_is}
 use Rattle.ssh_transport.proofs.Wanting.{stops_polling, wants_polling}
 use Rattle.ssh_transport.proofs.connection.Connection.poll_packet.Goals as goal
@@ -41,11 +42,11 @@ pub returns-in_err-go_on-clause-stops : goal.returns-in_err-go_on-clause-stops
 returns-in_err-go_on-clause-stops g c =
     let p = err_from_is_err_and c.from_residual-in_err-go_on.result c.from_residual-in_err-go_on.ensures.1 in
     from_err c.from_residual-in_err-go_on.result _ c.in_err-go_on.field-0.0 p.0 p.1 p.2 (stops_polling _ _ _ _ c.args.self.now c.take_packet.new.self c.take_up.new.self c.go_on.new.self c.bytes.result c.in-Some.handled c.in_err-go_on.field-0.0 c.requires.live (some_is c.in_ok-handled.field-0 c.in-Some.handled _ c.in_ok-handled.ensures.took c.in-Some.is) c.take_packet.ensures.fixed.0 c.take_packet.ensures.line c.take_up.ensures c.bytes.ensures c.in_err-go_on.ensures.wanting c.in_err-go_on.ensures.due c.in_err-go_on.ensures.err
-    (to_part c.args.self.now c.take_packet.new.self c.take_up.new.self c.in-Some.handled c.go_on.new.self c.bytes.result _ _ c.take_packet.ensures.fixed.0 c.in_ok-handled.ensures.asks c.take_up.ensures c.in_err-go_on.ensures.wanting)
-    (λ e. to_kept c.args.self.now.session _ _ _ _ _ e c.in_ok-handled.ensures.asks))
+    (to_part c.args.self.now c.take_packet.new.self c.take_up.new.self c.in-Some.handled c.go_on.new.self c.bytes.result _ _ c.take_packet.ensures.fixed.0 c.in_ok-handled.ensures.asks.asks c.take_up.ensures c.in_err-go_on.ensures.wanting)
+    (λ e. to_kept c.args.self.now.session _ _ _ _ _ e c.in_ok-handled.ensures.asks.asks))
 
 pub returns-in_err-go_on-clause-wants : goal.returns-in_err-go_on-clause-wants
 returns-in_err-go_on-clause-wants g c = λ e. wants_polling _ c.args.self.now c.take_packet.new.self c.take_up.new.self c.go_on.new.self c.bytes.result c.in-Some.handled c.requires.live (some_is c.in_ok-handled.field-0 c.in-Some.handled _ c.in_ok-handled.ensures.took c.in-Some.is) c.take_up.ensures c.bytes.ensures c.in_err-go_on.ensures.due
 
 pub returns-clause-asks : goal.returns-clause-asks
-returns-clause-asks g c = asks_on c.args.self.now c.take_packet.new.self c.take_up.new.self c.in-Some.handled c.go_on.new.self c.bytes.result _ _ c.take_packet.ensures.fixed.0 c.in_ok-handled.ensures.asks c.take_up.ensures c.in_ok-go_on.ensures.ok
+returns-clause-asks g c = serves_on _ c.args.self.now c.take_packet.new.self c.take_up.new.self c.in-Some.handled c.go_on.new.self c.bytes.result _ _ _ _ _ c.take_packet.ensures.fixed.0 c.in_ok-handled.ensures.asks c.take_up.ensures c.in_ok-go_on.ensures.ok c.in_ok-go_on.ensures.wrote

@@ -1,9 +1,10 @@
 use Rattle.std.proofs.Common.{◌≡◌, ◌-◌, ◌≤◌, drop, length}
 use Rattle.ssh_rules.specs.Standing.{WaitsInPart}
-use Rattle.ssh_transport.specs.Asking.{AsksBetween, tally}
+use Rattle.ssh_transport.specs.Asking.{tally}
 use Rattle.ssh_transport.specs.Handling.{IsHeard}
 use Rattle.ssh_transport.specs.Kept.{IsLive}
 use Rattle.ssh_transport.specs.Saying.{IsFixed}
+use Rattle.ssh_transport.specs.Sending.{MadeBy, ServesBetween}
 use Rattle.ssh_transport.specs.States.{reading_spot, with_more}
 use Rattle.ssh_transport.specs.Taking.{Reads}
 use Rattle.ssh_transport.proofs.connection.Connection.read_all.Given as goal
@@ -21,7 +22,7 @@ invariant-turns g l = record {
   part : WaitsInPart (reading_spot l.self) l.self.reader.waiting;
   fixed : IsFixed l.fn.self.session l.self.session;
   unfailed : l.self.failed ≡ l.fn.self.failed;
-  asks : AsksBetween l.fn.self.session l.self.session (tally (counted_by g.A.Agreement g.H.HostKeys g.G.GroupLookup l.fn.parts.agreement l.fn.parts.hosts l.fn.parts.groups) (tests_by g.A.Agreement g.H.HostKeys g.G.GroupLookup l.fn.parts.agreement l.fn.parts.hosts l.fn.parts.groups)) (tally (counted_by g.A.Agreement g.H.HostKeys g.G.GroupLookup l.parts.agreement l.parts.hosts l.parts.groups) (tests_by g.A.Agreement g.H.HostKeys g.G.GroupLookup l.parts.agreement l.parts.hosts l.parts.groups));
+  asks : ServesBetween (MadeBy g.A.Agreement.client_draws g.A.Agreement.server_draws) l.fn.self.session l.self.session (tally (counted_by g.A.Agreement g.H.HostKeys g.G.GroupLookup l.fn.parts.agreement l.fn.parts.hosts l.fn.parts.groups) (tests_by g.A.Agreement g.H.HostKeys g.G.GroupLookup l.fn.parts.agreement l.fn.parts.hosts l.fn.parts.groups)) (tally (counted_by g.A.Agreement g.H.HostKeys g.G.GroupLookup l.parts.agreement l.parts.hosts l.parts.groups) (tests_by g.A.Agreement g.H.HostKeys g.G.GroupLookup l.parts.agreement l.parts.hosts l.parts.groups)) (g.R.Rng.stream l.fn.parts.rng) (g.R.Rng.stream l.parts.rng);
   agreement : AgreementKept g.A.Agreement l.fn.parts.agreement l.parts.agreement;
   hosts : HostsKept g.H.HostKeys l.fn.parts.hosts l.parts.hosts;
   groups : GroupsKept g.G.GroupLookup l.fn.parts.groups l.parts.groups;

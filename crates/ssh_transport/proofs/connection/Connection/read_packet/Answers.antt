@@ -5,10 +5,11 @@ use Rattle.ssh_transport.specs.Taking.{kept_by}
 use Rattle.ssh_transport.specs.declared.connection.Connection.{Connection}
 use Rattle.ssh_transport.specs.declared.session.Handled.{Handled}
 use Rattle.std.proofs.lemmas.Result.{err_from_is_err_and}
-use Rattle.ssh_transport.proofs.Asking.{asks_on, to_kept, to_part}
+use Rattle.ssh_transport.proofs.Asking.{to_kept, to_part}
 use Rattle.ssh_transport.proofs.Kept.{live_unlent}
 use Rattle.ssh_transport.proofs.Opened.{heeds_heard, short_heard}
 use Rattle.ssh_transport.proofs.Refusing.{from_err}
+use Rattle.ssh_transport.proofs.Serving.{serves_on}
 use Rattle.ssh_transport.proofs.Stopping.{stops_keeping, stops_wanting}
 use Rattle.ssh_transport.proofs.Taking.{numbered_up, reads_taken, reads_unlent_as, some_is, took_queued}
 use Rattle.ssh_transport.proofs.connection.Connection.read_packet.Goals as goal
@@ -43,13 +44,13 @@ returns-in_err-queue_payload-clause-stops g c =
     let p = err_from_is_err_and c.from_residual-in_err-queue_payload.result c.from_residual-in_err-queue_payload.ensures.1 in
     let t = (some_is c.in_ok-handled.field-0 c.in-Some.handled _ c.in_ok-handled.ensures.took c.in-Some.is) in
     from_err c.from_residual-in_err-queue_payload.result _ c.in_err-queue_payload.field-0.0 p.0 p.1 p.2 (stops_keeping _ _ _ _ c.args.self.now (record c.take_packet.new.self { delivered = c.queue_payload.new.delivered }) c.in_err-queue_payload.field-0.0 (t.still c.in_err-queue_payload.ensures.same.1) (c.in_err-queue_payload.ensures.same.0 ∙ ap (λ v. v.items) t.delivered) c.in_err-queue_payload.ensures.err
-    (to_kept c.args.self.now.session _ _ _ _ _ (t.still c.in_err-queue_payload.ensures.same.1) c.in_ok-handled.ensures.asks))
+    (to_kept c.args.self.now.session _ _ _ _ _ (t.still c.in_err-queue_payload.ensures.same.1) c.in_ok-handled.ensures.asks.asks))
 
 pub returns-in_err-go_on-clause-stops : goal.returns-in_err-go_on-clause-stops
 returns-in_err-go_on-clause-stops g c =
     let p = err_from_is_err_and c.from_residual-in_err-go_on.result c.from_residual-in_err-go_on.ensures.1 in
     from_err c.from_residual-in_err-go_on.result _ c.in_err-go_on.field-0.0 p.0 p.1 p.2 (stops_wanting _ _ _ _ c.args.self.now (record c.take_packet.new.self { delivered = c.queue_payload.new.delivered }) c.take_up.new.self c.go_on.new.self c.bytes.result c.in-Some.handled c.in_err-go_on.field-0.0 c.requires.live (took_queued _ c.args.self.now c.take_packet.new.self (record c.take_packet.new.self { delivered = c.queue_payload.new.delivered }) c.in-Some.handled (some_is c.in_ok-handled.field-0 c.in-Some.handled _ c.in_ok-handled.ensures.took c.in-Some.is) refl (c.in_ok-queue_payload.ensures.kept ∙ ap (λ (b : List ℕ). c.take_packet.new.self.delivered.items ++ kept_by c.in-Some.handled b) c.handed.ensures)) c.take_packet.ensures.fixed.0 c.take_packet.ensures.line c.take_up.ensures c.bytes.ensures c.in_err-go_on.ensures.wanting c.in_err-go_on.ensures.err
-    (to_part c.args.self.now (record c.take_packet.new.self { delivered = c.queue_payload.new.delivered }) c.take_up.new.self c.in-Some.handled c.go_on.new.self c.bytes.result _ _ c.take_packet.ensures.fixed.0 c.in_ok-handled.ensures.asks c.take_up.ensures c.in_err-go_on.ensures.wanting))
+    (to_part c.args.self.now (record c.take_packet.new.self { delivered = c.queue_payload.new.delivered }) c.take_up.new.self c.in-Some.handled c.go_on.new.self c.bytes.result _ _ c.take_packet.ensures.fixed.0 c.in_ok-handled.ensures.asks.asks c.take_up.ensures c.in_err-go_on.ensures.wanting))
 
 pub returns-clause-asks : goal.returns-clause-asks
-returns-clause-asks g c = asks_on c.args.self.now (record c.take_packet.new.self { delivered = c.queue_payload.new.delivered }) c.take_up.new.self c.in-Some.handled c.go_on.new.self c.bytes.result _ _ c.take_packet.ensures.fixed.0 c.in_ok-handled.ensures.asks c.take_up.ensures c.in_ok-go_on.ensures.ok
+returns-clause-asks g c = serves_on _ c.args.self.now (record c.take_packet.new.self { delivered = c.queue_payload.new.delivered }) c.take_up.new.self c.in-Some.handled c.go_on.new.self c.bytes.result _ _ _ _ _ c.take_packet.ensures.fixed.0 c.in_ok-handled.ensures.asks c.take_up.ensures c.in_ok-go_on.ensures.ok c.in_ok-go_on.ensures.wrote

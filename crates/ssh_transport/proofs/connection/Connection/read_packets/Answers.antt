@@ -1,13 +1,14 @@
 use Rattle.std.proofs.Common.{refl, sym, ◌∙◌, subst}
 use Rattle.ssh_kex.specs.declared.config.Config.{Config}
 use Rattle.ssh_transport.specs.Handling.{IsHeard}
-use Rattle.ssh_transport.proofs.Asking.{between_join, between_same, to_later}
+use Rattle.ssh_transport.proofs.Asking.{to_later}
 use Rattle.ssh_transport.proofs.Parts.{agreement_after, agreement_same, groups_after, groups_same, hosts_after, hosts_same}
 use Rattle.ssh_transport.proofs.Taking.{reads_after, reads_none}
 use Rattle.std.proofs.lemmas.Result.{err_from_is_err_and}
 use Rattle.ssh_kex.specs.declared.exchange.ServerHost.{ServerHost}
 use Rattle.ssh_transport.proofs.Denying.{kept_denying, kept_untrusting}
 use Rattle.ssh_transport.proofs.Refusing.{from_err}
+use Rattle.ssh_transport.proofs.Serving.{serves_join, serves_same}
 use Rattle.ssh_transport.proofs.Stopping.{stops_after}
 use Rattle.ssh_transport.proofs.Weaker.{kept_weaker}
 use Rattle.ssh_transport.proofs.connection.Connection.read_packets.Goals as goal
@@ -20,7 +21,7 @@ packets-init g c = record {
   reads = reads_none _ c.args.self.now;
   fixed = (refl, refl);
   unfailed = refl;
-  asks = between_same _ _ _ refl;
+  asks = serves_same _ _ _ _ _ refl;
   agreement = agreement_same _ _ _ _ _ _;
   hosts = hosts_same _ _ _ _ _ _ _ _ _ _;
   groups = groups_same _ _ _ _ _ _;
@@ -37,7 +38,7 @@ packets-preserved g c = record {
       c.args.self.now c.packets.self c.read_packet.new.self c.packets.invariant.fixed.1 c.packets.invariant.reads c.in_ok-read_packet.ensures.reads;
   fixed = (c.read_packet.ensures.fixed.0.0 ∙ c.packets.invariant.fixed.0, c.read_packet.ensures.fixed.0.1 ∙ c.packets.invariant.fixed.1);
   unfailed = c.read_packet.ensures.fixed.1 ∙ c.packets.invariant.unfailed;
-  asks = between_join c.args.self.now.session c.packets.self.session c.read_packet.new.self.session _ _ _ c.packets.invariant.fixed.0 c.packets.invariant.asks c.in_ok-read_packet.ensures.asks;
+  asks = serves_join _ c.args.self.now.session c.packets.self.session c.read_packet.new.self.session _ _ _ _ _ _ c.packets.invariant.fixed c.packets.invariant.asks c.in_ok-read_packet.ensures.asks;
   agreement = agreement_after _ _ _ _ _ _ _ _ c.packets.invariant.agreement c.read_packet.ensures.keeps.agreement;
   hosts = hosts_after _ _ _ _ _ _ _ _ _ _ _ _ c.packets.invariant.hosts c.read_packet.ensures.keeps.hosts;
   groups = groups_after _ _ _ _ _ _ _ _ c.packets.invariant.groups c.read_packet.ensures.keeps.groups;
@@ -59,7 +60,7 @@ returns-in_err-read_packet-clause-stops g c =
     _ _ _ _
     (λ (x : Config). kept_denying g.A.Agreement g.H.HostKeys g.G.GroupLookup x c.args.parts.now.agreement c.packets.parts.agreement c.read_packet.new.parts.agreement c.args.parts.now.hosts c.packets.parts.hosts c.read_packet.new.parts.hosts c.args.parts.now.groups c.packets.parts.groups c.read_packet.new.parts.groups c.packets.invariant.agreement c.packets.invariant.hosts c.packets.invariant.groups)
     (λ (x : ServerHost) u. kept_untrusting g.H.HostKeys c.args.parts.now.hosts c.packets.parts.hosts c.read_packet.new.parts.hosts x c.packets.invariant.hosts u)
-    _ _ c.args.self.now c.packets.self c.read_packet.new.self c.in_err-read_packet.field-0.0 (to_later c.args.self.now.session c.packets.self.session _ _ _ c.packets.invariant.fixed.0 c.packets.invariant.asks) c.packets.invariant.fixed.1 c.packets.invariant.reads c.in_err-read_packet.ensures.stops)
+    _ _ c.args.self.now c.packets.self c.read_packet.new.self c.in_err-read_packet.field-0.0 (to_later c.args.self.now.session c.packets.self.session _ _ _ c.packets.invariant.fixed.0 c.packets.invariant.asks.asks) c.packets.invariant.fixed.1 c.packets.invariant.reads c.in_err-read_packet.ensures.stops)
 
 pub returns-clause-asks : goal.returns-clause-asks
-returns-clause-asks g c = between_join c.args.self.now.session c.packets.self.session c.read_packet.new.self.session _ _ _ c.packets.invariant.fixed.0 c.packets.invariant.asks c.in_ok-read_packet.ensures.asks
+returns-clause-asks g c = serves_join _ c.args.self.now.session c.packets.self.session c.read_packet.new.self.session _ _ _ _ _ _ c.packets.invariant.fixed c.packets.invariant.asks c.in_ok-read_packet.ensures.asks

@@ -4,6 +4,7 @@ use Rattle.ssh_transport.specs.States.{standing_of}
 use Rattle.ssh_transport.specs.Drawing.{AtMostNext, GoesNext, packet_with, writing_at}
 use Rattle.ssh_transport.proofs.Drawing.{drawn_answer, held_answer, left_answer}
 use Rattle.ssh_transport.proofs.Opened.{on_both}
+use Rattle.ssh_transport.proofs.Serving.{wrote_answer}
 use Rattle.ssh_transport.proofs.Submitting.{broken_answer, kept_behind, sent_answer}
 use Rattle.ssh_transport.proofs.connection.Connection.submit.Goals as goal
 
@@ -29,3 +30,6 @@ pub returns-clause-held : goal.returns-clause-held
 returns-clause-held g c = λ o.
     let h = c.submit-sent.ensures.held o in
     (ap (λ (r : g.row.R.Denot). record c.args.parts.now { rng = r }) h.0, held_answer c.args.self.now c.fail_on.new.self c.submit-sent.new.self c.submit-sent.result c.fail_on.result c.fail_on.ensures.result c.fail_on.ensures.same c.fail_on.ensures.rests h.1)
+
+pub returns-clause-sends : goal.returns-clause-sends
+returns-clause-sends g c = wrote_answer _ _ c.args.self.now c.fail_on.new.self c.submit-sent.new.self c.submit-sent.result c.fail_on.result c.fail_on.ensures.result c.fail_on.ensures.same c.submit-sent.ensures.wrote

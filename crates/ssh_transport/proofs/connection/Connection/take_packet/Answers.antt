@@ -3,8 +3,9 @@ use Rattle.ssh_wire.specs.declared.error.Error.TheVariants.{Memory}
 use Rattle.std.proofs.lemmas.Result.{err_from_is_err_and}
 use Rattle.ssh_packet.specs.Errors.{error_of}
 use Rattle.ssh_transport.specs.declared.session.Handled.{Handled}
-use Rattle.ssh_transport.proofs.Asking.{between_same, to_here, to_packet}
+use Rattle.ssh_transport.proofs.Asking.{to_here, to_packet}
 use Rattle.ssh_transport.proofs.Refusing.{from_err, which_error}
+use Rattle.ssh_transport.proofs.Serving.{serves_same}
 use Rattle.ssh_transport.proofs.Stopping.{stops_fault, stops_packet}
 use Rattle.ssh_packet.specs.Sealing.{Clear}
 use Rattle.ssh_transport.proofs.Opened.{begun_heard}
@@ -35,7 +36,7 @@ returns-in_err-handled-clause-stops g c =
     from_err c.from_residual-in_err-handled.result _ c.in_err-handled.field-0.0 p.0 p.1 p.2 (stops_packet _ _ _ _ c.args.self.now _ c.next.result _ c.in-Some.incoming c.in_err-handled.field-0.0 _ _ c.requires.live c.next.follows.holds-at-none c.in_ok-incoming.was c.in-Some.is c.in_err-handled.ensures.refuses c.in_err-handled.ensures.rests refl (λ i p. to_packet c.args.self.now.session _ _ i _ _ _ p c.in_err-handled.ensures.asked))
 
 pub returns-in_default-clause-asks : goal.returns-in_default-clause-asks
-returns-in_default-clause-asks g c = between_same _ _ _ refl
+returns-in_default-clause-asks g c = serves_same _ _ _ _ _ refl
 
 pub returns-in_err-incoming-clause-wants : goal.returns-in_err-incoming-clause-wants
 returns-in_err-incoming-clause-wants g c = λ e.

@@ -4,12 +4,13 @@ use Rattle.ssh_wire.specs.declared.error.Error.TheVariants.{Memory}
 use Rattle.ssh_kex.specs.declared.config.Config.{Config}
 use Rattle.ssh_transport.specs.States.{emptied}
 use Rattle.std.proofs.lemmas.Result.{err_from_is_err_and}
-use Rattle.ssh_transport.proofs.Asking.{between_heard, between_join, to_later, to_still, untested, where_ok}
+use Rattle.ssh_transport.proofs.Asking.{between_heard, to_later, to_still, untested, where_ok}
 use Rattle.ssh_transport.proofs.Drawing.{first_awaited, first_polled, first_unheard}
 use Rattle.ssh_transport.proofs.Failing.{fails_hearing, fails_read}
 use Rattle.ssh_transport.proofs.Inputs.{takes_nothing, takes_polled}
 use Rattle.ssh_transport.proofs.Kept.{live_emptied}
 use Rattle.ssh_transport.proofs.Refusing.{from_err, if_err, which_error}
+use Rattle.ssh_transport.proofs.Serving.{serves_join, serves_wrote}
 use Rattle.ssh_transport.proofs.Wanting.{may_end, may_want}
 use Rattle.ssh_transport.proofs.connection.Connection.take_payload.Goals as goal
 use Rattle.ssh_kex.specs.Stepping.{says_of}
@@ -39,10 +40,10 @@ pub returns-then-is_heard-clause-wants : goal.returns-then-is_heard-clause-wants
 returns-then-is_heard-clause-wants g c = λ e. may_want (λ (x : Config). says_of g.A.Agreement g.H.HostKeys g.G.GroupLookup x c.args.parts.now.agreement c.args.parts.now.hosts c.args.parts.now.groups) c.args.self.now c.hear.new.self c.in_ok-is_heard.ensures.heard (c.hear.ensures.whole (c.in_ok-is_heard.was ∙ ap (λ (b : Bool). Ok b) c.if-is_heard.true)) c.hear.ensures.unqueued (c.read_payload.ensures.wants e)
 
 pub returns-then-is_heard-clause-asks : goal.returns-then-is_heard-clause-asks
-returns-then-is_heard-clause-asks g c = where_ok c.read_payload.result _ _ (λ a. between_join c.args.self.now.session c.hear.new.self.session c.read_payload.new.self.session _ _ _ c.hear.ensures.fixed.0.0 (between_heard (emptied c.args.self.now) c.hear.new.self c.args.self.now.reader.waiting _ c.in_ok-is_heard.ensures.heard) a) c.read_payload.ensures.asks
+returns-then-is_heard-clause-asks g c = where_ok c.read_payload.result _ _ (λ a. serves_join _ c.args.self.now.session c.hear.new.self.session c.read_payload.new.self.session _ _ _ _ _ _ c.hear.ensures.fixed.0 (serves_wrote _ c.args.self.now.session c.hear.new.self.session _ _ _ _ (between_heard (emptied c.args.self.now) c.hear.new.self c.args.self.now.reader.waiting _ c.in_ok-is_heard.ensures.heard) c.in_ok-is_heard.ensures.wrote) a) c.read_payload.ensures.asks
 
 pub returns-clause-asks : goal.returns-clause-asks
-returns-clause-asks g c = between_heard (emptied c.args.self.now) c.hear.new.self c.args.self.now.reader.waiting _ c.in_ok-is_heard.ensures.heard
+returns-clause-asks g c = serves_wrote _ c.args.self.now.session c.hear.new.self.session _ _ _ _ (between_heard (emptied c.args.self.now) c.hear.new.self c.args.self.now.reader.waiting _ c.in_ok-is_heard.ensures.heard) c.in_ok-is_heard.ensures.wrote
 
 pub returns-then-is_heard-clause-drawn : goal.returns-then-is_heard-clause-drawn
 returns-then-is_heard-clause-drawn g c = first_polled (says_of g.A.Agreement g.H.HostKeys g.G.GroupLookup c.hear.new.self.session.config.now c.args.parts.now.agreement c.args.parts.now.hosts c.args.parts.now.groups) _ _ _ c.args.self.now c.hear.new.self c.read_payload.new.self _ _ c.read_payload.result (c.hear.ensures.drawn (c.in_ok-is_heard.was ∙ ap (λ (b : Bool). Ok b) c.if-is_heard.true)) c.read_payload.ensures.reads c.read_payload.ensures.stops

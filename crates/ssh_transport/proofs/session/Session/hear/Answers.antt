@@ -14,6 +14,7 @@ use Rattle.ssh_transport.specs.Hearing.{HearsLine}
 use Rattle.ssh_transport.proofs.Heard.{ends_by, fed_as, line_begun, line_late, no_memory_heard, silent_is}
 use Rattle.ssh_transport.proofs.Refusing.{which_error}
 use Rattle.ssh_transport.proofs.Opened.{heard_line, open_begun, open_late, open_not_yet}
+use Rattle.ssh_transport.proofs.Sending.{wrote_nothing}
 use Rattle.ssh_transport.proofs.session.Session.hear.Goals as goal
 use Rattle.ssh_transport.proofs.session.Session.hear.Goals.{then-is_first_due+in_ok-begin-in-Id, else-is_first_due}
 
@@ -56,6 +57,9 @@ returns-in_err-begin-in-Id-clause-ended g c = λ u e. ends_by c.passes_others.re
 
 pub returns-after-is_first_due-clause-drawn : goal.returns-after-is_first_due-clause-drawn
 returns-after-is_first_due-clause-drawn g c = elim c.if-is_first_due.branch [
-  | then-is_first_due+in_ok-begin-in-Id w ↦ subst (λ (x : Session). OpensDrawn c.args.self.now x (g.R.Rng.stream c.args.rng.now)) (sym w.self-is) (λ silent. w.in_ok-begin-in-Id.ensures.drawn)
+  | then-is_first_due+in_ok-begin-in-Id w ↦ subst (λ (x : Session). OpensDrawn c.args.self.now x (g.R.Rng.stream c.args.rng.now)) (sym w.self-is) (λ silent. w.in_ok-begin-in-Id.ensures.drawn.first)
   | else-is_first_due w ↦ λ silent. absurd (let f : true ≡ false = sym silent ∙ (sym c.is_first_due.ensures ∙ w.if-is_first_due.false) in cc)
 ]
+
+pub returns-in-NotYet-clause-wrote : goal.returns-in-NotYet-clause-wrote
+returns-in-NotYet-clause-wrote g c = wrote_nothing c.args.self.now _

@@ -1,8 +1,8 @@
 use Rattle.std.proofs.Common.{ap}
 use Rattle.ssh_kex.specs.Stages.{Machine}
-use Rattle.ssh_transport.proofs.Drawing.{opened_drawn}
 use Rattle.ssh_transport.proofs.Configs.{usable}
 use Rattle.ssh_transport.proofs.Saying.{opened}
+use Rattle.ssh_transport.proofs.Sending.{opens_with}
 use Rattle.ssh_transport.proofs.session.Session.open.Goals as goal
 
 pub new-requires-clause-usable : goal.new-requires-clause-usable
@@ -12,4 +12,4 @@ pub returns-clause-opens : goal.returns-clause-opens
 returns-clause-opens g c = opened c.args.self.now c.in_ok-kex.kex c.kexinit.new.self c.kexinit.new.output c.next_cause-cause.result c.id.result.now c.in_ok-kex.ensures.ok c.next_cause-cause.ensures c.id.ensures c.in_ok-kexinit.ensures.sent
 
 pub returns-clause-drawn : goal.returns-clause-drawn
-returns-clause-drawn g c = opened_drawn c.args.self.now c.in_ok-kex.kex c.kexinit.new.output c.next_cause-cause.result c.id.result.now _ (ap (λ (m : Machine). m.setting) c.in_ok-kex.ensures.ok) c.in_ok-kexinit.ensures.drawn
+returns-clause-drawn g c = opens_with c.args.self.now c.in_ok-kex.kex c.kexinit.new.output c.next_cause-cause.result c.id.result.now _ _ (ap (λ (m : Machine). m.setting) c.in_ok-kex.ensures.ok) c.in_ok-kexinit.ensures.wrote

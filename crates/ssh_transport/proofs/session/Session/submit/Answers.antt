@@ -2,6 +2,7 @@ use Rattle.std.proofs.Common.{List, ℕ, [], ◌∷◌, ◌++◌, refl, ap, ◌�
 use Rattle.ssh_transport.specs.Drawing.{writing_at}
 use Rattle.ssh_transport.proofs.Drawing.{on_refusal, sealed_alone, sealed_next}
 use Rattle.ssh_transport.proofs.Saying.{flipped, flipped_true, good_some, on_ok, outside_is}
+use Rattle.ssh_transport.proofs.Sending.{wrote_join, wrote_nothing, wrote_payload}
 use Rattle.ssh_transport.proofs.Submitting.{submits_inside, submits_outside}
 use Rattle.ssh_transport.proofs.session.Session.submit.Goals as goal
 
@@ -26,3 +27,9 @@ returns-clause-leaves g c =
     let o = outside_is _ (flipped c.is_inside.result _ c.is_inside.ensures c.if-is_inside.false) in
     on_refusal c.go_on.result _ _ (λ w. sealed_alone c.args.self.now (record c.args.self.now { writer = c.packet_raw.new.self }) c.go_on.new.self c.args.read c.args.payload.now _ (good_some c.args.payload.now c.requires.payload) c.in_ok-packet_raw.ensures.sent refl w)
     (c.go_on.ensures.due (λ _. (c.requires.settled (writing_at c.args.self.now.writer)).sent o))
+
+pub returns-then-is_inside-clause-wrote : goal.returns-then-is_inside-clause-wrote
+returns-then-is_inside-clause-wrote g c = wrote_nothing c.args.self.now _
+
+pub returns-clause-wrote : goal.returns-clause-wrote
+returns-clause-wrote g c = on_ok c.go_on.result _ _ (λ h. wrote_join c.args.self.now (record c.args.self.now { writer = c.packet_raw.new.self }) c.go_on.new.self _ _ _ (refl, refl) (wrote_payload c.args.self.now c.packet_raw.new.self c.args.payload.now _ _ c.requires.payload c.in_ok-packet_raw.ensures.sent c.in_ok-packet_raw.ensures.stream) h) c.go_on.ensures.wrote

@@ -1,6 +1,5 @@
 use Rattle.std.proofs.Common.{subst}
-use Rattle.ssh_rules.specs.Standing.{Standing, Submitted}
-use Rattle.ssh_transport.specs.Saying.{nothing_said}
+use Rattle.ssh_rules.specs.Standing.{Standing, Submitted, nothing_said}
 use Rattle.ssh_transport.specs.States.{standing_of}
 use Rattle.ssh_transport.proofs.Saying.{on_ok}
 use Rattle.ssh_transport.proofs.Submitting.{submitted_says}
