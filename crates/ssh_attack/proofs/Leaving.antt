@@ -10,14 +10,17 @@ use Rattle.ssh_packet.specs.Stream.{message_type}
 use Rattle.ssh_kex.specs.Setting.{Says}
 use Rattle.ssh_kex.specs.declared.config.Config.{Config}
 use Rattle.ssh_kex.specs.declared.exchange.FinishedExchange.{FinishedExchange}
-use Rattle.ssh_rules.specs.Answering.{AnswersAll, HasAnswered, PartTests}
+use Rattle.ssh_rules.specs.Answering.{HasAnswered, PartTests}
+use Rattle.ssh_rules.specs.Asking.{PartCalls}
 use Rattle.ssh_rules.specs.Attacking.{AttackedEnd, AttacksSide, FeedsBy, OwnStep, RekeysBy, SubmitsBy, Tells}
 use Rattle.ssh_rules.specs.MessageTypes.{is_payload_type}
 use Rattle.ssh_rules.specs.Standing.{IsNew, Rekeyed, RekeyedFrom, Standing, Submitted, TakesInput, is_outside, unfinished}
 use Rattle.ssh_rules.specs.Valid.{is_bad_size, is_good_payload}
 use Rattle.ssh_rules.specs.declared.link.AttackStep.{AttackStep}
 use Rattle.ssh_rules.specs.declared.link.AttackStep.TheVariants.{Feed, Rekey, Submit}
+use Rattle.ssh_transport.specs.Asking.{tally}
 use Rattle.ssh_transport.specs.Drawing.{PartsStand, StaysDrawn}
+use Rattle.ssh_transport.specs.Sending.{ServesCall}
 use Rattle.ssh_transport.proofs.Lemmas.{answered_new, comes_fed, comes_join, comes_rekeyed, comes_same, comes_still, comes_submitted, drawn_join}
 use Rattle.ssh_attack.specs.AttackEnds.{AllTaken, LeavesEnd}
 
@@ -38,10 +41,10 @@ before true P f g = f refl
 before false P f g = g refl
 
 -- bytes that it was fed, whose payloads were taken over
-pub leaves_fed : (says : Says) (old fed new : Standing) (piece : List ℕ) (s s' : Stream) (t t' : PartTests) (answer : Result (Unit {0}) Error) → new ≡ record fed { delivered = [] } → StaysDrawn old new s s' → old.failed ≡ false → (old.failed ≡ false → OnErr answer ((fed.failed ≡ true) × (unfinished fed ≡ []))) → OnOk answer (TakesInput says old piece fed) → OnOk answer (AnswersAll old.side old.state fed.state t t')
+pub leaves_fed : (says : Says) (old fed new : Standing) (piece : List ℕ) (Made : Side → Stream → Stream → Type 0) (s s' : Stream) (n n' : PartCalls) (t t' : PartTests) (answer : Result (Unit {0}) Error) → new ≡ record fed { delivered = [] } → StaysDrawn old new s s' → old.failed ≡ false → (old.failed ≡ false → OnErr answer ((fed.failed ≡ true) × (unfinished fed ≡ []))) → OnOk answer (TakesInput says old piece fed) → OnOk answer (ServesCall Made old fed (tally n t) (tally n' t') s s')
     → LeavesEnd old new (record { stream = s; tests = t }) (record { stream = s'; tests = t' })
-leaves_fed says old fed new piece s s' t t' (Ok u) e d l n h a = record { drawn = d; came = λ k. (l, comes_fed says old fed new piece t t' e h a) }
-leaves_fed says old fed new piece s s' t t' (Err x) e d l n h a = record { drawn = d; came = λ k. absurd (let f = (n l).0 in let g = ap (λ (y : Standing). y.failed) e in cc) }
+leaves_fed says old fed new piece Made s s' n n' t t' (Ok u) e d l f h a = record { drawn = d; came = λ k. (l, comes_fed says old fed new piece t t' e h a.answers) }
+leaves_fed says old fed new piece Made s s' n n' t t' (Err x) e d l f h a = record { drawn = d; came = λ k. absurd (let i = (f l).0 in let g = ap (λ (y : Standing). y.failed) e in cc) }
 
 -- nothing changed
 unchanged : (old new : Standing) (s s' : Stream) (t t' : PartTests) → StaysDrawn old new s s' → t' ≡ t → new ≡ old → LeavesEnd old new (record { stream = s; tests = t }) (record { stream = s'; tests = t' })

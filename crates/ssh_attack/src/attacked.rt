@@ -28,8 +28,8 @@ impl<A: Agreement, H: HostKeys, G: GroupLookup, R> Attacked for Parts<A, H, G, R
         p.hosts q.hosts p.groups q.groups };
 }
 
-/// What a call leaves of a side's parts, so that a clause names it once: from where the first KEXINIT is drawn, and that
-/// each part answered.
+/// What a call leaves of a side's parts, so that a clause names it once: from where the first KEXINIT is drawn, and
+/// that each part answered.
 pub trait Leaving {
     ghost leaves: { Standing → Standing → Self → Self → Type 0 };
 }

@@ -37,8 +37,3 @@ draws_sent (Err e) Values behind written old new left v h = tt
 -- where nothing is sent
 pub draws_none : (Values : Stream → Type 0) (behind : Stream) (old new : Writer) (left : Stream) → Values behind → SameButRoom old new → left ≡ behind → StepDraws Values old new left
 draws_none Values behind old new left v e s = record { behind = behind; values = v; written = []; sends = (e, s) }
-
--- of a result that is answered on
-pub draws_as : {T U : Type 0} (r : Result T Error) (q : Result U Error) (V W : Stream → Type 0) (old new : Writer) (left : Stream) → ((x : T) → r ≡ Ok x → (s : Stream) → V s → W s) → OnOk r (StepDraws V old new left) → OnOk r (StepDraws W old new left)
-draws_as (Ok x) q V W old new left f h = record { behind = h.behind; values = f x refl h.behind h.values; written = h.written; sends = h.sends }
-draws_as (Err e) q V W old new left f h = tt

@@ -1,6 +1,6 @@
 -- What crates above cite: the lemmas of the laws, what a server presents, and what both machines' steps share.
 -- Declares nothing.
-pub use Rattle.ssh_kex.proofs.Drawn.{draws_as, draws_none, draws_sent}
+pub use Rattle.ssh_kex.proofs.Drawn.{draws_none, draws_sent}
 pub use Rattle.ssh_kex.proofs.Ended.{last_answers, last_done, last_refused_if}
 pub use Rattle.ssh_kex.proofs.Excluding.{rows_exclude}
 pub use Rattle.ssh_kex.proofs.Meeting.{ciphers_meet}

@@ -31,10 +31,14 @@ pub record Counted {T : Type 0} (refusals refusals' calls calls' : ℕ) (result 
   pub cause : IsRefused result → Rose refusals refusals'
   pub calls_one : calls' ≤ calls + 1
 
--- So many calls were answered between two states, and none was refused: if the part may have answered some calls before,
--- it may have answered so many more behind them, by whatever number it is known.
+-- So many calls were answered between what a part says before and behind them, and none was refused: if it may have
+-- answered some calls before, it may have answered so many more behind them, by whatever number it is known.
+abbrev pub Raises : ℕ → (ℕ → ℕ → Bool) → (ℕ → ℕ → Bool) → Type 0
+Raises count test test' = (known n : ℕ) → test known n ≡ true → test' known (n + count) ≡ true
+
+-- so of a part's states
 abbrev pub Answers : {T : Type 0} → (T → ℕ → ℕ → Bool) → ℕ → T → T → Type 0
-Answers answered count old new = (known n : ℕ) → answered old known n ≡ true → answered new known (n + count) ≡ true
+Answers answered count old new = Raises count (answered old) (answered new)
 
 -- what every answered byte string keeps
 abbrev pub IsValue : List ℕ → Type 0

@@ -42,8 +42,8 @@ said_then n (Ok said) more = more said
 -- what lines that count from n make of what was said
 abbrev pub said_from : {X : Type 0} → (X → List ℕ → List (List ℕ) → Result X ScriptKind) → ℕ → X → List (List ℕ) → Result X ScriptFault
 said_from form n said [] = Ok said
-said_from form n said (line ∷ lines) =
-    said_then n (line_makes form said (words_of line)) (λ next. said_from form (n + 1) next lines)
+said_from form n said (line ∷ lines) = said_then n (line_makes form said (words_of line))
+    (λ next. said_from form (n + 1) next lines)
 
 -- what a whole script makes of what was said before it, or its fault
 abbrev pub said_by : {X : Type 0} → (X → List ℕ → List (List ℕ) → Result X ScriptKind) → X → List ℕ → Result X ScriptFault

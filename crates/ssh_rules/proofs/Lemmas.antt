@@ -56,7 +56,7 @@ pub use Rattle.ssh_rules.proofs.side.Numbers.{few_run}
 pub use Rattle.ssh_rules.proofs.marks.Moved.{same_mark}
 pub use Rattle.ssh_rules.proofs.refusals.AskedLinks.{AskedFew, FewAt, IsSoFar, RefusedHere, asked_few, begun_of, few_at, kinds_of, so_far_settled, times_up}
 pub use Rattle.ssh_rules.proofs.refusals.Came.{came}
-pub use Rattle.ssh_rules.proofs.side.Kept.{asking_kept, kept_line, piece_asking_kept, piece_kept, takes_kept}
+pub use Rattle.ssh_rules.proofs.side.Kept.{kept_line, piece_asking_kept, piece_kept, refused_asking, takes_kept}
 pub use Rattle.ssh_rules.proofs.any_bytes.AttackTrace.{Lifts, end_lifted, one_more, trace_lifted}
 pub use Rattle.ssh_rules.proofs.any_bytes.AttackParts.{attack_report}
 pub use Rattle.ssh_rules.proofs.any_bytes.AttackedLinks.{answers_weaker, first_end}

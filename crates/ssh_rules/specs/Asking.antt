@@ -94,8 +94,8 @@ pub record AsksUntil (side : Side) (cause : RefusalCause) (st at : SideState) (c
   pub before : AsksWithin side st at calls mid
   pub last : AsksForCause cause side at.stands mid calls'
 
--- A piece was refused: the parts were asked within that, and once at most for each message of an exchange, the refused
--- one included.
+-- A piece was refused, however it is answered: the parts were asked within that, and once at most for each message of an
+-- exchange, the refused one included.
 pub record RefusesAsking (says : Says) (old : Standing) (piece : List ℕ) (new : Standing) (calls calls' : PartCalls)
     : Type 0 where
   pub cause : RefusalCause

@@ -87,8 +87,7 @@ abbrev pub IsCauseOf : Rises → Side → (Side → Config) → (KexName → Boo
 IsCauseOf r side config offered group errors.KexInit =
     (kind_by (chosen_by (config Client) (config Server)) ≡ true) × IsOutside (config Client).gex group
 IsCauseOf r side config offered group errors.UnknownAlgo = IsNotOffered config offered
-IsCauseOf r side config offered group (errors.NoCommonAlgo kind ours theirs) =
-    NoneInCommon side config kind ours.0.items theirs.0.items
+IsCauseOf r side config offered group (errors.NoCommonAlgo kind ours theirs) = NoneInCommon side config kind ours.0.items theirs.0.items
 IsCauseOf r side config offered group errors.Kex = r.agreement ⊎ ((side ≡ Server) × r.lookup)
 IsCauseOf r side config offered group errors.UnknownKey = (side ≡ Client) × r.checking
 IsCauseOf r side config offered group errors.WrongServerSig = (side ≡ Client) × r.verifying

@@ -21,7 +21,7 @@ use Rattle.ssh_kex.specs.declared.exchange.ServerHost.{ServerHost}
 use Rattle.ssh_rules.specs.Machine.{InOrder, Inside, MayDeliver, Outside, SideState, guesses, names_now, setting}
 use Rattle.ssh_rules.specs.MessageTypes.{is_kex_type, is_payload_type, type_of, is_violation}
 use Rattle.ssh_rules.specs.Refused.{LooksIn}
-use Rattle.ssh_rules.specs.Asking.{AsksAtMost, PartCalls, kex_count, refused_packet}
+use Rattle.ssh_rules.specs.Asking.{AsksAtMost, AsksUntil, PartCalls, kex_count, refused_packet}
 use Rattle.ssh_rules.specs.Log.{handled}
 use Rattle.ssh_rules.specs.Standing.{OfFault, OfMemory, OfPacket, OfVersion, RefusalCause, RefusesInput, Standing}
 use Rattle.ssh_kex.specs.Members.{HostKeysMembers}
@@ -100,9 +100,10 @@ pub record RefusesPiece (says : Says) (denies : Denies) (untrusted : ServerHost 
   pub refuses : RefusesInput says old piece cause new
   pub answers : AnswersCause says denies untrusted old.side old.config cause refuses.at error
 
--- The same, and how often the parts were asked for it: each once at most for each message of an exchange that was
--- handled, the refused one included.
+-- The same, with how often the parts were asked up to there: no more than its events and its cause let them be, and each
+-- once at most for each message of an exchange, the refused one included.
 pub record RefusesPieceAsking (says : Says) (denies : Denies) (untrusted : ServerHost → Type 0) (old : Standing) (piece : List ℕ)
     (error : Error) (new : Standing) (calls calls' : PartCalls) : Type 0 where
   pub refused : RefusesPiece says denies untrusted old piece error new
+  pub asks : AsksUntil old.side refused.cause old.state refused.refuses.at calls calls'
   pub few : AsksAtMost (kex_count (handled refused.refuses.events ++ refused_packet refused.cause)) calls calls'

@@ -2,17 +2,22 @@
 use Rattle.std.proofs.Common.{◌≡◌, ℕ, ◌-◌, length, length-drop, min, Bool, true, false, List, [], ◌∷◌, ◌++◌, take, drop, refl, sym, ap, ◌∙◌, subst, arith, ◌⊎◌, inl, inr, Result, Ok, Err, OnOk, OnErr}
 use Rattle.ssh_wire.specs.Lines.{id_text}
 use Rattle.ssh_wire.specs.Reading.{Failed}
+use Rattle.ssh_wire.specs.declared.error.Error.{Error}
 use Rattle.ssh_wire.specs.declared.side.Side.{Side}
+use Rattle.ssh_kex.specs.Refusals.{Denies}
 use Rattle.ssh_kex.specs.Setting.{Says}
+use Rattle.ssh_kex.specs.declared.exchange.ServerHost.{ServerHost}
 use Rattle.ssh_rules.specs.Asking.{AsksUntil, AsksWithin, PartCalls, RefusesAsking}
 use Rattle.ssh_rules.specs.Machine.{Asked, Event, ExchangeBegun}
+use Rattle.ssh_rules.specs.Refusing.{RefusesPiece, RefusesPieceAsking}
 use Rattle.ssh_rules.specs.Standing.{Acts, OfMemory, Rekeyed, RekeyedFrom, Standing, Submitted, TakesInput, is_outside}
 use Rattle.ssh_rules.specs.declared.link.Mark.{Mark}
 use Rattle.ssh_rules.specs.declared.link.Step.{Step}
-use Rattle.ssh_rules.proofs.Lemmas.{asks_join, asks_steps, asks_still, begun_steps, refused_few}
+use Rattle.ssh_rules.proofs.Lemmas.{asks_join, asks_steps, asks_still, begun_steps, refused_asking, refused_few}
 use Rattle.ssh_transport.proofs.Lemmas.{Weaker, steps_weaker}
 use Rattle.ssh_run.specs.Asking.{LinkAsks, PartAsks, PieceAsks, SideAsks, TurnsAsk}
 use Rattle.ssh_run.specs.Carrying.{CarriedEnd, CarriedLink, CarriesTo, all_bytes, carried_count, last_link}
+use Rattle.ssh_run.specs.RefusedCarrying.{RefusesCarrying, Telling}
 use Rattle.ssh_run.proofs.LinkSoFar.{BothLive, RunsSoFar, TurnsSoFar, carries_weaker, repeats_live, repeats_weaker, steps_live}
 
 -- the calls that were counted where no part changed
@@ -108,6 +113,21 @@ pub kept_piece : (says : Says) (e : CarriedEnd) (fed : Standing) (wire waiting :
 kept_piece says e fed wire waiting n k m m' w f t a = inr (record {
   left = broken fed;
   asks = subst (λ q. RefusesAsking says e.transport q (broken fed) m m') (piece_is wire waiting e.taken n k w f) (kept_asks says e.transport fed (take k waiting) m m' t a);
+})
+
+-- ---- a piece that is refused
+
+pub refused_piece : (says : Says) (denies : Denies) (untrusted : ServerHost → Type 0) (e : CarriedEnd) (left : Standing) (wire waiting : List ℕ) (n k : ℕ) (error : Error) (m m' : PartCalls) → waiting ≡ drop e.taken wire → k ≡ min n (length waiting) → RefusesPieceAsking says denies untrusted e.transport (take k waiting) error left m m' → PieceAsks says e wire n m m'
+refused_piece says denies untrusted e left wire waiting n k error m m' w f r = inr (record {
+  left = left;
+  asks = subst (λ q. RefusesAsking says e.transport q left m m') (piece_is wire waiting e.taken n k w f) (refused_asking says denies untrusted e.transport left (take k waiting) error m m' r);
+})
+
+-- and why
+pub refuses_bytes : (t : Telling) (e : CarriedEnd) (left : Standing) (wire waiting : List ℕ) (n k : ℕ) (error : Error) (m m' : PartCalls) → waiting ≡ drop e.taken wire → k ≡ min n (length waiting) → RefusesPieceAsking t.says t.denies t.untrusted e.transport (take k waiting) error left m m' → RefusesCarrying t e wire n error
+refuses_bytes t e left wire waiting n k error m m' w f r = inr (record {
+  left = left;
+  call = subst (λ q. RefusesPiece t.says t.denies t.untrusted e.transport q error left) (piece_is wire waiting e.taken n k w f) r.refused;
 })
 
 -- ---- both sides

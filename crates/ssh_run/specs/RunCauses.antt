@@ -68,8 +68,8 @@ most_brought side (Settle ∷ steps) = most_brought side steps
 brought-example : most_brought Client (Deliver Client 40 ∷ Deliver Server 9 ∷ Deliver Client 2 ∷ []) ≡ 42
 brought-example = refl
 
--- They let a side take more than the other's version line, and the other all of the side's, behind which alone it
--- writes more: a settle does, and deliveries of so many bytes.
+-- There is a settle, or their deliveries ask for more bytes than the other's version line has, and for all of the side's,
+-- behind which alone the other writes more.
 abbrev pub BringMessages : Side → (Side → Config) → List Step → Type 0
 BringMessages side config steps = has_settle steps ≡ false
     → (length (id_line (config (other_side side)).id) < most_brought side steps)

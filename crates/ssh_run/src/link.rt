@@ -108,8 +108,9 @@ pub fn run_link<A: Agreement, H: HostKeys, G: GroupLookup, R: Rng>(
     ensures server_keeps { ⟦<Parts<A, H, G, R> as Handed>⟧.keeps server_parts.old server_parts.new }
     ensures drawn { IfOk result (λ r. AreDrawn client.now server.now (R.stream client_parts.old.rng)
         (R.stream server_parts.old.rng) r.client.wire r.server.wire) }
-    ensures answered { IfOk result (BothAnswered client.now server.now (⟦<Parts<A, H, G, R> as Asked>⟧.tests client_parts.old)
-        (⟦<Parts<A, H, G, R> as Asked>⟧.tests client_parts.new) (⟦<Parts<A, H, G, R> as Asked>⟧.tests server_parts.old)
+    ensures answered { IfOk result (BothAnswered client.now server.now
+        (⟦<Parts<A, H, G, R> as Asked>⟧.tests client_parts.old) (⟦<Parts<A, H, G, R> as Asked>⟧.tests client_parts.new)
+        (⟦<Parts<A, H, G, R> as Asked>⟧.tests server_parts.old)
         (⟦<Parts<A, H, G, R> as Asked>⟧.tests server_parts.new)) }
 {
     see_types(client);

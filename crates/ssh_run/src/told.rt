@@ -142,8 +142,8 @@ impl<A: Agreement, H: HostKeys, G: GroupLookup, R> LinkTold for Parts<A, H, G, R
         (⟦<Parts<A, H, G, R> as Asked>⟧.calls q) (⟦<Parts<A, H, G, R> as Asked>⟧.calls q') };
 }
 
-/// What a call leaves of a side's parts, so that a clause names it once: from where the first KEXINIT is drawn, and that
-/// each part answered.
+/// What a call leaves of a side's parts, so that a clause names it once: from where the first KEXINIT is drawn, and
+/// that each part answered.
 pub trait Leaving {
     // A call on a side leaves it so.
     ghost leaves: { LinkEnd → LinkEnd → Self → Self → Type 0 };

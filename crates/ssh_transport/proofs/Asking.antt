@@ -9,6 +9,7 @@ use Rattle.ssh_packet.specs.Sealing.{Item}
 use Rattle.ssh_packet.specs.Stream.{message_type}
 use Rattle.ssh_packet.specs.Writing.{Writer}
 use Rattle.ssh_packet.specs.declared.reader.Incoming.{Incoming}
+use Rattle.ssh_kex.specs.Parts.{Raises}
 use Rattle.ssh_kex.specs.Setting.{Says, Setting}
 use Rattle.ssh_kex.specs.Stages.{Stage, Created, AwaitsGroup, AwaitsReply, AwaitsRequest, AwaitsValue, AwaitsNewkeys, IsStageOf, Machine, Finishes, Skips, names_in_stage}
 use Rattle.ssh_kex.specs.Stepping.{answers_agreement, asks_hosts, asks_groups, next_of, DropsGuess, IsDone, Progresses, TakesOne}
@@ -29,7 +30,7 @@ use Rattle.ssh_rules.specs.Machine.{AnswerSent, Event, ExchangeBegun, ExchangeFi
 use Rattle.ssh_rules.specs.Standing.{OfMemory, OfPacket, RefusalCause, nothing_said}
 use Rattle.ssh_rules.specs.Valid.{config_fault}
 use Rattle.ssh_rules.proofs.Lemmas.{answers_at, answers_join, answers_same, answers_still, asks_join, asks_left, asks_lookups, asks_steps, asks_still, begun_first, begun_steps, cause_none, dropped_asks, dropped_calls, dropped_group, groups_more, request_alone, stage_bounds, taken_group}
-use Rattle.ssh_transport.specs.Asking.{AsksBetween, AsksTo, MoveAnswers, MoveAsks, PartTally, Raises, StepAnswers, StepAsks, StepCalls, asks_trust, nowhere, state_of, trust_in}
+use Rattle.ssh_transport.specs.Asking.{AsksBetween, AsksTo, MoveAnswers, MoveAsks, PartTally, StepAnswers, StepAsks, StepCalls, asks_trust, nowhere, state_of, trust_in}
 use Rattle.ssh_transport.specs.Handling.{Installs, IsFor, IsOpen, Moves}
 use Rattle.ssh_transport.specs.Saying.{GoesOn, GoesPart, IsFixed, OnlyWrites}
 use Rattle.ssh_transport.specs.States.{after_exchanges, reading_spot, stands_of, state_at}

@@ -180,7 +180,7 @@ piece_still a b d e u v w z old piece error new r = record {
 -- with how often the parts were asked
 pub asking_still : (a b : Says) (d e : Denies) (u v : ServerHost → Type 0) → Denying a b d e → ((host : ServerHost) → u host → v host) → (old : Standing) (piece : List ℕ) (error : Error) (new : Standing) (n n' : PartCalls) → RefusesPieceAsking a d u old piece error new n n' → RefusesPieceAsking b e v old piece error new n n'
 unfolding piece_still
-asking_still a b d e u v w z old piece error new n n' h = record { refused = piece_still a b d e u v w z old piece error new h.refused; few = h.few }
+asking_still a b d e u v w z old piece error new n n' h = record { refused = piece_still a b d e u v w z old piece error new h.refused; asks = h.asks; few = h.few }
 
 -- what acts as later parts say acts as earlier ones say
 acts_still : (a b : Says) → Weaker a b → (old : Standing) (events : List Event) (new : Standing) → Acts a old events new → Acts b old events new

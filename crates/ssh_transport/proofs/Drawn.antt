@@ -10,10 +10,11 @@ use Rattle.ssh_kex.specs.Refusals.{Denies}
 use Rattle.ssh_kex.specs.Setting.{Says}
 use Rattle.ssh_kex.specs.declared.config.Config.{Config}
 use Rattle.ssh_kex.specs.declared.exchange.ServerHost.{ServerHost}
+use Rattle.ssh_rules.specs.Asking.{PartCalls}
 use Rattle.ssh_rules.specs.Log.{sent_bytes}
 use Rattle.ssh_rules.specs.Machine.{Asked, ExchangeBegun, Inside, Outside, Silent, Spot, Where, first_state}
 use Rattle.ssh_rules.specs.MessageTypes.{is_payload_type}
-use Rattle.ssh_rules.specs.Refusing.{RefusesPiece}
+use Rattle.ssh_rules.specs.Refusing.{RefusesPieceAsking}
 use Rattle.ssh_rules.specs.Standing.{IsNew, Rekeyed, RekeyedFrom, Standing, Submitted, TakesInput, is_outside}
 use Rattle.ssh_rules.specs.Valid.{is_bad_size, is_good_payload}
 use Rattle.ssh_transport.specs.Drawing.{BeginsDrawn, DrawsFirst, IsDrawn, StaysDrawn, kexinit_packet}
@@ -87,13 +88,13 @@ drawn_live old new stream stream' more live stays grows h = λ side config first
 }
 
 -- a piece was fed, whatever was answered
-pub drawn_fed : (says : Says) (denies : Denies) (untrusted : ServerHost → Type 0) (old new : Standing) (piece : List ℕ) (stream stream' : Stream) (answer : Result (Unit {0}) Error) → (old.failed ≡ true → (new ≡ old) × (stream' ≡ stream)) → (new.side ≡ old.side) × (new.config ≡ old.config)
-    → OnOk answer (TakesInput says old piece new) → (old.failed ≡ false → IfErr answer (λ e. RefusesPiece says denies untrusted old piece e new)) → DrawsFirst (new.failed ≡ false) old new stream stream' → StaysDrawn old new stream stream'
-drawn_fed says denies untrusted old new piece stream stream' answer dead stays fed refused drawn = by old.failed refl answer fed refused where
-  by : (b : Bool) → old.failed ≡ b → (a : Result (Unit {0}) Error) → OnOk a (TakesInput says old piece new) → (old.failed ≡ false → IfErr a (λ e. RefusesPiece says denies untrusted old piece e new)) → StaysDrawn old new stream stream'
+pub drawn_fed : (says : Says) (denies : Denies) (untrusted : ServerHost → Type 0) (old new : Standing) (piece : List ℕ) (stream stream' : Stream) (n n' : PartCalls) (answer : Result (Unit {0}) Error) → (old.failed ≡ true → (new ≡ old) × (stream' ≡ stream)) → (new.side ≡ old.side) × (new.config ≡ old.config)
+    → OnOk answer (TakesInput says old piece new) → (old.failed ≡ false → IfErr answer (λ e. RefusesPieceAsking says denies untrusted old piece e new n n')) → DrawsFirst (new.failed ≡ false) old new stream stream' → StaysDrawn old new stream stream'
+drawn_fed says denies untrusted old new piece stream stream' n n' answer dead stays fed refused drawn = by old.failed refl answer fed refused where
+  by : (b : Bool) → old.failed ≡ b → (a : Result (Unit {0}) Error) → OnOk a (TakesInput says old piece new) → (old.failed ≡ false → IfErr a (λ e. RefusesPieceAsking says denies untrusted old piece e new n n')) → StaysDrawn old new stream stream'
   by true f a h r = drawn_still old new stream stream' (dead f).0 (dead f).1
   by false f (Ok u) h r = drawn_live old new stream stream' (sent_bytes old.side old.state.writing h.events) f stays h.acts.output drawn
-  by false f (Err e) h r = drawn_live old new stream stream' (sent_bytes old.side old.state.writing (r f).refuses.events) f stays (r f).refuses.output drawn
+  by false f (Err e) h r = drawn_live old new stream stream' (sent_bytes old.side old.state.writing (r f).refused.refuses.events) f stays (r f).refused.refuses.output drawn
 
 -- one that is silent isn't outside
 silent_inside : (stands : Where) → is_silent stands ≡ true → is_outside stands ≡ false

@@ -15,12 +15,12 @@ use Rattle.ssh_kex.specs.Refusals.{Denies}
 use Rattle.ssh_kex.specs.Setting.{Says}
 use Rattle.ssh_kex.specs.declared.config.Config.{Config}
 use Rattle.ssh_kex.specs.declared.exchange.ServerHost.{ServerHost}
-use Rattle.ssh_rules.specs.Asking.{AsksUntil, PartCalls, RefusesAsking}
+use Rattle.ssh_rules.specs.Asking.{AsksUntil, PartCalls}
 use Rattle.ssh_rules.specs.Log.{delivered_in, read_bytes, sent_bytes}
 use Rattle.ssh_rules.specs.Machine.{Event, SideState, Steps}
 use Rattle.ssh_rules.specs.Refusing.{AnswersCause, RefusesPiece, RefusesPieceAsking}
 use Rattle.ssh_rules.specs.Standing.{HearsBy, IsIdleBefore, IsNoId, OfFault, OfMemory, OfPacket, OfVersion, ReadsLineFrom, RefusalCause, Standing, lets_pass, nothing_said}
-use Rattle.ssh_rules.proofs.Lemmas.{asking_kept, begun_steps, delivered_more, piece_asking_kept, piece_kept, read_join, refused_few, sent_join, steps_join}
+use Rattle.ssh_rules.proofs.Lemmas.{begun_steps, delivered_more, piece_asking_kept, read_join, refused_few, sent_join, steps_join}
 use Rattle.ssh_transport.specs.Asking.{AsksTo}
 use Rattle.ssh_transport.specs.Handling.{IsHeard}
 use Rattle.ssh_transport.specs.Kept.{IsLive}
@@ -194,14 +194,6 @@ refuses_piece says denies untrusted asked c mid c' piece error x b r f = record 
   answers = f.why;
 }
 
--- the piece behind what was kept
-piece_refused : (says : Says) (denies : Denies) (untrusted : ServerHost → Type 0) (asked : RefusalCause → SideState → Type 0) (c mid c' : Connection) (piece : List ℕ) (error : Error) → IsFixed c.session mid.session → Breaks (standing_of mid) (standing_of c') → IsAsBefore mid.session c'.session → Fails says denies untrusted asked (emptied c) (c.reader.waiting ++ piece) error mid → RefusesPiece says denies untrusted (standing_of c) piece error (standing_of c')
-piece_refused says denies untrusted asked c mid c' piece error x b r f = piece_kept says denies untrusted (bare_of (emptied c)) (standing_of c') c.reader.waiting piece error (refuses_piece says denies untrusted asked (emptied c) mid c' (c.reader.waiting ++ piece) error x b r f)
-
-pub refused_answer : {T : Type 0} (says : Says) (denies : Denies) (untrusted : ServerHost → Type 0) (asked : RefusalCause → SideState → Type 0) (c mid c' : Connection) (piece : List ℕ) (answer done : Result T Error) → done ≡ answer → IsFixed c.session mid.session → OnErr answer (Breaks (standing_of mid) (standing_of c')) → OnErr answer (IsAsBefore mid.session c'.session) → IfErr answer (λ e. Fails says denies untrusted asked (emptied c) (c.reader.waiting ++ piece) e mid) → IfErr done (λ e. RefusesPiece says denies untrusted (standing_of c) piece e (standing_of c'))
-refused_answer {T} says denies untrusted asked c mid c' piece (Ok u) done d x b r f = subst (λ (y : Result T Error). IfErr y (λ e. RefusesPiece says denies untrusted (standing_of c) piece e (standing_of c'))) (sym d) tt
-refused_answer {T} says denies untrusted asked c mid c' piece (Err e) done d x b r f = subst (λ (y : Result T Error). IfErr y (λ e. RefusesPiece says denies untrusted (standing_of c) piece e (standing_of c'))) (sym d) (piece_refused says denies untrusted asked c mid c' piece e x b r f)
-
 -- where nothing is behind it
 pub fails_alone : {T : Type 0} (says : Says) (denies : Denies) (untrusted : ServerHost → Type 0) (asked : RefusalCause → SideState → Type 0) (c c' : Connection) (bytes : List ℕ) (answer : Result T Error) → IfErr answer (λ e. Fails says denies untrusted asked c bytes e c') → IfErr answer (λ e. Fails says denies untrusted asked c (bytes ++ []) e c')
 fails_alone {T} says denies untrusted asked c c' bytes answer h = subst (λ (b : List ℕ). IfErr answer (λ e. Fails says denies untrusted asked c b e c')) (sym (append-nil bytes)) h
@@ -210,33 +202,17 @@ pub fails_read : (says : Config → Says) (denies : Denies) (untrusted : ServerH
 fails_read says denies untrusted asked later c mid c' piece error a h i k = fails_behind (says c.session.config.now) denies untrusted asked later c mid c' piece error a h i (subst (λ (b : Bor Config). Stops (says b.now) denies untrusted later mid error c') h.config k)
 
 -- and how often the parts were asked
-asking_piece : (says : Says) (denies : Denies) (untrusted : ServerHost → Type 0) (n n' : PartCalls) (c mid c' : Connection) (piece : List ℕ) (error : Error) → IsFixed c.session mid.session → Breaks (standing_of mid) (standing_of c') → IsAsBefore mid.session c'.session → Fails says denies untrusted (AsksTo c.session n n') c piece error mid → RefusesAsking says (bare_of c) piece (standing_of c') n n'
+piece_asking : (says : Says) (denies : Denies) (untrusted : ServerHost → Type 0) (n n' : PartCalls) (c mid c' : Connection) (piece : List ℕ) (error : Error) → IsFixed c.session mid.session → Breaks (standing_of mid) (standing_of c') → IsAsBefore mid.session c'.session → Fails says denies untrusted (AsksTo c.session n n') c piece error mid → RefusesPieceAsking says denies untrusted (bare_of c) piece error (standing_of c') n n'
 unfolding refuses_piece
-asking_piece says denies untrusted n n' c mid c' piece error x b r f = record {
-  cause = f.cause;
-  refuses = (refuses_piece says denies untrusted (AsksTo c.session n n') c mid c' piece error x b r f).refuses;
+piece_asking says denies untrusted n n' c mid c' piece error x b r f = record {
+  refused = refuses_piece says denies untrusted (AsksTo c.session n n') c mid c' piece error x b r f;
   asks = until;
   few = refused_few says c.session.side c.session.config.now (id_text c.session.config.now.id) f.events f.cause (bare_of c).state f.state n n' f.steps until;
 } where
   until : AsksUntil c.session.side f.cause (bare_of c).state f.state n n'
   until = record { mid = (f.asks).mid; before = record { agreement = ((f.asks).before).agreement; hosts = ((f.asks).before).hosts; lookups = ((f.asks).before).lookups; groups = ((f.asks).before).groups }; last = (f.asks).last }
 
-asking_refused : (says : Says) (denies : Denies) (untrusted : ServerHost → Type 0) (n n' : PartCalls) (c mid c' : Connection) (piece : List ℕ) (error : Error) → IsFixed c.session mid.session → Breaks (standing_of mid) (standing_of c') → IsAsBefore mid.session c'.session → Fails says denies untrusted (AsksTo c.session n n') (emptied c) (c.reader.waiting ++ piece) error mid → RefusesAsking says (standing_of c) piece (standing_of c') n n'
-asking_refused says denies untrusted n n' c mid c' piece error x b r f = asking_kept says (bare_of (emptied c)) (standing_of c') c.reader.waiting piece n n' (asking_piece says denies untrusted n n' (emptied c) mid c' (c.reader.waiting ++ piece) error x b r f)
-
-pub asked_answer : {T : Type 0} (says : Says) (denies : Denies) (untrusted : ServerHost → Type 0) (n n' : PartCalls) (c mid c' : Connection) (piece : List ℕ) (answer done : Result T Error) → done ≡ answer → IsFixed c.session mid.session → OnErr answer (Breaks (standing_of mid) (standing_of c')) → OnErr answer (IsAsBefore mid.session c'.session) → IfErr answer (λ e. Fails says denies untrusted (AsksTo c.session n n') (emptied c) (c.reader.waiting ++ piece) e mid) → OnErr done (RefusesAsking says (standing_of c) piece (standing_of c') n n')
-asked_answer {T} says denies untrusted n n' c mid c' piece (Ok u) done d x b r f = subst (λ (y : Result T Error). OnErr y (RefusesAsking says (standing_of c) piece (standing_of c') n n')) (sym d) tt
-asked_answer {T} says denies untrusted n n' c mid c' piece (Err e) done d x b r f = subst (λ (y : Result T Error). OnErr y (RefusesAsking says (standing_of c) piece (standing_of c') n n')) (sym d) (asking_refused says denies untrusted n n' c mid c' piece e x b r f)
-
--- both of the same refusal
-piece_asking : (says : Says) (denies : Denies) (untrusted : ServerHost → Type 0) (n n' : PartCalls) (c mid c' : Connection) (piece : List ℕ) (error : Error) → IsFixed c.session mid.session → Breaks (standing_of mid) (standing_of c') → IsAsBefore mid.session c'.session → Fails says denies untrusted (AsksTo c.session n n') c piece error mid → RefusesPieceAsking says denies untrusted (bare_of c) piece error (standing_of c') n n'
-unfolding refuses_piece
-piece_asking says denies untrusted n n' c mid c' piece error x b r f = record {
-  refused = refuses_piece says denies untrusted (AsksTo c.session n n') c mid c' piece error x b r f;
-  few = refused_few says c.session.side c.session.config.now (id_text c.session.config.now.id) f.events f.cause (bare_of c).state f.state n n' f.steps
-      (record { mid = (f.asks).mid; before = record { agreement = ((f.asks).before).agreement; hosts = ((f.asks).before).hosts; lookups = ((f.asks).before).lookups; groups = ((f.asks).before).groups }; last = (f.asks).last });
-}
-
+-- the piece behind what was kept
 piece_asked : (says : Says) (denies : Denies) (untrusted : ServerHost → Type 0) (n n' : PartCalls) (c mid c' : Connection) (piece : List ℕ) (error : Error) → IsFixed c.session mid.session → Breaks (standing_of mid) (standing_of c') → IsAsBefore mid.session c'.session → Fails says denies untrusted (AsksTo c.session n n') (emptied c) (c.reader.waiting ++ piece) error mid → RefusesPieceAsking says denies untrusted (standing_of c) piece error (standing_of c') n n'
 piece_asked says denies untrusted n n' c mid c' piece error x b r f = piece_asking_kept says denies untrusted (bare_of (emptied c)) (standing_of c') c.reader.waiting piece error n n' (piece_asking says denies untrusted n n' (emptied c) mid c' (c.reader.waiting ++ piece) error x b r f)
 

@@ -9,11 +9,9 @@ use Rattle.ssh_kex.specs.Refusals.{Denies}
 use Rattle.ssh_kex.specs.Setting.{Says}
 use Rattle.ssh_kex.specs.declared.config.Config.{Config}
 use Rattle.ssh_kex.specs.declared.exchange.ServerHost.{ServerHost}
-use Rattle.ssh_rules.specs.Asking.{RefusesAsking}
-use Rattle.ssh_rules.specs.Polling.{LendsPayload, Polls, queued}
-use Rattle.ssh_rules.specs.Refusing.{RefusesPiece}
+use Rattle.ssh_rules.specs.Polling.{LendsPayload, Polls}
+use Rattle.ssh_rules.specs.Refusing.{RefusesPieceAsking}
 use Rattle.ssh_rules.specs.Standing.{Standing, unfinished}
-use Rattle.ssh_rules.proofs.Lemmas.{input_few}
 use Rattle.ssh_transport.specs.Drawing.{DrawsFirst}
 use Rattle.ssh_transport.specs.Asking.{PartTally}
 use Rattle.ssh_transport.specs.Lending.{PollsAs}
@@ -37,10 +35,10 @@ alive old lends P h f = absurd (let e = h f in cc)
 polls_as : (says : Says) (denies : Denies) (untrusted : ServerHost → Type 0) (n n' : PartTally) (Made : Side → Stream → Stream → Type 0) (stream stream' : Stream) (old new : Standing) (handed : List ℕ) (answer : Result Bool Error) (result : Result (Option (Bor (List ℕ))) (Bor Error)) → LendsFor answer handed result
     → (old.failed ≡ true → answer ≡ Err Disconnect) → (old.failed ≡ true → new ≡ old) → (new.side ≡ old.side) × (new.config ≡ old.config)
     → (old.failed ≡ false → OnOk answer (new.failed ≡ false)) → (old.failed ≡ false → OnErr answer ((new.failed ≡ true) × (unfinished new ≡ [])))
-    → new.delivered ≡ old.delivered → IfOk answer (λ lends. Polls says old (lent_by lends handed) new) → (old.failed ≡ false → IfErr answer (λ e. RefusesPiece says denies untrusted old [] e new))
-    → OnOk answer (ServesCall Made old new n n' stream stream') → (old.failed ≡ false → OnErr answer (RefusesAsking says old [] new n.calls n'.calls)) → DrawsFirst (new.failed ≡ false) old new stream stream'
+    → new.delivered ≡ old.delivered → IfOk answer (λ lends. Polls says old (lent_by lends handed) new) → (old.failed ≡ false → IfErr answer (λ e. RefusesPieceAsking says denies untrusted old [] e new n.calls n'.calls))
+    → OnOk answer (ServesCall Made old new n n' stream stream') → DrawsFirst (new.failed ≡ false) old new stream stream'
     → PollsAs says denies untrusted n n' Made stream stream' old result new
-polls_as says denies untrusted n n' Made stream stream' old new handed (Ok true) (Ok (Some p)) rel dead same stays lives ends unqueued polled refused serves asked drawn = record {
+polls_as says denies untrusted n n' Made stream stream' old new handed (Ok true) (Ok (Some p)) rel dead same stays lives ends unqueued polled refused serves drawn = record {
   dead = λ f. alive old true _ dead f;
   stays = stays;
   lives = lives;
@@ -48,17 +46,13 @@ polls_as says denies untrusted n n' Made stream stream' old new handed (Ok true)
   unqueued = unqueued;
   polled = subst (λ (x : List ℕ). LendsPayload says old x new) (sym rel) polled;
   refused = λ f. tt;
-  asks = serves.asks;
-  answers = serves.answers;
-  few = input_few says old (queued new p.now) n.calls n'.calls serves.asks;
-  asks_refused = λ f. tt;
+  serves = serves;
   drawn = drawn;
-  sends = serves.sends;
 }
-polls_as says denies untrusted n n' Made stream stream' old new handed (Ok true) (Ok None) rel dead same stays lives ends unqueued polled refused serves asked drawn = absurd rel
-polls_as says denies untrusted n n' Made stream stream' old new handed (Ok true) (Err e) rel dead same stays lives ends unqueued polled refused serves asked drawn = absurd rel
-polls_as says denies untrusted n n' Made stream stream' old new handed (Ok false) (Ok (Some p)) rel dead same stays lives ends unqueued polled refused serves asked drawn = absurd rel
-polls_as says denies untrusted n n' Made stream stream' old new handed (Ok false) (Ok None) rel dead same stays lives ends unqueued polled refused serves asked drawn = record {
+polls_as says denies untrusted n n' Made stream stream' old new handed (Ok true) (Ok None) rel dead same stays lives ends unqueued polled refused serves drawn = absurd rel
+polls_as says denies untrusted n n' Made stream stream' old new handed (Ok true) (Err e) rel dead same stays lives ends unqueued polled refused serves drawn = absurd rel
+polls_as says denies untrusted n n' Made stream stream' old new handed (Ok false) (Ok (Some p)) rel dead same stays lives ends unqueued polled refused serves drawn = absurd rel
+polls_as says denies untrusted n n' Made stream stream' old new handed (Ok false) (Ok None) rel dead same stays lives ends unqueued polled refused serves drawn = record {
   dead = λ f. alive old false _ dead f;
   stays = stays;
   lives = lives;
@@ -66,29 +60,21 @@ polls_as says denies untrusted n n' Made stream stream' old new handed (Ok false
   unqueued = unqueued;
   polled = polled;
   refused = λ f. tt;
-  asks = serves.asks;
-  answers = serves.answers;
-  few = input_few says old new n.calls n'.calls serves.asks;
-  asks_refused = λ f. tt;
+  serves = serves;
   drawn = drawn;
-  sends = serves.sends;
 }
-polls_as says denies untrusted n n' Made stream stream' old new handed (Ok false) (Err e) rel dead same stays lives ends unqueued polled refused serves asked drawn = absurd rel
-polls_as says denies untrusted n n' Made stream stream' old new handed (Err x) (Ok o) rel dead same stays lives ends unqueued polled refused serves asked drawn = absurd rel
-polls_as says denies untrusted n n' Made stream stream' old new handed (Err x) (Err e) rel dead same stays lives ends unqueued polled refused serves asked drawn = record {
+polls_as says denies untrusted n n' Made stream stream' old new handed (Ok false) (Err e) rel dead same stays lives ends unqueued polled refused serves drawn = absurd rel
+polls_as says denies untrusted n n' Made stream stream' old new handed (Err x) (Ok o) rel dead same stays lives ends unqueued polled refused serves drawn = absurd rel
+polls_as says denies untrusted n n' Made stream stream' old new handed (Err x) (Err e) rel dead same stays lives ends unqueued polled refused serves drawn = record {
   dead = λ f. (sym_is rel (dead f), same f);
   stays = stays;
   lives = λ f. tt;
   ends = ends;
   unqueued = unqueued;
   polled = tt;
-  refused = λ f. subst (λ (y : Error). RefusesPiece says denies untrusted old [] y new) (sym rel) (refused f);
-  asks = tt;
-  answers = tt;
-  few = tt;
-  asks_refused = asked;
+  refused = λ f. subst (λ (y : Error). RefusesPieceAsking says denies untrusted old [] y new n.calls n'.calls) (sym rel) (refused f);
+  serves = tt;
   drawn = drawn;
-  sends = tt;
 } where
   sym_is : e.now ≡ x → (let r : Result Bool Error = Err x in r) ≡ Err Disconnect → e.now ≡ Disconnect
   sym_is a b = cc
@@ -107,8 +93,8 @@ lends_refusal answer handed x b e h = subst (λ (a : Result Bool Error). LendsFo
 pub polls_seen : (says : Config → Says) (denies : Denies) (untrusted : ServerHost → Type 0) (n n' : PartTally) (Made : Side → Stream → Stream → Type 0) (stream stream' : Stream) (old t new : Standing) (handed : List ℕ) (answer : Result Bool Error) (result : Result (Option (Bor (List ℕ))) (Bor Error)) → old ≡ t → LendsFor answer handed result
     → (old.failed ≡ true → answer ≡ Err Disconnect) → (old.failed ≡ true → new ≡ old) → (new.side ≡ old.side) × (new.config ≡ old.config)
     → (old.failed ≡ false → OnOk answer (new.failed ≡ false)) → (old.failed ≡ false → OnErr answer ((new.failed ≡ true) × (unfinished new ≡ [])))
-    → new.delivered ≡ old.delivered → IfOk answer (λ lends. Polls (says old.config) old (lent_by lends handed) new) → (old.failed ≡ false → IfErr answer (λ e. RefusesPiece (says old.config) denies untrusted old [] e new))
-    → OnOk answer (ServesCall Made old new n n' stream stream') → (old.failed ≡ false → OnErr answer (RefusesAsking (says old.config) old [] new n.calls n'.calls)) → DrawsFirst (new.failed ≡ false) old new stream stream'
+    → new.delivered ≡ old.delivered → IfOk answer (λ lends. Polls (says old.config) old (lent_by lends handed) new) → (old.failed ≡ false → IfErr answer (λ e. RefusesPieceAsking (says old.config) denies untrusted old [] e new n.calls n'.calls))
+    → OnOk answer (ServesCall Made old new n n' stream stream') → DrawsFirst (new.failed ≡ false) old new stream stream'
     → PollsAs (says t.config) denies untrusted n n' Made stream stream' t result new
-polls_seen says denies untrusted n n' Made stream stream' old t new handed answer result same rel dead kept stays lives ends unqueued polled refused serves asked drawn =
-    subst (λ (x : Standing). PollsAs (says x.config) denies untrusted n n' Made stream stream' x result new) same (polls_as (says old.config) denies untrusted n n' Made stream stream' old new handed answer result rel dead kept stays lives ends unqueued polled refused serves asked drawn)
+polls_seen says denies untrusted n n' Made stream stream' old t new handed answer result same rel dead kept stays lives ends unqueued polled refused serves drawn =
+    subst (λ (x : Standing). PollsAs (says x.config) denies untrusted n n' Made stream stream' x result new) same (polls_as (says old.config) denies untrusted n n' Made stream stream' old new handed answer result rel dead kept stays lives ends unqueued polled refused serves drawn)

@@ -1,7 +1,8 @@
 -- How often the parts are asked, call by call.
-use Rattle.std.specs.Prelude.{◌≡◌, ℕ, ◌+◌, ◌≤◌, Bool, true, Option, Some, None}
+use Rattle.std.specs.Prelude.{ℕ, ◌+◌, ◌≤◌, Option, Some, None}
 use Rattle.ssh_packet.specs.Sealing.{Clear}
 use Rattle.ssh_wire.specs.declared.side.Side.{Side}
+use Rattle.ssh_kex.specs.Parts.{Raises}
 use Rattle.ssh_kex.specs.Stages.{Stage, Created, AwaitsGroup, AwaitsReply, AwaitsRequest, AwaitsValue, AwaitsNewkeys, IsStageOf}
 use Rattle.ssh_kex.specs.Stepping.{answers_agreement, asks_agreement, asks_groups, asks_hosts}
 use Rattle.ssh_kex.specs.declared.exchange.ServerHost.{ServerHost}
@@ -32,10 +33,6 @@ StepAsks to_come stage stands calls calls' =
     (calls ≤ calls') × (calls' + to_come stands ≤ calls + to_come (Inside stage))
 
 -- ---- what is answered for it
-
--- a part answered so many calls more
-abbrev pub Raises : ℕ → (ℕ → ℕ → Bool) → (ℕ → ℕ → Bool) → Type 0
-Raises count test test' = (known n : ℕ) → test known n ≡ true → test' known (n + count) ≡ true
 
 -- how often each part was asked in a step, by where the machine stood and where it comes to stand
 pub record StepCalls (side : Side) (stage : Stage) (next : Option Stage) (n n' : PartCalls) : Type 0 where

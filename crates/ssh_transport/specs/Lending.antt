@@ -10,14 +10,12 @@ use Rattle.ssh_wire.specs.declared.error.Error.TheVariants.{Disconnect}
 use Rattle.ssh_kex.specs.Refusals.{Denies}
 use Rattle.ssh_kex.specs.Setting.{Says}
 use Rattle.ssh_kex.specs.declared.exchange.ServerHost.{ServerHost}
-use Rattle.ssh_rules.specs.Answering.{AnswersAll}
-use Rattle.ssh_rules.specs.Asking.{AsksFew, AsksWithin, RefusesAsking}
-use Rattle.ssh_rules.specs.Polling.{Polls, queued}
-use Rattle.ssh_rules.specs.Refusing.{RefusesPiece}
+use Rattle.ssh_rules.specs.Polling.{Polls}
+use Rattle.ssh_rules.specs.Refusing.{RefusesPieceAsking}
 use Rattle.ssh_rules.specs.Standing.{Standing, unfinished}
 use Rattle.ssh_transport.specs.Asking.{PartTally}
 use Rattle.ssh_transport.specs.Drawing.{DrawsFirst}
-use Rattle.ssh_transport.specs.Sending.{SendsBetween}
+use Rattle.ssh_transport.specs.Sending.{ServesCall}
 use Rattle.ssh_transport.specs.contracts.transport.Transport.{the_row}
 
 -- the payload that is lent
@@ -30,11 +28,6 @@ abbrev pub IsRefusedWith : {A : Type 0} → Result A (Bor Error) → Error → T
 IsRefusedWith {A} (Ok x) error = ⊥
 IsRefusedWith {A} (Err e) error = e.now ≡ error
 
--- as if it were queued
-abbrev pub queued_by : Option (List ℕ) → Standing → Standing
-queued_by None t = t
-queued_by (Some payload) t = queued t payload
-
 -- What a call that lends the next payload leaves, when the loan is over. The parts had been asked and had answered so
 -- often before and so often behind it, and its generator was at one stream and then at the other.
 pub record PollsAs (says : Says) (denies : Denies) (untrusted : ServerHost → Type 0) (n n' : PartTally)
@@ -45,13 +38,9 @@ pub record PollsAs (says : Says) (denies : Denies) (untrusted : ServerHost → T
   pub ends : old.failed ≡ false → OnErr result ((new.failed ≡ true) × (unfinished new ≡ []))
   pub unqueued : new.delivered ≡ old.delivered
   pub polled : IfOk result (λ lent. Polls says old (payload_in lent) new)
-  pub refused : old.failed ≡ false → IfErr result (λ e. RefusesPiece says denies untrusted old [] e.now new)
-  pub asks : OnOk result (AsksWithin old.side old.state new.state n.calls n'.calls)
-  pub answers : OnOk result (AnswersAll old.side old.state new.state n.tests n'.tests)
-  pub few : IfOk result (λ lent. AsksFew says old (queued_by (payload_in lent) new) n.calls n'.calls)
-  pub asks_refused : old.failed ≡ false → OnErr result (RefusesAsking says old [] new n.calls n'.calls)
+  pub refused : old.failed ≡ false → IfErr result (λ e. RefusesPieceAsking says denies untrusted old [] e.now new n.calls n'.calls)
+  pub serves : OnOk result (ServesCall Made old new n n' stream stream')
   pub drawn : DrawsFirst (new.failed ≡ false) old new stream stream'
-  pub sends : OnOk result (SendsBetween Made old new stream stream')
 
 abbrev pub LendsPoll : Says → Denies → (ServerHost → Type 0) → (n n' : PartTally) → (Made : Side → Stream → Stream → Type 0)
     → (stream stream' : Stream)

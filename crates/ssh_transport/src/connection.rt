@@ -88,7 +88,8 @@ impl<'c> Connection<'c> {
     ) -> Result<(), Error>
         requires { IsKept self.old }
         ensures kept { IsKept self.new }
-        ensures dead { self.old.failed ≡ true → AnswersAlone (Err Disconnect) result self.old self.new parts.old parts.new }
+        ensures dead { self.old.failed ≡ true
+            → AnswersAlone (Err Disconnect) result self.old self.new parts.old parts.new }
         ensures stays { IsFixed self.old.session self.new.session }
         ensures lives { self.old.failed ≡ false → OnOk result (self.new.failed ≡ false) }
         ensures ends { self.old.failed ≡ false → OnErr result ((self.new.failed ≡ true)
@@ -99,10 +100,6 @@ impl<'c> Connection<'c> {
             (λ e. ⟦<Parts<A, H, G, R> as Served>⟧.refuses_piece self.old parts.old parts.new piece.now e self.new) }
         ensures keeps { ⟦<Parts<A, H, G, R> as Handed>⟧.keeps parts.old parts.new }
         ensures serves { OnOk result (⟦<Parts<A, H, G, R> as Served>⟧.serves self.old self.new parts.old parts.new) }
-        ensures asked { self.old.failed ≡ false → OnErr result (⟦<Parts<A, H, G, R> as Served>⟧.asks_refusing self.old
-            parts.old parts.new piece.now self.new) }
-        ensures refused_few { self.old.failed ≡ false → IfErr result
-            (λ e. ⟦<Parts<A, H, G, R> as Served>⟧.refuses_asking self.old parts.old parts.new piece.now e self.new) }
     {
         if self.failed {
             return Err(Error::Disconnect);
@@ -120,7 +117,8 @@ impl<'c> Connection<'c> {
     ) -> Result<bool, Error>
         requires { IsKept self.old }
         ensures kept { IsKept self.new }
-        ensures dead { self.old.failed ≡ true → AnswersAlone (Err Disconnect) result self.old self.new parts.old parts.new }
+        ensures dead { self.old.failed ≡ true
+            → AnswersAlone (Err Disconnect) result self.old self.new parts.old parts.new }
         ensures stays { IsFixed self.old.session self.new.session }
         ensures lives { self.old.failed ≡ false → OnOk result (self.new.failed ≡ false) }
         ensures ends { self.old.failed ≡ false → OnErr result ((self.new.failed ≡ true)
@@ -135,8 +133,6 @@ impl<'c> Connection<'c> {
         ensures unqueued { self.new.delivered.items ≡ self.old.delivered.items }
         ensures keeps { ⟦<Parts<A, H, G, R> as Handed>⟧.keeps parts.old parts.new }
         ensures serves { OnOk result (⟦<Parts<A, H, G, R> as Served>⟧.serves self.old self.new parts.old parts.new) }
-        ensures asked { self.old.failed ≡ false → OnErr result (⟦<Parts<A, H, G, R> as Served>⟧.asks_refusing self.old
-            parts.old parts.new [] self.new) }
     {
         if self.failed {
             return Err(Error::Disconnect);
@@ -244,7 +240,8 @@ impl<'c> Connection<'c> {
     ) -> Result<(), Error>
         requires { IsKept self.old }
         ensures kept { IsKept self.new }
-        ensures dead { self.old.failed ≡ true → AnswersAlone (Err Disconnect) result self.old self.new parts.old parts.new }
+        ensures dead { self.old.failed ≡ true
+            → AnswersAlone (Err Disconnect) result self.old self.new parts.old parts.new }
         ensures size { self.old.failed ≡ false → IsTrue (is_bad_size (length payload.now))
             → AnswersAlone (Err (PacketSize (length payload.now))) result self.old self.new parts.old parts.new }
         ensures inconsistent { self.old.failed ≡ false → is_bad_size (length payload.now) ≡ false
@@ -287,7 +284,8 @@ impl<'c> Connection<'c> {
     ) -> Result<(), Error>
         requires { IsKept self.old }
         ensures kept { IsKept self.new }
-        ensures dead { self.old.failed ≡ true → AnswersAlone (Err Disconnect) result self.old self.new parts.old parts.new }
+        ensures dead { self.old.failed ≡ true
+            → AnswersAlone (Err Disconnect) result self.old self.new parts.old parts.new }
         ensures begun { OnOk result (Rekeyed nothing_said (standing_of self.old) (standing_of self.new)) }
         ensures drawn { is_outside (standing_of self.old).state.stands ≡ true → OnOk result
             ((standing_of self.new).output ≡ (standing_of self.old).output ++ kexinit_packet (standing_of self.old).side

@@ -147,7 +147,8 @@ impl<'c> SessionKex<'c> {
         ensures goes { IfOk result (λ p. Progresses (⟦<Parts<A, H, G, R> as Handed>⟧.says self.entry.setting.config
             parts.old) self.entry (Some incoming.entry) output.old p output.new) }
         ensures drawn { OnOk result (StepDraws (DrawnBySide A.client_draws A.server_draws self.entry.setting.side
-            (R.stream parts.old.rng) self.entry.stage (next_of result)) output.old output.new (R.stream parts.new.rng)) }
+            (R.stream parts.old.rng) self.entry.stage (next_of result)) output.old output.new
+            (R.stream parts.new.rng)) }
         ensures causes { IfErr result (λ e. RefusesStep (⟦<Parts<A, H, G, R> as Handed>⟧.says self.entry.setting.config
             parts.old)
             (⟦<Parts<A, H, G, R> as Handed>⟧.denies parts.old parts.new)

@@ -4,10 +4,10 @@ ghost use Rattle.std.specs.Prelude.{Bool, ℕ, List, Option};
 ghost use Rattle.ssh_kex.specs.Stages.{Machine, Stage};
 ghost use Rattle.ssh_packet.specs.Stream.{message_type};
 ghost use Rattle.ssh_packet.specs.declared.reader.Incoming.{Incoming};
-ghost use Rattle.ssh_rules.specs.Asking.{AsksForMessage, AsksForType, RefusesAsking};
+ghost use Rattle.ssh_rules.specs.Asking.{AsksForMessage, AsksForType};
 ghost use Rattle.ssh_rules.specs.Machine.{Inside};
 ghost use Rattle.ssh_rules.specs.Polling.{MayWant, Polls};
-ghost use Rattle.ssh_rules.specs.Refusing.{RefusesPiece, RefusesPieceAsking};
+ghost use Rattle.ssh_rules.specs.Refusing.{RefusesPieceAsking};
 ghost use Rattle.ssh_rules.specs.Standing.{TakesInput};
 ghost use Rattle.ssh_transport.specs.Asking.{AsksTo, StepAnswers, StepCalls, tally};
 ghost use Rattle.ssh_transport.specs.Handling.{Handles, Moves};
@@ -28,7 +28,8 @@ use ssh_rules::Asked;
 
 /// What calls on a connection do by what the parts of its side say.
 pub trait Served {
-    // A piece was taken, a payload polled for, or a piece refused: by the rules of what a side is told.
+    // A piece was taken, a payload polled for, or a piece refused: by the rules of what a side is told. A refusal tells
+    // how often the parts were asked up to it.
     ghost feeds: { Connection → Self → List ℕ → Connection → Type 0 };
 
     ghost polls: { Connection → Self → Bool → Connection → Type 0 };
@@ -37,12 +38,6 @@ pub trait Served {
 
     // Where all was taken: how often the parts were asked and answered, and what was drawn.
     ghost serves: { Connection → Connection → Self → Self → Type 0 };
-
-    // How often they were asked up to a refusal.
-
-    ghost asks_refusing: { Connection → Self → Self → List ℕ → Connection → Type 0 };
-
-    ghost refuses_asking: { Connection → Self → Self → List ℕ → Error → Connection → Type 0 };
 
     // How often they were asked between two connections, and what was drawn.
     ghost asks: { Connection → Connection → Self → Self → Type 0 };
@@ -75,23 +70,15 @@ impl<A: Agreement, H: HostKeys, G: GroupLookup, R: Rng> Served for Parts<A, H, G
     ghost polls = { λ c p lends c'. Polls (⟦<Parts<A, H, G, R> as Handed>⟧.says c.session.config.now p) (standing_of c)
         (lent_by lends c'.reader.handed) (standing_of c') };
 
-    ghost refuses_piece = { λ c p q piece e c'. RefusesPiece
+    ghost refuses_piece = { λ c p q piece e c'. RefusesPieceAsking
         (⟦<Parts<A, H, G, R> as Handed>⟧.says c.session.config.now p) (⟦<Parts<A, H, G, R> as Handed>⟧.denies p q)
-        (⟦<Parts<A, H, G, R> as Asked>⟧.distrusts p q) (standing_of c) piece e (standing_of c') };
+        (⟦<Parts<A, H, G, R> as Asked>⟧.distrusts p q) (standing_of c) piece e (standing_of c')
+        (⟦<Parts<A, H, G, R> as Asked>⟧.calls p) (⟦<Parts<A, H, G, R> as Asked>⟧.calls q) };
 
     ghost serves = { λ c c' p q. ServesCall (MadeBy A.client_draws A.server_draws) (standing_of c) (standing_of c')
         (tally (⟦<Parts<A, H, G, R> as Asked>⟧.calls p) (⟦<Parts<A, H, G, R> as Asked>⟧.tests p))
         (tally (⟦<Parts<A, H, G, R> as Asked>⟧.calls q) (⟦<Parts<A, H, G, R> as Asked>⟧.tests q))
         (R.stream p.rng) (R.stream q.rng) };
-
-    ghost asks_refusing = { λ c p q piece c'. RefusesAsking
-        (⟦<Parts<A, H, G, R> as Handed>⟧.says c.session.config.now p) (standing_of c) piece (standing_of c')
-        (⟦<Parts<A, H, G, R> as Asked>⟧.calls p) (⟦<Parts<A, H, G, R> as Asked>⟧.calls q) };
-
-    ghost refuses_asking = { λ c p q piece e c'. RefusesPieceAsking
-        (⟦<Parts<A, H, G, R> as Handed>⟧.says c.session.config.now p) (⟦<Parts<A, H, G, R> as Handed>⟧.denies p q)
-        (⟦<Parts<A, H, G, R> as Asked>⟧.distrusts p q) (standing_of c) piece e (standing_of c')
-        (⟦<Parts<A, H, G, R> as Asked>⟧.calls p) (⟦<Parts<A, H, G, R> as Asked>⟧.calls q) };
 
     ghost asks = { λ c c' p q. ServesBetween (MadeBy A.client_draws A.server_draws) c.session c'.session
         (tally (⟦<Parts<A, H, G, R> as Asked>⟧.calls p) (⟦<Parts<A, H, G, R> as Asked>⟧.tests p))

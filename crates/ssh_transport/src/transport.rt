@@ -3,9 +3,7 @@
 ghost use Rattle.std.specs.Borrow.{sem};
 ghost use Rattle.std.specs.Prelude.{◌≡◌, ◌⊎◌, ◌≤◌, ◌++◌, ◌-◌, true, false, [], drop, take, length, not, IfErr, IfOk, IfSome, IsTrue, OnErr, OnOk, Ok, Err, Some};
 ghost use Rattle.std.specs.List.{slice_get};
-ghost use Rattle.ssh_rules.specs.Answering.{AnswersAll};
-ghost use Rattle.ssh_rules.specs.Asking.{AsksFew, AsksWithin, RefusesAsking};
-ghost use Rattle.ssh_rules.specs.Refusing.{RefusesPiece, RefusesPieceAsking};
+ghost use Rattle.ssh_rules.specs.Refusing.{RefusesPieceAsking};
 ghost use Rattle.ssh_packet.specs.Stream.{message_type};
 ghost use Rattle.ssh_rules.specs.MessageTypes.{is_payload_type};
 ghost use Rattle.ssh_rules.specs.Valid.{config_fault, is_bad_size, is_good_payload};
@@ -51,7 +49,7 @@ impl<'c> Transport<'c> {
     ghost use Rattle.ssh_transport.specs.Asking.{tally};
     ghost use Rattle.ssh_transport.specs.Drawing.{AtMostNext, DrawsFirst, GoesNext, kexinit_packet, packet_with};
     ghost use Rattle.ssh_transport.specs.Lending.{IsRefusedWith, LendsPoll};
-    ghost use Rattle.ssh_transport.specs.Sending.{MadeBy, NoneMade, SendsBetween};
+    ghost use Rattle.ssh_transport.specs.Sending.{MadeBy, NoneMade, SendsBetween, ServesCall};
     ghost use Rattle.ssh_transport.specs.Submitting.{AnswersAlone, Breaks, DrawsAlone, HoldsAlone};
 
     /// A client that has written its version line. InvalidConfig names the first test that refuses its configuration:
@@ -105,7 +103,8 @@ impl<'c> Transport<'c> {
         parts: &mut Parts<A, H, G, R>,
         piece: &[u8],
     ) -> Result<(), Error>
-        ensures dead { self.old.failed ≡ true → AnswersAlone (Err Disconnect) result self.old self.new parts.old parts.new }
+        ensures dead { self.old.failed ≡ true
+            → AnswersAlone (Err Disconnect) result self.old self.new parts.old parts.new }
         ensures stays { (self.new.side ≡ self.old.side) × (self.new.config ≡ self.old.config) }
         ensures lives { self.old.failed ≡ false → OnOk result (self.new.failed ≡ false) }
         ensures ends { self.old.failed ≡ false → OnErr result ((self.new.failed ≡ true) × (unfinished self.new ≡ [])) }
@@ -114,28 +113,15 @@ impl<'c> Transport<'c> {
         ensures drawn { DrawsFirst (self.new.failed ≡ false) self.old self.new (R.stream parts.old.rng)
             (R.stream parts.new.rng) }
         ensures refused { self.old.failed ≡ false → IfErr result
-            (λ e. RefusesPiece (⟦<Parts<A, H, G, R> as Handed>⟧.says self.old.config parts.old)
-            (⟦<Parts<A, H, G, R> as Handed>⟧.denies parts.old parts.new)
-            (⟦<Parts<A, H, G, R> as Asked>⟧.distrusts parts.old parts.new) self.old piece.now e self.new) }
-        ensures keeps { ⟦<Parts<A, H, G, R> as Handed>⟧.keeps parts.old parts.new }
-        ensures calls { OnOk result (AsksWithin self.old.side self.old.state self.new.state
-            (⟦<Parts<A, H, G, R> as Asked>⟧.calls parts.old) (⟦<Parts<A, H, G, R> as Asked>⟧.calls parts.new)) }
-        ensures answers { OnOk result (AnswersAll self.old.side self.old.state self.new.state
-            (⟦<Parts<A, H, G, R> as Asked>⟧.tests parts.old) (⟦<Parts<A, H, G, R> as Asked>⟧.tests parts.new)) }
-        ensures sends { OnOk result (SendsBetween (MadeBy A.client_draws A.server_draws) self.old self.new
-            (R.stream parts.old.rng) (R.stream parts.new.rng)) }
-        ensures few { OnOk result (AsksFew (⟦<Parts<A, H, G, R> as Handed>⟧.says self.old.config parts.old)
-            self.old self.new (⟦<Parts<A, H, G, R> as Asked>⟧.calls parts.old)
-            (⟦<Parts<A, H, G, R> as Asked>⟧.calls parts.new)) }
-        ensures calls_refused { self.old.failed ≡ false → OnErr result
-            (RefusesAsking (⟦<Parts<A, H, G, R> as Handed>⟧.says self.old.config parts.old)
-            self.old piece.now self.new (⟦<Parts<A, H, G, R> as Asked>⟧.calls parts.old)
-            (⟦<Parts<A, H, G, R> as Asked>⟧.calls parts.new)) }
-        ensures refused_few { self.old.failed ≡ false → IfErr result
             (λ e. RefusesPieceAsking (⟦<Parts<A, H, G, R> as Handed>⟧.says self.old.config parts.old)
             (⟦<Parts<A, H, G, R> as Handed>⟧.denies parts.old parts.new)
             (⟦<Parts<A, H, G, R> as Asked>⟧.distrusts parts.old parts.new) self.old piece.now e self.new
             (⟦<Parts<A, H, G, R> as Asked>⟧.calls parts.old) (⟦<Parts<A, H, G, R> as Asked>⟧.calls parts.new)) }
+        ensures keeps { ⟦<Parts<A, H, G, R> as Handed>⟧.keeps parts.old parts.new }
+        ensures serves { OnOk result (ServesCall (MadeBy A.client_draws A.server_draws) self.old self.new
+            (tally (⟦<Parts<A, H, G, R> as Asked>⟧.calls parts.old) (⟦<Parts<A, H, G, R> as Asked>⟧.tests parts.old))
+            (tally (⟦<Parts<A, H, G, R> as Asked>⟧.calls parts.new) (⟦<Parts<A, H, G, R> as Asked>⟧.tests parts.new))
+            (R.stream parts.old.rng) (R.stream parts.new.rng)) }
     {
         self.connection.feed(parts, piece)
     }
@@ -199,7 +185,8 @@ impl<'c> Transport<'c> {
         parts: &mut Parts<A, H, G, R>,
         payload: &[u8],
     ) -> Result<(), Error>
-        ensures dead { self.old.failed ≡ true → AnswersAlone (Err Disconnect) result self.old self.new parts.old parts.new }
+        ensures dead { self.old.failed ≡ true
+            → AnswersAlone (Err Disconnect) result self.old self.new parts.old parts.new }
         ensures size { self.old.failed ≡ false → IsTrue (is_bad_size (length payload.now))
             → AnswersAlone (Err (PacketSize (length payload.now))) result self.old self.new parts.old parts.new }
         ensures inconsistent { self.old.failed ≡ false → is_bad_size (length payload.now) ≡ false
@@ -229,7 +216,8 @@ impl<'c> Transport<'c> {
         &mut self,
         parts: &mut Parts<A, H, G, R>,
     ) -> Result<(), Error>
-        ensures dead { self.old.failed ≡ true → AnswersAlone (Err Disconnect) result self.old self.new parts.old parts.new }
+        ensures dead { self.old.failed ≡ true
+            → AnswersAlone (Err Disconnect) result self.old self.new parts.old parts.new }
         ensures begun { OnOk result (Rekeyed (⟦<Parts<A, H, G, R> as Handed>⟧.says self.old.config parts.old) self.old
             self.new) }
         ensures drawn { is_outside self.old.state.stands ≡ true → OnOk result (self.new.output

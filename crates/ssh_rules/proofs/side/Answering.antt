@@ -16,6 +16,7 @@ use Rattle.ssh_rules.specs.Answering.{AnswersAll, PartTests, agreement_open, hos
 use Rattle.ssh_rules.specs.Counting.{calls_of, group_in}
 use Rattle.ssh_rules.specs.Log.{handled}
 use Rattle.ssh_rules.specs.Machine.{Answering, Asked, Cause, Event, ExchangeBegun, AnswerSent, ExchangeFinished, GuessDropped, IdHeard, Inside, MayBegin, MessageTaken, Outside, PacketDropped, PayloadDelivered, PayloadSent, PayloadSubmitted, ReadLimit, SideState, Silent, Start, Step, Steps, Where, WriteLimit}
+use Rattle.ssh_rules.proofs.side.Asking.{none_once}
 
 -- ---- one message
 
@@ -31,10 +32,6 @@ by_next side stage next same e h = subst (λ (n : Stage). StageAnswers side stag
 once_one : (dropped : Bool) → dropped ≡ false → once_unless dropped ≡ 1
 once_one false e = refl
 once_one true e = cc
-
-once_none : (dropped : Bool) → dropped ≡ true → once_unless dropped ≡ 0
-once_none true e = refl
-once_none false e = cc
 
 chosen : (n : Names) (kind : Bool) → is_gex n.kex ≡ kind → group_in (Some n) ≡ (if kind then 1 else 0)
 chosen n kind e = ap (λ (b : Bool). if b then 1 else 0) e
@@ -75,28 +72,28 @@ pub dropped_answers : (side : Side) (stage : Stage) → drops_guess stage ≡ tr
 dropped_answers side (Created own) d = cc
 dropped_answers side (AwaitsGroup o) d = by side where
   a : once_unless o.names.ignore_guessed ≡ 0
-  a = once_none o.names.ignore_guessed d
+  a = none_once o.names.ignore_guessed d
 
   by : (side : Side) → StageAnswers side (AwaitsGroup o) (guess_dropped (AwaitsGroup o))
   by Client = record { agreement = omega (arith, a); hosts = refl; lookups = refl }
   by Server = record { agreement = omega (arith, a); hosts = refl; lookups = refl }
 dropped_answers side (AwaitsReply o gex local public) d = by side where
   a : once_unless o.names.ignore_guessed ≡ 0
-  a = once_none o.names.ignore_guessed d
+  a = none_once o.names.ignore_guessed d
 
   by : (side : Side) → StageAnswers side (AwaitsReply o gex local public) (guess_dropped (AwaitsReply o gex local public))
   by Client = record { agreement = omega (arith, a); hosts = omega (arith, a); lookups = refl }
   by Server = record { agreement = omega (arith, a); hosts = omega (arith, a); lookups = refl }
 dropped_answers side (AwaitsRequest o) d = by side where
   a : once_unless o.names.ignore_guessed ≡ 0
-  a = once_none o.names.ignore_guessed d
+  a = none_once o.names.ignore_guessed d
 
   by : (side : Side) → StageAnswers side (AwaitsRequest o) (guess_dropped (AwaitsRequest o))
   by Client = record { agreement = refl; hosts = refl; lookups = omega (arith, a) }
   by Server = record { agreement = refl; hosts = refl; lookups = omega (arith, a) }
 dropped_answers side (AwaitsValue o gex) d = by side where
   a : once_unless o.names.ignore_guessed ≡ 0
-  a = once_none o.names.ignore_guessed d
+  a = none_once o.names.ignore_guessed d
 
   by : (side : Side) → StageAnswers side (AwaitsValue o gex) (guess_dropped (AwaitsValue o gex))
   by Client = record { agreement = omega (arith, a); hosts = omega (arith, a); lookups = refl }

@@ -73,7 +73,7 @@ stage_bounds side (AwaitsRequest o) = let a = at_most_one o.names.ignore_guessed
 stage_bounds side (AwaitsValue o gex) = let a = at_most_one o.names.ignore_guessed in record { agreement = omega (arith, a); hosts = omega (arith, a); lookups = omega arith; agreement_once = omega (arith, a); hosts_once = omega (arith, a); lookups_once = omega arith }
 stage_bounds side (AwaitsNewkeys exchange made host) = record { agreement = omega arith; hosts = omega arith; lookups = omega arith; agreement_once = omega arith; hosts_once = omega arith; lookups_once = omega arith }
 
-none_once : (dropped : Bool) → dropped ≡ true → once_unless dropped ≡ 0
+pub none_once : (dropped : Bool) → dropped ≡ true → once_unless dropped ≡ 0
 none_once true e = refl
 none_once false e = cc
 

@@ -67,10 +67,10 @@ pub piece_kept : (says : Says) (denies : Denies) (untrusted : ServerHost → Typ
 unfolding refuses_kept
 piece_kept says denies untrusted t new more piece error h = record { cause = h.cause; refuses = refuses_kept says t new more piece h.cause h.refuses; answers = h.answers }
 
-pub asking_kept : (says : Says) (t new : Standing) (more piece : List ℕ) (n n' : PartCalls) → RefusesAsking says t (more ++ piece) new n n' → RefusesAsking says (with_input t more) piece new n n'
-unfolding refuses_kept
-asking_kept says t new more piece n n' h = record { cause = h.cause; refuses = refuses_kept says t new more piece h.cause h.refuses; asks = h.asks; few = h.few }
-
 pub piece_asking_kept : (says : Says) (denies : Denies) (untrusted : ServerHost → Type 0) (t new : Standing) (more piece : List ℕ) (error : Error) (n n' : PartCalls) → RefusesPieceAsking says denies untrusted t (more ++ piece) error new n n' → RefusesPieceAsking says denies untrusted (with_input t more) piece error new n n'
 unfolding piece_kept refuses_kept
-piece_asking_kept says denies untrusted t new more piece error n n' h = record { refused = piece_kept says denies untrusted t new more piece error h.refused; few = h.few }
+piece_asking_kept says denies untrusted t new more piece error n n' h = record { refused = piece_kept says denies untrusted t new more piece error h.refused; asks = h.asks; few = h.few }
+
+-- however it is answered
+pub refused_asking : (says : Says) (denies : Denies) (untrusted : ServerHost → Type 0) (old new : Standing) (piece : List ℕ) (error : Error) (n n' : PartCalls) → RefusesPieceAsking says denies untrusted old piece error new n n' → RefusesAsking says old piece new n n'
+refused_asking says denies untrusted old new piece error n n' h = record { cause = h.refused.cause; refuses = h.refused.refuses; asks = h.asks; few = h.few }

@@ -13,9 +13,9 @@ pub returns-in-Ok-clause-ends : goal.returns-in-Ok-clause-ends
 returns-in-Ok-clause-ends g c = some_weaker c.answer_all.result (IsCutAt c.args.desk.now c.feed.new.self.delivered) _ (λ end cut. ends_cut _ _ _ c.args.desk.now c.args.transport.now _ _ c.args.piece.now c.feed.new.self end c.requires.live refl c.in-Ok.ensures.fed cut) c.answer_all.ensures.cut
 
 pub returns-then-send-clause-ends : goal.returns-then-send-clause-ends
-returns-then-send-clause-ends g c = ends_refused _ _ _ c.args.desk.now c.args.transport.now _ _ c.args.piece.now c.feed.new.self c.send.new.transport c.in-Err.error c.refused.result c.requires.live (c.in-Err.ensures.refused c.requires.live) (c.send.ensures.sent c.if-send.true) c.refused.ensures
+returns-then-send-clause-ends g c = ends_refused _ _ _ c.args.desk.now c.args.transport.now _ _ c.args.piece.now c.feed.new.self c.send.new.transport c.in-Err.error c.refused.result c.requires.live (c.in-Err.ensures.refused c.requires.live).refused (c.send.ensures.sent c.if-send.true) c.refused.ensures
 
 pub returns-else-send-clause-ends : goal.returns-else-send-clause-ends
 returns-else-send-clause-ends g c =
-    let r = c.in-Err.ensures.refused c.requires.live in
+    let r = (c.in-Err.ensures.refused c.requires.live).refused in
     ends_unsent _ _ _ c.args.desk.now c.args.transport.now _ _ c.args.piece.now c.feed.new.self r.cause c.requires.live r.refuses (c.send.ensures.failed c.if-send.false).1

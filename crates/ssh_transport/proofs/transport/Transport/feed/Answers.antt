@@ -1,11 +1,11 @@
-use Rattle.std.proofs.Common.{◌≡◌, false, IfErr, OnErr, subst}
-use Rattle.ssh_rules.specs.Answering.{AnswersAll, tests_by}
-use Rattle.ssh_rules.specs.Asking.{AsksWithin, RefusesAsking, counted_by}
-use Rattle.ssh_rules.specs.Refusing.{RefusesPiece, RefusesPieceAsking, untrusted_of}
+use Rattle.std.proofs.Common.{◌≡◌, false, IfErr, subst}
+use Rattle.ssh_rules.specs.Answering.{tests_by}
+use Rattle.ssh_rules.specs.Asking.{counted_by}
+use Rattle.ssh_rules.specs.Refusing.{RefusesPieceAsking, untrusted_of}
 use Rattle.ssh_rules.specs.Standing.{Standing, TakesInput}
-use Rattle.ssh_rules.proofs.Lemmas.{input_few}
+use Rattle.ssh_transport.specs.Asking.{tally}
 use Rattle.ssh_transport.specs.Drawing.{DrawsFirst}
-use Rattle.ssh_transport.specs.Sending.{MadeBy, SendsBetween}
+use Rattle.ssh_transport.specs.Sending.{MadeBy, ServesCall}
 use Rattle.ssh_transport.specs.States.{standing_of}
 use Rattle.ssh_transport.proofs.Saying.{on_ok}
 use Rattle.ssh_transport.proofs.transport.Transport.feed.Goals as goal
@@ -14,26 +14,11 @@ use Rattle.ssh_kex.specs.Stepping.{denies_of, says_of}
 pub returns-clause-fed : goal.returns-clause-fed
 returns-clause-fed g c = on_ok c.feed.result _ _ (λ h. subst (λ (t : Standing). TakesInput (says_of g.A.Agreement g.H.HostKeys g.G.GroupLookup t.config c.args.parts.now.agreement c.args.parts.now.hosts c.args.parts.now.groups) t c.args.piece.now (standing_of c.feed.new.self)) c.self.view_is h) c.feed.ensures.fed
 
+pub returns-clause-serves : goal.returns-clause-serves
+returns-clause-serves g c = on_ok c.feed.result _ _ (λ h. subst (λ (t : Standing). ServesCall (MadeBy g.A.Agreement.client_draws g.A.Agreement.server_draws) t (standing_of c.feed.new.self) (tally (counted_by g.A.Agreement g.H.HostKeys g.G.GroupLookup c.args.parts.now.agreement c.args.parts.now.hosts c.args.parts.now.groups) (tests_by g.A.Agreement g.H.HostKeys g.G.GroupLookup c.args.parts.now.agreement c.args.parts.now.hosts c.args.parts.now.groups)) (tally (counted_by g.A.Agreement g.H.HostKeys g.G.GroupLookup c.feed.new.parts.agreement c.feed.new.parts.hosts c.feed.new.parts.groups) (tests_by g.A.Agreement g.H.HostKeys g.G.GroupLookup c.feed.new.parts.agreement c.feed.new.parts.hosts c.feed.new.parts.groups)) (g.R.Rng.stream c.args.parts.now.rng) (g.R.Rng.stream c.feed.new.parts.rng)) c.self.view_is h) c.feed.ensures.serves
+
 pub returns-clause-refused : goal.returns-clause-refused
-returns-clause-refused g c = subst (λ (t : Standing). t.failed ≡ false → IfErr c.feed.result (λ e. RefusesPiece (says_of g.A.Agreement g.H.HostKeys g.G.GroupLookup t.config c.args.parts.now.agreement c.args.parts.now.hosts c.args.parts.now.groups) (denies_of g.A.Agreement g.H.HostKeys g.G.GroupLookup c.args.parts.now.agreement c.feed.new.parts.agreement c.args.parts.now.hosts c.feed.new.parts.hosts c.args.parts.now.groups c.feed.new.parts.groups) (untrusted_of g.H.HostKeys c.args.parts.now.hosts c.feed.new.parts.hosts) t c.args.piece.now e (standing_of c.feed.new.self))) c.self.view_is c.feed.ensures.refused
-
-pub returns-clause-calls : goal.returns-clause-calls
-returns-clause-calls g c = on_ok c.feed.result _ _ (λ h. subst (λ (t : Standing). AsksWithin t.side t.state (standing_of c.feed.new.self).state (counted_by g.A.Agreement g.H.HostKeys g.G.GroupLookup c.args.parts.now.agreement c.args.parts.now.hosts c.args.parts.now.groups) (counted_by g.A.Agreement g.H.HostKeys g.G.GroupLookup c.feed.new.parts.agreement c.feed.new.parts.hosts c.feed.new.parts.groups)) c.self.view_is h.asks) c.feed.ensures.serves
-
-pub returns-clause-answers : goal.returns-clause-answers
-returns-clause-answers g c = on_ok c.feed.result _ _ (λ h. subst (λ (t : Standing). AnswersAll t.side t.state (standing_of c.feed.new.self).state (tests_by g.A.Agreement g.H.HostKeys g.G.GroupLookup c.args.parts.now.agreement c.args.parts.now.hosts c.args.parts.now.groups) (tests_by g.A.Agreement g.H.HostKeys g.G.GroupLookup c.feed.new.parts.agreement c.feed.new.parts.hosts c.feed.new.parts.groups)) c.self.view_is h.answers) c.feed.ensures.serves
-
-pub returns-clause-calls_refused : goal.returns-clause-calls_refused
-returns-clause-calls_refused g c = subst (λ (t : Standing). t.failed ≡ false → OnErr c.feed.result (RefusesAsking (says_of g.A.Agreement g.H.HostKeys g.G.GroupLookup t.config c.args.parts.now.agreement c.args.parts.now.hosts c.args.parts.now.groups) t c.args.piece.now (standing_of c.feed.new.self) (counted_by g.A.Agreement g.H.HostKeys g.G.GroupLookup c.args.parts.now.agreement c.args.parts.now.hosts c.args.parts.now.groups) (counted_by g.A.Agreement g.H.HostKeys g.G.GroupLookup c.feed.new.parts.agreement c.feed.new.parts.hosts c.feed.new.parts.groups))) c.self.view_is c.feed.ensures.asked
-
-pub returns-clause-few : goal.returns-clause-few
-returns-clause-few g c = on_ok c.feed.result _ _ (λ h. input_few _ c.args.self.now (standing_of c.feed.new.self) _ _ (subst (λ (t : Standing). AsksWithin t.side t.state (standing_of c.feed.new.self).state (counted_by g.A.Agreement g.H.HostKeys g.G.GroupLookup c.args.parts.now.agreement c.args.parts.now.hosts c.args.parts.now.groups) (counted_by g.A.Agreement g.H.HostKeys g.G.GroupLookup c.feed.new.parts.agreement c.feed.new.parts.hosts c.feed.new.parts.groups)) c.self.view_is h.asks)) c.feed.ensures.serves
-
-pub returns-clause-refused_few : goal.returns-clause-refused_few
-returns-clause-refused_few g c = subst (λ (t : Standing). t.failed ≡ false → IfErr c.feed.result (λ e. RefusesPieceAsking (says_of g.A.Agreement g.H.HostKeys g.G.GroupLookup t.config c.args.parts.now.agreement c.args.parts.now.hosts c.args.parts.now.groups) (denies_of g.A.Agreement g.H.HostKeys g.G.GroupLookup c.args.parts.now.agreement c.feed.new.parts.agreement c.args.parts.now.hosts c.feed.new.parts.hosts c.args.parts.now.groups c.feed.new.parts.groups) (untrusted_of g.H.HostKeys c.args.parts.now.hosts c.feed.new.parts.hosts) t c.args.piece.now e (standing_of c.feed.new.self) (counted_by g.A.Agreement g.H.HostKeys g.G.GroupLookup c.args.parts.now.agreement c.args.parts.now.hosts c.args.parts.now.groups) (counted_by g.A.Agreement g.H.HostKeys g.G.GroupLookup c.feed.new.parts.agreement c.feed.new.parts.hosts c.feed.new.parts.groups))) c.self.view_is c.feed.ensures.refused_few
+returns-clause-refused g c = subst (λ (t : Standing). t.failed ≡ false → IfErr c.feed.result (λ e. RefusesPieceAsking (says_of g.A.Agreement g.H.HostKeys g.G.GroupLookup t.config c.args.parts.now.agreement c.args.parts.now.hosts c.args.parts.now.groups) (denies_of g.A.Agreement g.H.HostKeys g.G.GroupLookup c.args.parts.now.agreement c.feed.new.parts.agreement c.args.parts.now.hosts c.feed.new.parts.hosts c.args.parts.now.groups c.feed.new.parts.groups) (untrusted_of g.H.HostKeys c.args.parts.now.hosts c.feed.new.parts.hosts) t c.args.piece.now e (standing_of c.feed.new.self) (counted_by g.A.Agreement g.H.HostKeys g.G.GroupLookup c.args.parts.now.agreement c.args.parts.now.hosts c.args.parts.now.groups) (counted_by g.A.Agreement g.H.HostKeys g.G.GroupLookup c.feed.new.parts.agreement c.feed.new.parts.hosts c.feed.new.parts.groups))) c.self.view_is c.feed.ensures.refused
 
 pub returns-clause-drawn : goal.returns-clause-drawn
 returns-clause-drawn g c = subst (λ (t : Standing). DrawsFirst ((standing_of c.feed.new.self).failed ≡ false) t (standing_of c.feed.new.self) (g.R.Rng.stream c.args.parts.now.rng) (g.R.Rng.stream c.feed.new.parts.rng)) c.self.view_is c.feed.ensures.drawn
-
-pub returns-clause-sends : goal.returns-clause-sends
-returns-clause-sends g c = on_ok c.feed.result _ _ (λ h. subst (λ (t : Standing). SendsBetween (MadeBy g.A.Agreement.client_draws g.A.Agreement.server_draws) t (standing_of c.feed.new.self) (g.R.Rng.stream c.args.parts.now.rng) (g.R.Rng.stream c.feed.new.parts.rng)) c.self.view_is h.sends) c.feed.ensures.serves

@@ -16,7 +16,7 @@ returns-in-Ok-true g c = (
     refl,
     λ _. tt,
     polls_seen (λ (x : Config). (says_of g.A.Agreement g.H.HostKeys g.G.GroupLookup x c.args.parts.now.agreement c.args.parts.now.hosts c.args.parts.now.groups)) _ _ _ _ _ _ _ (standing_of c.self.inside.connection) _ (standing_of c.poll.new.self) c.poll.new.self.reader.handed c.poll.result _ c.self.view_is (lends_some c.poll.result c.poll.new.self.reader.handed c.handed.result (c.in-Ok-true.is ∙ ap (λ (b : Bool). Ok b) c.in-Ok-true.field-0-test) c.handed.ensures)
-        (λ f. (c.poll.ensures.dead f).0) (λ f. ap standing_of (c.poll.ensures.dead f).1) (c.poll.ensures.stays.0, ap (λ (x : Bor Config). x.now) c.poll.ensures.stays.1) c.poll.ensures.lives c.poll.ensures.ends c.poll.ensures.unqueued c.poll.ensures.polled c.poll.ensures.refused c.poll.ensures.serves c.poll.ensures.asked c.poll.ensures.drawn,
+        (λ f. (c.poll.ensures.dead f).0) (λ f. ap standing_of (c.poll.ensures.dead f).1) (c.poll.ensures.stays.0, ap (λ (x : Bor Config). x.now) c.poll.ensures.stays.1) c.poll.ensures.lives c.poll.ensures.ends c.poll.ensures.unqueued c.poll.ensures.polled c.poll.ensures.refused c.poll.ensures.serves c.poll.ensures.drawn,
   ),
   record {
     after_borrow = tt;
@@ -32,7 +32,7 @@ returns-in-Ok-false g c = (
     refl,
     λ _. tt,
     polls_seen (λ (x : Config). (says_of g.A.Agreement g.H.HostKeys g.G.GroupLookup x c.args.parts.now.agreement c.args.parts.now.hosts c.args.parts.now.groups)) _ _ _ _ _ _ _ (standing_of c.self.inside.connection) _ (standing_of c.poll.new.self) c.poll.new.self.reader.handed c.poll.result _ c.self.view_is (lends_none c.poll.result c.poll.new.self.reader.handed (c.in-Ok-false.is ∙ ap (λ (b : Bool). Ok b) c.in-Ok-false.field-0-test))
-        (λ f. (c.poll.ensures.dead f).0) (λ f. ap standing_of (c.poll.ensures.dead f).1) (c.poll.ensures.stays.0, ap (λ (x : Bor Config). x.now) c.poll.ensures.stays.1) c.poll.ensures.lives c.poll.ensures.ends c.poll.ensures.unqueued c.poll.ensures.polled c.poll.ensures.refused c.poll.ensures.serves c.poll.ensures.asked c.poll.ensures.drawn,
+        (λ f. (c.poll.ensures.dead f).0) (λ f. ap standing_of (c.poll.ensures.dead f).1) (c.poll.ensures.stays.0, ap (λ (x : Bor Config). x.now) c.poll.ensures.stays.1) c.poll.ensures.lives c.poll.ensures.ends c.poll.ensures.unqueued c.poll.ensures.polled c.poll.ensures.refused c.poll.ensures.serves c.poll.ensures.drawn,
   ),
   record {
     after_borrow = tt;
@@ -48,7 +48,7 @@ returns-in-Err g c = (
     refl,
     λ _. tt,
     polls_seen (λ (x : Config). (says_of g.A.Agreement g.H.HostKeys g.G.GroupLookup x c.args.parts.now.agreement c.args.parts.now.hosts c.args.parts.now.groups)) _ _ _ _ _ _ _ (standing_of c.self.inside.connection) _ (standing_of c.poll.new.self) c.poll.new.self.reader.handed c.poll.result _ c.self.view_is (lends_refusal c.poll.result c.poll.new.self.reader.handed c.in-Err.error _ c.in-Err.is refl)
-        (λ f. (c.poll.ensures.dead f).0) (λ f. ap standing_of (c.poll.ensures.dead f).1) (c.poll.ensures.stays.0, ap (λ (x : Bor Config). x.now) c.poll.ensures.stays.1) c.poll.ensures.lives c.poll.ensures.ends c.poll.ensures.unqueued c.poll.ensures.polled c.poll.ensures.refused c.poll.ensures.serves c.poll.ensures.asked c.poll.ensures.drawn,
+        (λ f. (c.poll.ensures.dead f).0) (λ f. ap standing_of (c.poll.ensures.dead f).1) (c.poll.ensures.stays.0, ap (λ (x : Bor Config). x.now) c.poll.ensures.stays.1) c.poll.ensures.lives c.poll.ensures.ends c.poll.ensures.unqueued c.poll.ensures.polled c.poll.ensures.refused c.poll.ensures.serves c.poll.ensures.drawn,
   ),
   record {
     after_borrow = tt;
