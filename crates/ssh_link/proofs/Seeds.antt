@@ -4,7 +4,7 @@ use Rattle.rand_core.specs.Steps.{steps_u32, stream_of}
 use Rattle.rand_chacha.specs.ChaCha.{ChaCha, next_word, of_seed}
 use Rattle.ssh_wire.specs.declared.error.Error.{Error}
 use Rattle.ssh_transport.specs.Drawing.{AreDrawn}
-use Rattle.ssh_link.specs.PlanParts.{seed_of}
+use Rattle.ssh_vectors.specs.Seeds.{seed_of}
 use Rattle.ssh_link.specs.PlanRun.{IsSeeded}
 use Rattle.ssh_script.specs.Plans.{Plan}
 

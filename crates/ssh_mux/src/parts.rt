@@ -1,13 +1,15 @@
 //! The parts of a side of a run: test parts.
 
 ghost use Rattle.std.specs.Prelude.{◌≡◌, IfOk, map};
+ghost use Rattle.rand_chacha.specs.ChaCha.{of_seed};
 ghost use Rattle.ssh_mux.specs.Sides.{trusted_key};
+ghost use Rattle.ssh_vectors.specs.Seeds.{seed_of};
 
 use rand_chacha::ChaCha20Rng;
 use rand_core::SeedableRng;
 use ssh_kex::Parts;
 use ssh_negotiate::{HostKey, ServerKeys};
-use ssh_vectors::{TestAgreement, TestGroups, TestHosts, TrustedHost};
+use ssh_vectors::{TestAgreement, TestGroups, TestHosts, TrustedHost, seed_bytes};
 use ssh_wire::Blob;
 use std::alloc::{AllocError, Global};
 
@@ -22,21 +24,15 @@ pub(crate) fn mux_parts(
 ) -> Result<MuxParts, AllocError>
     ensures trusted { IfOk result (λ parts. parts.hosts.trusted ≡ map trusted_key server.now.keys) }
     ensures bits { IfOk result (λ parts. parts.groups.bits ≡ 0) }
+    ensures rng { IfOk result (λ parts. parts.rng ≡ of_seed (seed_of seed)) }
 {
     let trusted = trusted_keys(alloc, server.keys.as_slice())?;
     Ok(Parts {
         agreement: TestAgreement::new(),
         hosts: TestHosts::new(trusted),
         groups: TestGroups { bits: 0 },
-        rng: ChaCha20Rng::from_seed(seed_of(seed)),
+        rng: ChaCha20Rng::from_seed(seed_bytes(seed)),
     })
-}
-
-/// The seed as 8 bytes, the least significant first, and 24 zero bytes.
-fn seed_of(seed: u64) -> [u8; 32] {
-    let mut bytes = [0; 32];
-    bytes[..8].copy_from_slice(&seed.to_le_bytes());
-    bytes
 }
 
 /// Trusts each key as its own. Memory.

@@ -7,3 +7,4 @@ pub mod Hosts
 pub mod PrimeSizes
 pub mod Trusting
 pub mod Drawing
+pub mod Seeds

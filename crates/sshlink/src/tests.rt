@@ -25,7 +25,12 @@ const FAULTS: &[Fault<'static>] = &[
         &[],
         4096,
         0,
-        "client wire 5353482d322e302d7373686c696e6b5f636c69656e740d0a\nclient taken 1\nclient finished 0\nserver wire 5353482d322e302d7373686c696e6b5f7365727665720d0a\nserver taken 0\nserver finished 0\n",
+        "client wire 5353482d322e302d7373686c696e6b5f636c69656e740d0a\n\
+         client taken 1\n\
+         client finished 0\n\
+         server wire 5353482d322e302d7373686c696e6b5f7365727665720d0a\n\
+         server taken 0\n\
+         server finished 0\n",
     ),
     (
         "gen 1 0",
@@ -46,7 +51,10 @@ const FAULTS: &[Fault<'static>] = &[
         &[],
         4096,
         0,
-        "client wire 5353482d322e302d7373686c696e6b5f636c69656e740d0a\nclient taken 1\nserver wire 5353482d322e302d7373686c696e6b5f7365727665720d0a\nserver taken 0\n",
+        "client wire 5353482d322e302d7373686c696e6b5f636c69656e740d0a\n\
+         client taken 1\n\
+         server wire 5353482d322e302d7373686c696e6b5f7365727665720d0a\n\
+         server taken 0\n",
     ),
 ];
 
