@@ -1,7 +1,10 @@
 //! What is judged: the record of a link.
 
+ghost use Rattle.std.specs.Prelude.{Some, codes};
+
 use ssh_rules::link::Step;
 use ssh_wire::Blob;
+use std::fmt;
 use std::marker::Model;
 
 /// How many bytes each side had sent.
@@ -12,7 +15,7 @@ pub struct SentPair {
 }
 
 /// The record of a link.
-#[derive(Debug, Drop)]
+#[derive(Drop)]
 pub struct Transcript {
     /// What was done, in order.
     pub steps: Vec<Step>,
@@ -24,6 +27,15 @@ pub struct Transcript {
     pub client: Blob,
     /// All that the server sent.
     pub server: Blob,
+}
+
+/// Shows no byte of a secret.
+impl fmt::Debug for Transcript {
+    ghost debug_output = { λ t. Some (codes "Transcript") };
+
+    fn fmt<W: fmt::Write>(&self, f: &mut fmt::Formatter<W>) -> fmt::Result {
+        f.write_str("Transcript")
+    }
 }
 
 impl Model for Transcript {

@@ -5,3 +5,5 @@ pub mod FedAlike
 pub mod Settling
 pub mod Granting
 pub mod Masking
+pub mod Listing
+pub mod OneKeys

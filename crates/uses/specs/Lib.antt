@@ -7,3 +7,7 @@ pub mod TwoSides
 pub mod Settled
 pub mod Granted
 pub mod Encapsulating
+pub mod Moduli
+pub mod OneKey
+pub mod Listed
+pub mod ListedLaws

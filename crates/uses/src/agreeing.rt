@@ -1,7 +1,7 @@
 //! A client and a server that agree on a secret, whatever the types of their parts are.
 
 ghost use Rattle.std.specs.Option.{option_copied};
-ghost use Rattle.std.specs.Prelude.{◌≡◌, ◌≤◌, true, IfOk, OnOk, Some};
+ghost use Rattle.std.specs.Prelude.{◌≡◌, ◌≤◌, codes, true, IfOk, OnOk, Some};
 ghost use Rattle.ssh_kex.specs.Messages.{bit_size, is_gex};
 ghost use Rattle.ssh_kex.specs.Parts.{HasItsGroup, IsRefused, Presents, Setup};
 ghost use Rattle.ssh_negotiate.specs.declared.preferred.HostKey.{HostKey};
@@ -11,12 +11,22 @@ use ssh_kex::{Agreement, DhGroup, GexParams, GroupLookup, HostKeys, Parts, Refus
 use ssh_negotiate::kex;
 use ssh_wire::Blob;
 use std::alloc::Global;
+use std::fmt;
 
 /// The secrets that a client and a server hold.
-#[derive(Debug, Drop)]
+#[derive(Drop)]
 pub struct Secrets {
     pub client: Blob,
     pub server: Blob,
+}
+
+/// Shows no byte of a secret.
+impl fmt::Debug for Secrets {
+    ghost debug_output = { λ s. Some (codes "Secrets") };
+
+    fn fmt<W: fmt::Write>(&self, f: &mut fmt::Formatter<W>) -> fmt::Result {
+        f.write_str("Secrets")
+    }
 }
 
 /// Makes a value on each side, and the secret on each side. They are one where both agreements are lawful under some
