@@ -39,7 +39,7 @@ pub(crate) fn answer_refusing(kind: &str, row: &mut Row<'_>, found: &mut Found) 
 }
 
 /// The next words as PRIME GENERATOR, or as `none` for no group.
-fn group_of(row: &mut Row<'_>) -> Option<DhGroup> {
+pub(crate) fn group_of(row: &mut Row<'_>) -> Option<DhGroup> {
     let word = row.word();
     if word == "none" {
         return None;
@@ -51,7 +51,7 @@ fn group_of(row: &mut Row<'_>) -> Option<DhGroup> {
 }
 
 /// The next word as a hash.
-fn hash_of(row: &mut Row<'_>) -> HashValue {
+pub(crate) fn hash_of(row: &mut Row<'_>) -> HashValue {
     let bytes = row.bytes();
     if bytes.len() > 64 {
         row.reject();
@@ -91,7 +91,7 @@ fn trusted_alone(alloc: Global, blob: &[u8]) -> Result<Vec<TrustedHost>, Fault> 
 }
 
 /// Appends `ok`, or why there was no answer.
-fn say_answer<T>(found: &mut Found, answer: &Result<T, Refusal>) {
+pub(crate) fn say_answer<T>(found: &mut Found, answer: &Result<T, Refusal>) {
     match answer {
         Ok(_) => found.say("ok"),
         Err(refusal) => found.say_shown(refusal),
@@ -99,7 +99,7 @@ fn say_answer<T>(found: &mut Found, answer: &Result<T, Refusal>) {
 }
 
 /// Appends bytes, or why there are none.
-fn say_blob(found: &mut Found, answer: &Result<Blob, Refusal>) {
+pub(crate) fn say_blob(found: &mut Found, answer: &Result<Blob, Refusal>) {
     match answer {
         Ok(blob) => found.say_bytes(blob.as_slice()),
         Err(refusal) => found.say_shown(refusal),
@@ -207,7 +207,7 @@ fn say_host(row: &mut Row<'_>, parts: &mut TestHosts, found: &mut Found) {
 }
 
 /// The next words as sizes: LEAST PREFERRED MOST.
-fn sizes_of(row: &mut Row<'_>) -> GexParams {
+pub(crate) fn sizes_of(row: &mut Row<'_>) -> GexParams {
     GexParams {
         min_group_size: row.number32(),
         preferred_group_size: row.number32(),
@@ -225,7 +225,7 @@ fn group(row: &mut Row<'_>, found: &mut Found) {
 }
 
 /// Appends a group, or why there is none.
-fn say_group(found: &mut Found, answer: &Result<DhGroup, Refusal>) {
+pub(crate) fn say_group(found: &mut Found, answer: &Result<DhGroup, Refusal>) {
     match answer {
         Ok(group) => {
             found.say_number(group.prime.as_slice().len() as u64);

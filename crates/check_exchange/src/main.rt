@@ -7,6 +7,7 @@ mod callers;
 mod forms;
 mod handed;
 mod joined;
+mod small_parts;
 mod zeroed;
 
 use std::process::ExitCode;
@@ -31,6 +32,7 @@ impl Answers for Exchanges {
             forms::answer(kind, row, found)
                 || handed::answer(kind, row, found)
                 || handed::answer_refusing(kind, row, found)
+                || small_parts::answer(kind, row, found)
                 || callers::answer(kind, row, found)
                 || joined::answer(kind, row, found),
         )
