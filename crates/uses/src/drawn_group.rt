@@ -5,14 +5,15 @@ ghost use Rattle.rand_core.specs.Stream.{next_u64};
 ghost use Rattle.ssh_kex.specs.Parts.{IsValue};
 ghost use Rattle.ssh_kex.specs.declared.group.GexParams.{GexParams};
 ghost use Rattle.ssh_kex.specs.declared.parts.Refusal.TheVariants.{Memory};
+ghost use Rattle.ssh_wire.specs.declared.error.Error.TheVariants as errors;
 ghost use Rattle.uses.specs.Moduli.{FitsSizes};
 ghost use Rattle.uses.specs.declared.drawn_group.DrawnGroup.{DrawnGroup};
 
 use crate::moduli::answer_of;
 use rand_core::Rng;
-use ssh_kex::{DhGroup, GexParams, GroupLookup, Refusal};
-use ssh_wire::Blob;
-use std::alloc::{AllocError, Global};
+use ssh_kex::{DhGroup, GexParams, GroupLookup, Refusal, copy_of_group};
+use ssh_wire::Error;
+use std::alloc::Global;
 
 /// Answers one group of a table of moduli, which was drawn when the lookup was made. So its group is settled before the
 /// first call, as a lookup's must be. It refuses no call: a group outside the sizes is for the exchange to refuse.
@@ -28,25 +29,21 @@ impl DrawnGroup {
         alloc: Global,
         rng: &mut R,
         table: &[DhGroup],
-    ) -> Result<Option<DrawnGroup>, AllocError>
+    ) -> Result<Option<DrawnGroup>, Error>
         ensures entry { let index = (next_u64 (R.stream rng.old)).0 % length table.now in
             IfOk result (λ drawn. option_map (λ (d : DrawnGroup). d.group) drawn ≡ slice_get table.now index) }
         ensures fits { (sizes : GexParams) → All (FitsSizes sizes) table.now
             → IfOk result (λ drawn. IfSome drawn (λ d. FitsSizes sizes d.group)) }
         ensures moved { 0 < length table.now → R.stream rng.new ≡ (next_u64 (R.stream rng.old)).1 }
         ensures unmoved { table.now ≡ [] → R.stream rng.new ≡ R.stream rng.old }
+        ensures err { IfErr result (λ e. e ≡ errors.Memory) }
     {
         if table.is_empty() {
             return Ok(None);
         }
         let index = rng.next_u64() % table.len() as u64;
-        let entry = &table[index as usize];
-        Ok(Some(DrawnGroup {
-            group: DhGroup {
-                prime: Blob::copy_of(alloc, entry.prime.as_slice())?,
-                generator: Blob::copy_of(alloc, entry.generator.as_slice())?,
-            },
-        }))
+        let group = copy_of_group(alloc, &table[index as usize])?;
+        Ok(Some(DrawnGroup { group }))
     }
 }
 
