@@ -57,8 +57,8 @@ fn one_key(row: &mut Row<'_>, found: &mut Found) {
     found.say_number(part.inner.calls());
 }
 
-/// `listed_groups GROUPS LEAST PREFERRED MOST`: how many bytes the prime of the group has that is found in the list, the
-/// prime, the generator; how many calls there were, and how many were refused.
+/// `listed_groups GROUPS LEAST PREFERRED MOST`: how many bytes the prime of the group has that is found in the list,
+/// the prime, the generator; how many calls there were, and how many were refused.
 fn listed_groups(row: &mut Row<'_>, found: &mut Found) {
     match groups_of(row) {
         Ok(groups) => {

@@ -1,5 +1,5 @@
-//! What tests are made of: a source and a sink in memory, of which chosen calls fail, and parts to hand in, with the seed
-//! of their generator. Nothing of the parts is secure.
+//! What tests are made of: a source and a sink in memory, of which chosen calls fail, and parts to hand in, with the
+//! seed of their generator. Nothing of the parts is secure.
 #![tactic(auto)]
 
 mod agreement;
