@@ -11,13 +11,17 @@ use vector_rows::{Fault, Found, Row, Words, words_of};
 
 /// Answers a row of one of these kinds. False where the kind is another.
 pub(crate) fn answer(kind: &str, row: &mut Row<'_>, found: &mut Found) -> bool {
-    match kind {
-        "one_key" => one_key(row, found),
+    let outcome = match kind {
+        "one_key" => {
+            one_key(row, found);
+            Ok(())
+        }
         "listed_groups" => listed_groups(row, found),
         "listed_agreement" => listed_agreement(row, found),
         "drawn_group" => drawn_group(row, found),
         _ => return false,
-    }
+    };
+    found.note(outcome);
     true
 }
 
@@ -59,39 +63,31 @@ fn one_key(row: &mut Row<'_>, found: &mut Found) {
 
 /// `listed_groups GROUPS LEAST PREFERRED MOST`: how many bytes the prime of the group has that is found in the list,
 /// the prime, the generator; how many calls there were, and how many were refused.
-fn listed_groups(row: &mut Row<'_>, found: &mut Found) {
-    match groups_of(row) {
-        Ok(groups) => {
-            let mut part = ListedGroups {
-                groups,
-                calls: 0,
-                refused: 0,
-            };
-            let sizes = sizes_of(row);
-            say_group(found, &part.lookup_dh_gex_group(row.alloc(), &sizes));
-            found.say_number(part.calls);
-            found.say_number(part.refused);
-        }
-        Err(fault) => found.fail(fault),
-    }
+fn listed_groups(row: &mut Row<'_>, found: &mut Found) -> Result<(), Fault> {
+    let mut part = ListedGroups {
+        groups: groups_of(row)?,
+        calls: 0,
+        refused: 0,
+    };
+    let sizes = sizes_of(row);
+    say_group(found, &part.lookup_dh_gex_group(row.alloc(), &sizes));
+    found.say_number(part.calls);
+    found.say_number(part.refused);
+    Ok(())
 }
 
 /// `listed_agreement GROUPS NAME GROUP`: what an agreement of these groups answers a client's start, a server and a
 /// client in this group; how many calls it refused, and how many the inner one was asked.
-fn listed_agreement(row: &mut Row<'_>, found: &mut Found) {
-    match groups_of(row) {
-        Ok(groups) => {
-            let mut part = ListedAgreement {
-                inner: TestAgreement::new(),
-                groups,
-                refused: 0,
-            };
-            ask_in_group(row, found, &mut part);
-            found.say_number(part.refused);
-            found.say_number(part.inner.calls());
-        }
-        Err(fault) => found.fail(fault),
-    }
+fn listed_agreement(row: &mut Row<'_>, found: &mut Found) -> Result<(), Fault> {
+    let mut part = ListedAgreement {
+        inner: TestAgreement::new(),
+        groups: groups_of(row)?,
+        refused: 0,
+    };
+    ask_in_group(row, found, &mut part);
+    found.say_number(part.refused);
+    found.say_number(part.inner.calls());
+    Ok(())
 }
 
 /// Appends what an agreement answers in the group of the next words.
@@ -117,13 +113,7 @@ fn ask_in_group<A: Agreement>(row: &mut Row<'_>, found: &mut Found, part: &mut A
 
 /// `drawn_group GROUPS BYTES`: how many bytes the prime of the group has that is drawn of the table by these bytes, the
 /// prime, the generator, or `none`; and how many words were left undrawn.
-fn drawn_group(row: &mut Row<'_>, found: &mut Found) {
-    let outcome = draw(row, found);
-    found.note(outcome);
-}
-
-/// Draws of the table that the next word has, by the bytes behind it.
-fn draw(row: &mut Row<'_>, found: &mut Found) -> Result<(), Fault> {
+fn drawn_group(row: &mut Row<'_>, found: &mut Found) -> Result<(), Fault> {
     let groups = groups_of(row)?;
     let bytes = row.bytes();
     let words = words_of(row.alloc(), bytes.as_slice())?;

@@ -11,3 +11,5 @@ pub mod Moduli
 pub mod OneKey
 pub mod Listed
 pub mod ListedLaws
+pub mod DrawnSecret
+pub mod Given

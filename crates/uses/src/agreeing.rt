@@ -5,6 +5,7 @@ ghost use Rattle.std.specs.Prelude.{◌≡◌, ◌≤◌, codes, true, IfOk, OnO
 ghost use Rattle.ssh_kex.specs.Messages.{bit_size, is_gex};
 ghost use Rattle.ssh_kex.specs.Parts.{HasItsGroup, IsRefused, Presents, Setup};
 ghost use Rattle.ssh_negotiate.specs.declared.preferred.HostKey.{HostKey};
+ghost use Rattle.uses.specs.DrawnSecret.{IsDrawnSecret};
 
 use rand_core::Rng;
 use ssh_kex::{Agreement, DhGroup, GexParams, GroupLookup, HostKeys, Parts, Refusal, ServerHost};
@@ -29,8 +30,8 @@ impl fmt::Debug for Secrets {
     }
 }
 
-/// Makes a value on each side, and the secret on each side. They are one where both agreements are lawful under some
-/// setup. Nothing is refused where both are obliging in the group, offer the name, and a group is handed over in a
+/// Draws a value on each side, and makes the secret on each side. They are one where both agreements are lawful under
+/// some setup. Nothing is refused where both are obliging in the group, offer the name, and a group is handed over in a
 /// group exchange alone.
 pub fn agree<A: Agreement, R: Rng>(
     alloc: Global,
@@ -43,6 +44,9 @@ pub fn agree<A: Agreement, R: Rng>(
 ) -> Result<Secrets, Refusal>
     ensures one { (s : Setup) → A.lawful client.old s → A.lawful server.old s
         → IfOk result (λ v. v.client ≡ v.server) }
+    ensures drawn { IfOk result (λ v. IsDrawnSecret A.client_draws A.server_draws name (option_copied group.entry)
+        (R.stream client_rng.old) (R.stream client_rng.new) (R.stream server_rng.old) (R.stream server_rng.new)
+        v.server) }
     ensures never { (s : Setup) → A.obliging client.old client.new s (option_copied group.entry)
         → A.obliging server.old server.new s (option_copied group.entry)
         → HasItsGroup name (option_copied group.entry) → A.offered client.old name ≡ true
@@ -77,6 +81,9 @@ pub fn agree_in_group<A: Agreement, H: HostKeys, G: GroupLookup, R: Rng>(
 ) -> Result<(DhGroup, Secrets), Refusal>
     ensures one { (s : Setup) → A.lawful client.old.agreement s → A.lawful server.old.agreement s
         → IfOk result (λ v. v.1.client ≡ v.1.server) }
+    ensures drawn { IfOk result (λ v. IsDrawnSecret A.client_draws A.server_draws name (Some v.0)
+        (R.stream client.old.rng) (R.stream client.new.rng) (R.stream server.old.rng) (R.stream server.new.rng)
+        v.1.server) }
     ensures trusted { OnOk result (H.trusts client.old.hosts host.now ≡ true) }
     ensures fitting { (later : G) (s : Setup) → G.obliging server.old.groups later s → s.client.gex ≡ sizes.now
         → IfOk result (λ v. (sizes.now.min_group_size ≤ bit_size v.0.prime)

@@ -1,12 +1,17 @@
 //! Two runs in which both sides are fed any bytes.
 
-ghost use Rattle.std.specs.Prelude.{◌≡◌, IfOk};
+ghost use Rattle.std.specs.Prelude.{◌≡◌, ◌⊎◌, IfErr, IfOk, Some};
+ghost use Rattle.ssh_kex.specs.Parts.{between};
+ghost use Rattle.ssh_rules.specs.AttackCauses.{IsAttackedRun};
 ghost use Rattle.ssh_rules.specs.Attacked.{fed_to, first_refusal};
+ghost use Rattle.ssh_rules.specs.Valid.{config_fault, first_config_fault};
+ghost use Rattle.ssh_wire.specs.declared.error.ConfigFault.{ConfigFault};
+ghost use Rattle.ssh_wire.specs.declared.error.Error.TheVariants.{InvalidConfig, Memory};
 ghost use Rattle.ssh_wire.specs.declared.side.Side.TheVariants.{Client, Server};
 ghost use Rattle.uses.specs.FedAlike.{IsByReader};
 
 use rand_core::Rng;
-use ssh_attack::run_attacked;
+use ssh_attack::{Attacked, run_attacked};
 use ssh_kex::{Agreement, Config, GroupLookup, HostKeys, Parts};
 use ssh_rules::link::{AttackReport, AttackStep};
 use ssh_rules::same_delivered;
@@ -37,6 +42,15 @@ pub fn attack_twice<A: Agreement, H: HostKeys, G: GroupLookup, R: Rng>(
         → IsByReader (first_refusal Server steps.now both.0.answers) → IsByReader
         (first_refusal Server other_steps.now both.1.answers)
         → both.0.server.delivered ≡ both.1.server.delivered) }
+    ensures first { IfOk result (λ both. IsAttackedRun (⟦<Parts<A, H, G, R> as Attacked>⟧.does
+        (between client.now server.now) parts.old.0 parts.new.0) (⟦<Parts<A, H, G, R> as Attacked>⟧.does
+        (between client.now server.now) parts.old.1 parts.new.1) client.now server.now steps.now both.0) }
+    ensures second { IfOk result (λ both. IsAttackedRun (⟦<Parts<A, H, G, R> as Attacked>⟧.does
+        (between client.now server.now) other_parts.old.0 other_parts.new.0) (⟦<Parts<A, H, G, R> as Attacked>⟧.does
+        (between client.now server.now) other_parts.old.1 other_parts.new.1) client.now server.now other_steps.now
+        both.1) }
+    ensures refused { IfErr result (λ e. (e ≡ Memory) ⊎ ((f : ConfigFault) × (first_config_fault
+        (config_fault Client client.now) (config_fault Server server.now) ≡ Some f) × (e ≡ InvalidConfig f))) }
 {
     same_delivered::<A, H>();
     let report = run_attacked(alloc, client, server, &mut parts.0, &mut parts.1, steps)?;

@@ -1,8 +1,13 @@
 //! Parts that answer what they were given, for the replay of an exchange.
 
-ghost use Rattle.std.specs.Prelude.{◌≡◌, ◌+◌, ◌<◌, ◌^◌, length, IfOk, IfErr};
+ghost use Rattle.std.specs.Prelude.{◌≡◌, ◌∷◌, ◌++◌, [], length, slice_get, Ok, IsSomeAnd, IfOk, IfErr, OnErr, OnOk};
+ghost use Rattle.ssh_kex.specs.Parts.{IsValue};
 ghost use Rattle.ssh_kex.specs.declared.parts.Refusal.TheVariants.{Memory};
+ghost use Rattle.ssh_wire.specs.Outside.{next_count};
+ghost use Rattle.ssh_wire.specs.declared.error.Error.TheVariants as errors;
+ghost use Rattle.uses.specs.Given.{place_after};
 
+use crate::moduli::answer_of;
 use rand_core::Rng;
 use ssh_kex::{
     Agreed, Agreement, DhGroup, GexParams, GroupLookup, HostKeys, Refusal, ServerHost, Started,
@@ -30,7 +35,10 @@ pub struct GivenAgreement {
 
 impl GivenAgreement {
     /// One that has no values yet, and answers want of memory.
-    pub fn new(alloc: Global) -> GivenAgreement {
+    pub fn new(alloc: Global) -> GivenAgreement
+        ensures values { result.values.items ≡ [] }
+        ensures at { result.at ≡ 0 }
+    {
         GivenAgreement {
             values: Vec::new(alloc),
             at: 0,
@@ -38,30 +46,49 @@ impl GivenAgreement {
     }
 
     /// One of one exchange. Memory.
-    pub fn of(alloc: Global, public: Vec<u8>, secret: Vec<u8>) -> Result<GivenAgreement, Error> {
+    pub fn of(alloc: Global, public: Vec<u8>, secret: Vec<u8>) -> Result<GivenAgreement, Error>
+        ensures values { IfOk result (λ given. given.values.items
+            ≡ record { public = public; secret = secret } ∷ []) }
+        ensures at { IfOk result (λ given. given.at ≡ 0) }
+        ensures err { IfErr result (λ e. e ≡ errors.Memory) }
+    {
         let mut given = GivenAgreement::new(alloc);
         given.push(public, secret)?;
         Ok(given)
     }
 
     /// Adds the values of another exchange. Memory.
-    pub fn push(&mut self, public: Vec<u8>, secret: Vec<u8>) -> Result<(), Error> {
+    pub fn push(&mut self, public: Vec<u8>, secret: Vec<u8>) -> Result<(), Error>
+        ensures added { OnOk result (self.new.values.items
+            ≡ self.old.values.items ++ record { public = public; secret = secret } ∷ []) }
+        ensures at { self.new.at ≡ self.old.at }
+        ensures kept { OnErr result (self.new.values.items ≡ self.old.values.items) }
+        ensures err { IfErr result (λ e. e ≡ errors.Memory) }
+    {
         self.values.push(GivenValue { public, secret })?;
         Ok(())
     }
 
     /// Goes on to the next exchange's values, where there are any.
-    fn go_on(&mut self) {
-        let next = self.at.saturating_add(1);
-        if next < self.values.len() {
-            self.at = next;
-        }
+    fn go_on(&mut self)
+        ensures { self.new ≡ record self.old { at = place_after (length self.old.values.items) self.old.at } }
+    {
+        self.at = place_after(self.values.len(), self.at);
     }
+}
+
+/// The place behind this one of so many, which stays at the last.
+fn place_after(count: usize, at: usize) -> usize
+    ensures { result ≡ place_after count at }
+{
+    let next = at.saturating_add(1);
+    if next < count { next } else { at }
 }
 
 /// The bytes again. Memory, also where they are too many for a part's value.
 fn again(alloc: Global, bytes: &[u8]) -> Result<Blob, Refusal>
-    ensures ok { IfOk result (λ b. length b < 2 ^ 31) }
+    ensures same { IfOk result (λ b. b ≡ bytes.now) }
+    ensures value { IfOk result (λ b. IsValue b) }
     ensures err { IfErr result (λ e. e ≡ Memory) }
 {
     if bytes.len() >= 1 << 31 {
@@ -108,7 +135,15 @@ impl Agreement for GivenAgreement {
         _name: kex::Name,
         _group: Option<&DhGroup>,
         _rng: &mut R,
-    ) -> Result<Started, Refusal> {
+    ) -> Result<Started, Refusal>
+        ensures given { IfOk result (λ v. IsSomeAnd (slice_get self.old.values.items self.old.at)
+            (λ g. v.public ≡ g.public.items)) }
+        ensures local { IfOk result (λ v. v.local ≡ []) }
+        ensures values { IfOk result (λ v. IsValue v.public × IsValue v.local) }
+        ensures stays { self.new ≡ self.old }
+        ensures undrawn { R.stream _rng.new ≡ R.stream _rng.old }
+        ensures err { IfErr result (λ e. e ≡ Memory) }
+    {
         let Some(value) = self.values.get(self.at) else {
             return Err(Refusal::Memory);
         };
@@ -125,7 +160,16 @@ impl Agreement for GivenAgreement {
         _group: Option<&DhGroup>,
         _client_public: &[u8],
         _rng: &mut R,
-    ) -> Result<Agreed, Refusal> {
+    ) -> Result<Agreed, Refusal>
+        ensures given { IfOk result (λ v. IsSomeAnd (slice_get self.old.values.items self.old.at)
+            (λ g. (v.public ≡ g.public.items) × (v.secret ≡ g.secret.items))) }
+        ensures values { IfOk result (λ v. IsValue v.public × IsValue v.secret) }
+        ensures goes_on { OnOk result (self.new
+            ≡ record self.old { at = place_after (length self.old.values.items) self.old.at }) }
+        ensures stays { OnErr result (self.new ≡ self.old) }
+        ensures undrawn { R.stream _rng.new ≡ R.stream _rng.old }
+        ensures err { IfErr result (λ e. e ≡ Memory) }
+    {
         let Some(value) = self.values.get(self.at) else {
             return Err(Refusal::Memory);
         };
@@ -144,7 +188,15 @@ impl Agreement for GivenAgreement {
         _group: Option<&DhGroup>,
         _local: &[u8],
         _server_public: &[u8],
-    ) -> Result<Blob, Refusal> {
+    ) -> Result<Blob, Refusal>
+        ensures given { IfOk result (λ v. IsSomeAnd (slice_get self.old.values.items self.old.at)
+            (λ g. v ≡ g.secret.items)) }
+        ensures values { IfOk result (λ v. IsValue v) }
+        ensures goes_on { OnOk result (self.new
+            ≡ record self.old { at = place_after (length self.old.values.items) self.old.at }) }
+        ensures stays { OnErr result (self.new ≡ self.old) }
+        ensures err { IfErr result (λ e. e ≡ Memory) }
+    {
         let Some(value) = self.values.get(self.at) else {
             return Err(Refusal::Memory);
         };
@@ -169,7 +221,11 @@ pub struct GivenHosts {
 
 impl GivenHosts {
     /// One that has no signatures yet, and answers want of memory.
-    pub fn new(alloc: Global) -> GivenHosts {
+    pub fn new(alloc: Global) -> GivenHosts
+        ensures signatures { result.signatures.items ≡ [] }
+        ensures at { result.at ≡ 0 }
+        ensures judged { result.judged ≡ 0 }
+    {
         GivenHosts {
             signatures: Vec::new(alloc),
             at: 0,
@@ -178,13 +234,21 @@ impl GivenHosts {
     }
 
     /// Adds the signature of another exchange. Memory.
-    pub fn push(&mut self, signature: Vec<u8>) -> Result<(), Error> {
+    pub fn push(&mut self, signature: Vec<u8>) -> Result<(), Error>
+        ensures added { OnOk result (self.new.signatures.items ≡ self.old.signatures.items ++ signature ∷ []) }
+        ensures at { self.new.at ≡ self.old.at }
+        ensures judged { self.new.judged ≡ self.old.judged }
+        ensures kept { OnErr result (self.new.signatures.items ≡ self.old.signatures.items) }
+        ensures err { IfErr result (λ e. e ≡ errors.Memory) }
+    {
         self.signatures.push(signature)?;
         Ok(())
     }
 
     /// How many signatures it was shown.
-    pub fn judged(&self) -> usize {
+    pub fn judged(&self) -> usize
+        ensures { result ≡ self.now.judged }
+    {
         self.judged
     }
 }
@@ -220,15 +284,20 @@ impl HostKeys for GivenHosts {
         _key: &HostKey,
         _algorithm: Algorithm,
         _hash: &HashValue,
-    ) -> Result<Blob, Refusal> {
+    ) -> Result<Blob, Refusal>
+        ensures given { IfOk result (λ v. IsSomeAnd (slice_get self.old.signatures.items self.old.at)
+            (λ g. v ≡ g.items)) }
+        ensures values { IfOk result (λ v. IsValue v) }
+        ensures goes_on { OnOk result (self.new
+            ≡ record self.old { at = place_after (length self.old.signatures.items) self.old.at }) }
+        ensures stays { OnErr result (self.new ≡ self.old) }
+        ensures err { IfErr result (λ e. e ≡ Memory) }
+    {
         let Some(signature) = self.signatures.get(self.at) else {
             return Err(Refusal::Memory);
         };
         let given = again(alloc, signature.as_slice())?;
-        let next = self.at.saturating_add(1);
-        if next < self.signatures.len() {
-            self.at = next;
-        }
+        self.at = place_after(self.signatures.len(), self.at);
         Ok(given)
     }
 
@@ -238,12 +307,18 @@ impl HostKeys for GivenHosts {
         _host: &ServerHost,
         _hash: &HashValue,
         _signature: &[u8],
-    ) -> Result<(), Refusal> {
+    ) -> Result<(), Refusal>
+        ensures accepted { result ≡ Ok tt }
+        ensures counted { self.new ≡ record self.old { judged = next_count self.old.judged } }
+    {
         self.judged = self.judged.saturating_add(1);
         Ok(())
     }
 
-    fn check(&mut self, _alloc: Global, _host: &ServerHost) -> Result<(), Refusal> {
+    fn check(&mut self, _alloc: Global, _host: &ServerHost) -> Result<(), Refusal>
+        ensures trusted { result ≡ Ok tt }
+        ensures stays { self.new ≡ self.old }
+    {
         Ok(())
     }
 
@@ -266,7 +341,10 @@ pub struct GivenGroups {
 
 impl GivenGroups {
     /// One that has no groups yet, and answers want of memory.
-    pub fn new(alloc: Global) -> GivenGroups {
+    pub fn new(alloc: Global) -> GivenGroups
+        ensures groups { result.groups.items ≡ [] }
+        ensures at { result.at ≡ 0 }
+    {
         GivenGroups {
             groups: Vec::new(alloc),
             at: 0,
@@ -274,7 +352,12 @@ impl GivenGroups {
     }
 
     /// Adds the group of another exchange. Memory.
-    pub fn push(&mut self, group: DhGroup) -> Result<(), Error> {
+    pub fn push(&mut self, group: DhGroup) -> Result<(), Error>
+        ensures added { OnOk result (self.new.groups.items ≡ self.old.groups.items ++ group ∷ []) }
+        ensures at { self.new.at ≡ self.old.at }
+        ensures kept { OnErr result (self.new.groups.items ≡ self.old.groups.items) }
+        ensures err { IfErr result (λ e. e ≡ errors.Memory) }
+    {
         self.groups.push(group)?;
         Ok(())
     }
@@ -299,18 +382,20 @@ impl GroupLookup for GivenGroups {
         &mut self,
         alloc: Global,
         _gex_params: &GexParams,
-    ) -> Result<DhGroup, Refusal> {
+    ) -> Result<DhGroup, Refusal>
+        ensures given { IfOk result (λ group. IsSomeAnd (slice_get self.old.groups.items self.old.at)
+            (λ g. group ≡ g)) }
+        ensures values { IfOk result (λ group. IsValue group.prime × IsValue group.generator) }
+        ensures goes_on { OnOk result (self.new
+            ≡ record self.old { at = place_after (length self.old.groups.items) self.old.at }) }
+        ensures stays { OnErr result (self.new ≡ self.old) }
+        ensures err { IfErr result (λ e. e ≡ Memory) }
+    {
         let Some(group) = self.groups.get(self.at) else {
             return Err(Refusal::Memory);
         };
-        let given = DhGroup {
-            prime: again(alloc, group.prime.as_slice())?,
-            generator: again(alloc, group.generator.as_slice())?,
-        };
-        let next = self.at.saturating_add(1);
-        if next < self.groups.len() {
-            self.at = next;
-        }
+        let given = answer_of(alloc, group)?;
+        self.at = place_after(self.groups.len(), self.at);
         Ok(given)
     }
 

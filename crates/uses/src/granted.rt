@@ -1,6 +1,6 @@
 //! A service that a client asks for over a link, and extensions that its server tells.
 
-ghost use Rattle.std.specs.Prelude.{◌≡◌, ◌∷◌, [], List, IfErr, IfOk, OnOk, map, true};
+ghost use Rattle.std.specs.Prelude.{◌≡◌, ◌∷◌, [], List, IfErr, IfOk, IfSome, OnOk, map, true};
 ghost use Rattle.ssh_kex.specs.Parts.{between};
 ghost use Rattle.ssh_rules.specs.Headline.{chosen_by, kind_by};
 ghost use Rattle.ssh_rules.specs.Refused.{group_due};
@@ -9,9 +9,9 @@ ghost use Rattle.ssh_run.specs.RunCauses.{IsValidRun, offered_on};
 ghost use Rattle.ssh_service.specs.Answers.{StandsFor};
 ghost use Rattle.ssh_service.specs.Extensions.{AreExtensions};
 ghost use Rattle.ssh_service.specs.Messages.{IsMessage, spelling};
-ghost use Rattle.ssh_service.specs.ServiceNames.{IsServiceName};
+ghost use Rattle.ssh_service.specs.ServiceNames.{IsServiceName, name_fault};
 ghost use Rattle.ssh_service.specs.declared.message.ServiceMessage.{ServiceMessage};
-ghost use Rattle.ssh_wire.specs.declared.error.Error.TheVariants.{Memory};
+ghost use Rattle.ssh_wire.specs.declared.error.Error.TheVariants.{Memory, SshEncoding};
 ghost use Rattle.uses.specs.Granted.{AreMessages, IsGranted, granting_steps};
 
 use rand_core::Rng;
@@ -61,6 +61,8 @@ pub fn ask_for_service<A: Agreement, H: HostKeys, G: GroupLookup, R: Rng>(
         → (kind_by (chosen_by client.now server.now) ≡ true
         → G.obliging parts.old.1.groups parts.new.1.groups (between client.now server.now))
         → IfErr result (λ e. e ≡ Memory) }
+    ensures name { OnOk result (IsServiceName name.now) }
+    ensures unnamed { IfSome (name_fault name.now) (λ fault. IfErr result (λ e. e ≡ SshEncoding fault)) }
 {
     let steps = steps_of(alloc, name, extensions)?;
     let report = run_link(
@@ -95,6 +97,7 @@ fn steps_of(alloc: Global, name: &str, extensions: ExtInfo) -> Result<Vec<Step>,
     ensures name { OnOk result (IsServiceName name.now) }
     ensures told { OnOk result (AreExtensions extensions) }
     ensures refused { IsServiceName name.now → IfErr result (λ e. e ≡ Memory) }
+    ensures unnamed { IfSome (name_fault name.now) (λ fault. IfErr result (λ e. e ≡ SshEncoding fault)) }
 {
     let request = payload_of(
         alloc,
