@@ -1,8 +1,8 @@
 //! Both sides of a run, and how much of what the link delivered they received.
 
-ghost use Rattle.std.specs.Prelude.{◌≡◌, [], OnOk, IfErr, drop, false, length, max};
+ghost use Rattle.std.specs.Prelude.{◌≡◌, [], IfErr, IfOk, OnOk, drop, false, length, max, slice_get};
 ghost use Rattle.ssh_wire.specs.Sides.{other_side};
-ghost use Rattle.ssh_channels.specs.Asking.{IsRefused, TakesPayload, payload_fault, request_fault, ReceivesAll, RefusesOneOf};
+ghost use Rattle.ssh_channels.specs.Asking.{IsReadFrom, IsRefused, ReceivesAll, RefusesOneOf, TakesPayload, payload_fault, request_fault};
 ghost use Rattle.ssh_channels.specs.Ends.{CallClose, CallEof, Read, Write};
 ghost use Rattle.ssh_channels.specs.Muxes.{On, Start};
 ghost use Rattle.ssh_mux.specs.Running.{IsCall, ReceivesNew, both_of, is_call_fault, side_at, state_at};
@@ -118,9 +118,10 @@ impl Pair {
         }
     }
 
-    /// A side asks for a channel. Full where it has 1024 channels. Memory.
+    /// A side asks for a channel, whose number is how many it had. Full where it has 1024 channels. Memory.
     pub fn start(&mut self, side: Side) -> Result<u32, MuxFault>
         ensures ok { OnOk result (IsCall side Start (both_of self.old) (both_of self.new)) }
+        ensures number { IfOk result (λ n. n ≡ length (state_at side (both_of self.old)).side.channels) }
         ensures refused { IfErr result (λ f. IsRefused (request_fault Start (state_at side (both_of self.old)).side) f
             (both_of self.new ≡ both_of self.old)) }
     {
@@ -145,6 +146,8 @@ impl Pair {
     /// The next bytes that came on a channel of a side, at most `n`. Unknown. Memory.
     pub fn read(&mut self, side: Side, channel: u32, n: u64) -> Result<Payload, MuxFault>
         ensures ok { OnOk result (IsCall side (On channel (Read n)) (both_of self.old) (both_of self.new)) }
+        ensures bytes { IfOk result (λ bytes. IsReadFrom
+            (slice_get (state_at side (both_of self.old)).side.channels channel) n bytes) }
         ensures refused { IfErr result (λ f. IsRefused (request_fault (On channel (Read n))
             (state_at side (both_of self.old)).side) f (both_of self.new ≡ both_of self.old)) }
     {
