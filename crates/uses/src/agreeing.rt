@@ -3,7 +3,7 @@
 ghost use Rattle.std.specs.Option.{option_copied};
 ghost use Rattle.std.specs.Prelude.{◌≡◌, ◌≤◌, codes, true, IfOk, OnOk, Some};
 ghost use Rattle.ssh_kex.specs.Messages.{bit_size, is_gex};
-ghost use Rattle.ssh_kex.specs.Parts.{HasItsGroup, IsRefused, Presents, Setup};
+ghost use Rattle.ssh_kex.specs.Parts.{Answers, HasItsGroup, IsRefused, Presents, Setup};
 ghost use Rattle.ssh_negotiate.specs.declared.preferred.HostKey.{HostKey};
 ghost use Rattle.uses.specs.DrawnSecret.{IsDrawnSecret};
 
@@ -47,6 +47,8 @@ pub fn agree<A: Agreement, R: Rng>(
     ensures drawn { IfOk result (λ v. IsDrawnSecret A.client_draws A.server_draws name (option_copied group.entry)
         (R.stream client_rng.old) (R.stream client_rng.new) (R.stream server_rng.old) (R.stream server_rng.new)
         v.server) }
+    ensures client_answers { OnOk result (Answers A.answered 2 client.old client.new) }
+    ensures server_answers { OnOk result (Answers A.answered 1 server.old server.new) }
     ensures never { (s : Setup) → A.obliging client.old client.new s (option_copied group.entry)
         → A.obliging server.old server.new s (option_copied group.entry)
         → HasItsGroup name (option_copied group.entry) → A.offered client.old name ≡ true

@@ -24,6 +24,7 @@ pub fn hand_over<A: Agreement, H: HostKeys, G: GroupLookup, R: Rng>(
         to.old from.old.output taken to.new) }
     ensures kept { OnErr result (from.new ≡ from.old) }
     ensures lives { to.old.failed ≡ false → OnOk result (to.new.failed ≡ false) }
+    ensures keeps { ⟦<Parts<A, H, G, R> as Handed>⟧.keeps parts.old parts.new }
     ensures dead { to.old.failed ≡ true → AnswersAlone (Err Disconnect) result to.old to.new parts.old parts.new }
     ensures refused { to.old.failed ≡ false → IfErr result
         (λ e. RefusesPieceAsking (⟦<Parts<A, H, G, R> as Handed>⟧.says to.old.config parts.old)
