@@ -64,7 +64,8 @@ def faulty_snippets():
 
 def faulty_bytes():
     """What docs/REPORT.md takes apart stands where it says in the report of examples/run."""
-    wires = dict(re.findall(r"^(client|server) wire ([0-9a-f]*)$", (TOP / "examples/run.stdout").read_text(encoding="utf-8"), re.M))
+    report = (TOP / "examples/run.stdout").read_text(encoding="utf-8")
+    wires = dict(re.findall(r"^(client|server) wire ([0-9a-f]*)$", report, re.M))
     for part in (TOP / "docs/REPORT.md").read_text(encoding="utf-8").split("\n## ")[1:]:
         side = re.match(r"The (client|server)'s bytes", part)
         for at, shown in re.findall(r"^\| (\d+) \| `([0-9a-f]+)` \|", part, re.M) if side else ():
@@ -142,7 +143,7 @@ def answer_rows():
 
 def faulty_answers():
     words = set().union(*(defined(path) for path in TOP.glob("crates/*/specs/*.antt")))
-    edits = {path.stem for kind in ("must-fail", "planted") for path in TOP.glob(f"crates/*/{kind}/*.edit")}
+    edits = {path.name for kind in ("must-fail", "planted") for path in TOP.glob(f"crates/*/{kind}/*.edit")}
     for crate, calls, clauses, shown in answer_rows():
         for part in clauses.split(";"):
             named, _, cited = (re.findall(r"`([^`]+)`", text) for text in part.partition("by "))
@@ -162,12 +163,15 @@ def faulty_answers():
 
 
 def faulty_names():
-    """Names in backticks that no source, script or file has, but for fronts of names, as `x_..`. DIFFERENCES names what the
-    ported crate has, and the crates' pages are made of the sources."""
+    """Names in backticks that no source, script or file has, but for fronts of names, as `x_..`. DIFFERENCES names what
+    the ported crate has, and the crates' pages are made of the sources."""
+    kinds = ("src", "specs", "proofs", "must-fail", "planted")
     roots = [*(TOP / top for top in (".ci", "bench", "check", "cases", "docs", "examples", "vectors")),
-             *(folder for kind in ("src", "specs", "proofs", "must-fail", "planted") for folder in TOP.glob(f"crates/*/{kind}"))]
-    files = [*(TOP / file for file in ("sshlink", "sshservice", "sshaudit", "sshmux", "sshpipe", "wrapper.sh")), TOP / "NOTICE", TOP / "crates.txt", *(path for root in roots for path in root.rglob("*"))]
-    texts = (path.read_text(encoding="utf-8", errors="replace") for path in files if path.is_file() and path.suffix != ".md")
+             *(folder for kind in kinds for folder in TOP.glob(f"crates/*/{kind}"))]
+    tops = ("sshlink", "sshservice", "sshaudit", "sshmux", "sshpipe", "wrapper.sh", "NOTICE", "crates.txt")
+    files = [*(TOP / file for file in tops), *(path for root in roots for path in root.rglob("*"))]
+    read = [path for path in files if path.is_file() and path.suffix != ".md"]
+    texts = (path.read_text(encoding="utf-8", errors="replace") for path in read)
     paths = (str(path.relative_to(TOP)) for path in files)
     words = set(re.findall(r"\w+", "\n".join((*texts, *paths))))
     for page in pages():
