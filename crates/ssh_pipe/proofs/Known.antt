@@ -9,6 +9,7 @@ use Rattle.ssh_wire.specs.declared.side.Side.{Side}
 use Rattle.ssh_wire.specs.declared.side.Side.TheVariants.{Client, Server}
 use Rattle.ssh_kex.specs.Setting.{Says}
 use Rattle.ssh_kex.specs.declared.config.Config.{Config}
+use Rattle.ssh_kex.specs.declared.exchange.FinishedExchange.{FinishedExchange}
 use Rattle.ssh_kex.specs.declared.exchange.ServerHost.{ServerHost}
 use Rattle.ssh_rules.specs.Handled.{heard_in, packets_in}
 use Rattle.ssh_rules.specs.Log.{read_bytes, recorded}
@@ -203,9 +204,9 @@ has_untouched : (says : Says) (side : Side) (config : Config) (fed sent : List �
 has_untouched says side config fed sent answered t r = record { log = r.log; state = r.state; steps = r.steps; records = r.records; read = r.read }
 
 -- a new side that came to an end
-pub talked_as : (says : Says) (denies : Denies) (untrusted : ServerHost → Type 0) (accepts : Accepting) (trusts : Trusting) (side : Side) (config : Config) (start : Standing) (desk : DeskState) (held : Option (List ℕ)) (fed : List ℕ) (held' : Option (List ℕ)) (end : TalkEnd)
-    → Answered says accepts trusts → IsNew side config start → desk.side ≡ side → HasAnswered desk [] → Ends says denies untrusted desk (first_said (first_of desk.side)) start held fed held' end → Talked side config says denies untrusted accepts trusts held fed held' end
-talked_as says denies untrusted accepts trusts side config start desk held fed held' end answers new of_side fresh ends = record {
+pub talked_as : (says : Says) (denies : Denies) (untrusted : ServerHost → Type 0) (accepts : Accepting) (trusts : Trusting) (side : Side) (config : Config) (start : Standing) (desk : DeskState) (held : Option (List ℕ)) (fed : List ℕ) (held' : Option (List ℕ)) (end : TalkEnd) (finished : List FinishedExchange)
+    → Answered says accepts trusts → IsNew side config start → desk.side ≡ side → HasAnswered desk [] → Ends says denies untrusted desk (first_said (first_of desk.side)) start held fed held' end finished → Talked side config says denies untrusted accepts trusts held fed held' end finished
+talked_as says denies untrusted accepts trusts side config start desk held fed held' end finished answers new of_side fresh ends = record {
   start = start;
   new = new;
   desk = desk;

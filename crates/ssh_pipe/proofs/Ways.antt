@@ -9,6 +9,7 @@ use Rattle.ssh_wire.specs.declared.error.Error.TheVariants as errors
 use Rattle.ssh_kex.specs.Refusals.{Denies}
 use Rattle.ssh_kex.specs.Setting.{Says}
 use Rattle.ssh_kex.specs.declared.config.Config.{Config}
+use Rattle.ssh_kex.specs.declared.exchange.FinishedExchange.{FinishedExchange}
 use Rattle.ssh_kex.specs.declared.exchange.ServerHost.{ServerHost}
 use Rattle.ssh_rules.specs.Refusing.{RefusesPiece}
 use Rattle.ssh_rules.specs.Log.{sent_bytes, delivered_in}
@@ -439,14 +440,15 @@ well_behind refused refused' f p q xs ys a h SinkFailed at w = w
 well_behind refused refused' f p q xs ys a h Exhausted at w = w
 
 -- an end behind a way on which a side said what it says first, and replies
-ends_after_way : (says : Says) (denies : Denies) (untrusted : ServerHost → Type 0) (p q : DeskState) (first said : List (List ℕ)) (a : Standing) (h0 : Option (List ℕ)) (f : List ℕ) (b : Standing) (h1 : Option (List ℕ)) (g : List ℕ) (h2 : Option (List ℕ)) (end : TalkEnd)
-    → (way : Goes says a h0 f b h1) → said_in way.moves ≡ first ++ said → AnswersMore p way.answered said q → (a.delivered ≡ [] → b.delivered ≡ []) → Ends says denies untrusted q [] b h1 g h2 end → Ends says denies untrusted p first a h0 (f ++ g) h2 end
+ends_after_way : (says : Says) (denies : Denies) (untrusted : ServerHost → Type 0) (p q : DeskState) (first said : List (List ℕ)) (a : Standing) (h0 : Option (List ℕ)) (f : List ℕ) (b : Standing) (h1 : Option (List ℕ)) (g : List ℕ) (h2 : Option (List ℕ)) (end : TalkEnd) (finished : List FinishedExchange)
+    → (way : Goes says a h0 f b h1) → said_in way.moves ≡ first ++ said → AnswersMore p way.answered said q → (a.delivered ≡ [] → b.delivered ≡ []) → Ends says denies untrusted q [] b h1 g h2 end finished → Ends says denies untrusted p first a h0 (f ++ g) h2 end finished
 unfolding goes_join
-ends_after_way says denies untrusted p q first said a h0 f b h1 g h2 end way is answers all e = record {
+ends_after_way says denies untrusted p q first said a h0 f b h1 g h2 end finished way is answers all e = record {
   at = e.at;
   goes = goes_join says a h0 f b h1 g e.at h2 way e.goes;
   said = said_behind p q end first way.answered e.goes.answered said way.moves e.goes.moves is answers e.said;
   all = λ n. e.all (all n);
+  records = e.records;
   well = well_behind
       (λ error. EndsRefused says denies untrusted b e.goes.moves error (untouched e.goes.sent e.goes.answered e.at))
       (λ error. EndsRefused says denies untrusted a (way.moves ++ e.goes.moves) error (untouched (way.sent ++ e.goes.sent) (way.answered ++ e.goes.answered) e.at))
@@ -454,18 +456,19 @@ ends_after_way says denies untrusted p q first said a h0 f b h1 g h2 end way is 
       p q way.answered e.goes.answered said answers end e.at e.well;
 }
 
-pub ends_after : (says : Says) (denies : Denies) (untrusted : ServerHost → Type 0) (p q : DeskState) (a : Standing) (h0 : Option (List ℕ)) (f : List ℕ) (b : Standing) (h1 : Option (List ℕ)) (g : List ℕ) (h2 : Option (List ℕ)) (end : TalkEnd)
-    → TalksOn says p a h0 f q b h1 → Ends says denies untrusted q [] b h1 g h2 end → Ends says denies untrusted p [] a h0 (f ++ g) h2 end
-ends_after says denies untrusted p q a h0 f b h1 g h2 end on e = ends_after_way says denies untrusted p q [] (said_in on.goes.moves) a h0 f b h1 g h2 end on.goes refl on.answers on.all e
+pub ends_after : (says : Says) (denies : Denies) (untrusted : ServerHost → Type 0) (p q : DeskState) (a : Standing) (h0 : Option (List ℕ)) (f : List ℕ) (b : Standing) (h1 : Option (List ℕ)) (g : List ℕ) (h2 : Option (List ℕ)) (end : TalkEnd) (finished : List FinishedExchange)
+    → TalksOn says p a h0 f q b h1 → Ends says denies untrusted q [] b h1 g h2 end finished → Ends says denies untrusted p [] a h0 (f ++ g) h2 end finished
+ends_after says denies untrusted p q a h0 f b h1 g h2 end finished on e = ends_after_way says denies untrusted p q [] (said_in on.goes.moves) a h0 f b h1 g h2 end finished on.goes refl on.answers on.all e
 
-ends_weaker : (x y : Says) (d e : Denies) (u v : ServerHost → Type 0) → Denying y x e d → ((host : ServerHost) → v host → u host) → (p : DeskState) (first : List (List ℕ)) (a : Standing) (h0 : Option (List ℕ)) (f : List ℕ) (h1 : Option (List ℕ)) (end : TalkEnd)
-    → Ends y e v p first a h0 f h1 end → Ends x d u p first a h0 f h1 end
+ends_weaker : (x y : Says) (d e : Denies) (u v : ServerHost → Type 0) → Denying y x e d → ((host : ServerHost) → v host → u host) → (p : DeskState) (first : List (List ℕ)) (a : Standing) (h0 : Option (List ℕ)) (f : List ℕ) (h1 : Option (List ℕ)) (end : TalkEnd) (finished : List FinishedExchange)
+    → Ends y e v p first a h0 f h1 end finished → Ends x d u p first a h0 f h1 end finished
 unfolding goes_weaker
-ends_weaker x y d e u v w t p first a h0 f h1 end ends = record {
+ends_weaker x y d e u v w t p first a h0 f h1 end finished ends = record {
   at = ends.at;
   goes = goes_weaker y x w.weaker a h0 f ends.at h1 ends.goes;
   said = ends.said;
   all = ends.all;
+  records = ends.records;
   well = well_behind
       (λ error. EndsRefused y e v a ends.goes.moves error (untouched ends.goes.sent ends.goes.answered ends.at))
       (λ error. EndsRefused x d u a ends.goes.moves error (untouched ends.goes.sent ends.goes.answered ends.at))
@@ -474,19 +477,20 @@ ends_weaker x y d e u v w t p first a h0 f h1 end ends = record {
 }
 
 -- the same, of what the parts say under the configuration of each
-pub ends_behind : (x y : Config → Says) (d e : Denies) (u v : ServerHost → Type 0) → ((k : Config) → Denying (y k) (x k) e d) → ((host : ServerHost) → v host → u host) → (p q : DeskState) (a : Standing) (h0 : Option (List ℕ)) (f : List ℕ) (b : Standing) (h1 : Option (List ℕ)) (g : List ℕ) (h2 : Option (List ℕ)) (end : TalkEnd)
-    → b.config ≡ a.config → TalksOn (x a.config) p a h0 f q b h1 → Ends (y b.config) e v q [] b h1 g h2 end → Ends (x a.config) d u p [] a h0 (f ++ g) h2 end
-ends_behind x y d e u v w t p q a h0 f b h1 g h2 end same on ends =
-    let P : Config → Type 0 = λ k. Ends (y k) e v q [] b h1 g h2 end in
-    ends_after (x a.config) d u p q a h0 f b h1 g h2 end on (ends_weaker (x a.config) (y a.config) d e u v (w a.config) t q [] b h1 g h2 end (subst P same ends))
+pub ends_behind : (x y : Config → Says) (d e : Denies) (u v : ServerHost → Type 0) → ((k : Config) → Denying (y k) (x k) e d) → ((host : ServerHost) → v host → u host) → (p q : DeskState) (a : Standing) (h0 : Option (List ℕ)) (f : List ℕ) (b : Standing) (h1 : Option (List ℕ)) (g : List ℕ) (h2 : Option (List ℕ)) (end : TalkEnd) (finished : List FinishedExchange)
+    → b.config ≡ a.config → TalksOn (x a.config) p a h0 f q b h1 → Ends (y b.config) e v q [] b h1 g h2 end finished → Ends (x a.config) d u p [] a h0 (f ++ g) h2 end finished
+ends_behind x y d e u v w t p q a h0 f b h1 g h2 end finished same on ends =
+    let P : Config → Type 0 = λ k. Ends (y k) e v q [] b h1 g h2 end finished in
+    ends_after (x a.config) d u p q a h0 f b h1 g h2 end finished on (ends_weaker (x a.config) (y a.config) d e u v (w a.config) t q [] b h1 g h2 end finished (subst P same ends))
 
 -- an end at which no turn is left
-pub ends_spent : (says : Says) (denies : Denies) (untrusted : ServerHost → Type 0) (p q : DeskState) (a : Standing) (h0 : Option (List ℕ)) (f : List ℕ) (b : Standing) (h1 : Option (List ℕ)) → b.failed ≡ false → TalksOn says p a h0 f q b h1 → Ends says denies untrusted p [] a h0 f h1 Exhausted
+pub ends_spent : (says : Says) (denies : Denies) (untrusted : ServerHost → Type 0) (p q : DeskState) (a : Standing) (h0 : Option (List ℕ)) (f : List ℕ) (b : Standing) (h1 : Option (List ℕ)) → b.failed ≡ false → TalksOn says p a h0 f q b h1 → Ends says denies untrusted p [] a h0 f h1 Exhausted b.state.records
 ends_spent says denies untrusted p q a h0 f b h1 live on = record {
   at = b;
   goes = on.goes;
   said = inr (λ earlier z. (said_in on.goes.moves, refl, on.answers.2 earlier z));
   all = on.all;
+  records = refl;
   well = live;
 }
 
@@ -573,18 +577,19 @@ cut_well refused p SinkFailed at live cut = absurd cut
 cut_well refused p Exhausted at live cut = absurd cut
 
 -- a piece was taken, and the talk ended at what it delivered
-pub ends_cut : (says : Says) (denies : Denies) (untrusted : ServerHost → Type 0) (p : DeskState) (a : Standing) (held held' : Option (List ℕ)) (piece : List ℕ) (fed : Standing) (end : TalkEnd)
-    → a.failed ≡ false → held' ≡ held → TakesInput says a piece fed → IsCutAt p fed.delivered end → Ends says denies untrusted p [] a held piece held' end
+pub ends_cut : (says : Says) (denies : Denies) (untrusted : ServerHost → Type 0) (p : DeskState) (a : Standing) (held held' : Option (List ℕ)) (piece : List ℕ) (fed : Standing) (end : TalkEnd) (finished : List FinishedExchange)
+    → a.failed ≡ false → held' ≡ held → TakesInput says a piece fed → IsCutAt p fed.delivered end → finished ≡ fed.state.records → Ends says denies untrusted p [] a held piece held' end finished
 unfolding goes_taken
-ends_cut says denies untrusted p a held held' piece fed end live still takes cut =
-    let ends : Ends says denies untrusted p [] a held piece held end = record {
+ends_cut says denies untrusted p a held held' piece fed end finished live still takes cut same =
+    let ends : Ends says denies untrusted p [] a held piece held end finished = record {
       at = fed;
       goes = goes_taken says a piece fed held live takes;
       said = said_none p (Fed piece ∷ []) end refl;
       all = λ n. left_cut p fed.delivered end fed cut;
+      records = sym same;
       well = cut_well (λ e. EndsRefused says denies untrusted a (Fed piece ∷ []) e (untouched [] [] fed)) p end fed takes.acts.live cut;
     } in
-    subst (λ h. Ends says denies untrusted p [] a held piece h end) (sym still) ends
+    subst (λ h. Ends says denies untrusted p [] a held piece h end finished) (sym still) ends
 
 end_well : (refused : Error → Type 0) (p : DeskState) (answered : List (List ℕ)) (e : Error) (end : TalkEnd) (at : Standing) → at.output ≡ [] → at.failed ≡ true → refused e → IsEndFor e end → EndsWell refused p answered end at
 end_well refused p answered e end at sent failed r (inl h) = subst (λ t. EndsWell refused p answered t at) (sym h.1) (sent, failed, subst refused h.0 r)
@@ -592,13 +597,14 @@ end_well refused p answered e end at sent failed r (inr h) = subst (λ t. EndsWe
 
 -- a piece was refused, and what was due before was written
 pub ends_refused : (says : Says) (denies : Denies) (untrusted : ServerHost → Type 0) (p : DeskState) (a : Standing) (held held' : Option (List ℕ)) (piece : List ℕ) (fed new : Standing) (e : Error) (end : TalkEnd)
-    → a.failed ≡ false → RefusesPiece says denies untrusted a piece e fed → (new ≡ record fed { output = [] }) × Appends fed.output held held' → IsEndFor e end → Ends says denies untrusted p [] a held piece held' end
+    → a.failed ≡ false → RefusesPiece says denies untrusted a piece e fed → (new ≡ record fed { output = [] }) × Appends fed.output held held' → IsEndFor e end → Ends says denies untrusted p [] a held piece held' end new.state.records
 unfolding goes_on goes_join goes_refused goes_sent
 ends_refused says denies untrusted p a held held' piece fed new e end live r sent is = record {
   at = new;
   goes = goes_on says a held piece fed held new held' (goes_refused says a piece fed held r.cause live r.refuses) (goes_sent says fed new held held' sent.0 sent.1);
   said = said_none p (FedLast piece ∷ []) end refl;
   all = λ n. left_refused e end new is;
+  records = refl;
   well = end_well (λ error. EndsRefused says denies untrusted a (FedLast piece ∷ []) error (untouched fed.output [] new)) p [] e end new
       (ap (λ (t : Standing). t.output) sent.0) (ap (λ (t : Standing). t.failed) sent.0 ∙ r.refuses.failed)
       (record { earlier = []; piece = piece; mid = a; moves_are = refl; follows = refl; refuses = subst (λ t. RefusesPiece says denies untrusted a piece e t) (sym back) r }) is;
@@ -607,25 +613,27 @@ ends_refused says denies untrusted p a held held' piece fed new e end live r sen
   back = ap (untouched fed.output []) sent.0 ∙ ap (λ (o : List ℕ). record fed { output = o }) (append-nil fed.output)
 
 -- and where the sink failed then
-pub ends_unsent : (says : Says) (denies : Denies) (untrusted : ServerHost → Type 0) (p : DeskState) (a : Standing) (held held' : Option (List ℕ)) (piece : List ℕ) (fed : Standing) (cause : RefusalCause)
-    → a.failed ≡ false → RefusesInput says a piece cause fed → AppendsFront fed.output held held' → Ends says denies untrusted p [] a held piece held' SinkFailed
+pub ends_unsent : (says : Says) (denies : Denies) (untrusted : ServerHost → Type 0) (p : DeskState) (a : Standing) (held held' : Option (List ℕ)) (piece : List ℕ) (fed new : Standing) (cause : RefusalCause)
+    → a.failed ≡ false → RefusesInput says a piece cause fed → new ≡ fed → AppendsFront fed.output held held' → Ends says denies untrusted p [] a held piece held' SinkFailed new.state.records
 unfolding goes_on goes_join goes_refused goes_front
-ends_unsent says denies untrusted p a held held' piece fed cause live refuses (n, within, w) = record {
+ends_unsent says denies untrusted p a held held' piece fed new cause live refuses same (n, within, w) = record {
   at = record fed { output = drop n fed.output };
   goes = goes_on says a held piece fed held (record fed { output = drop n fed.output }) held' (goes_refused says a piece fed held cause live refuses) (goes_front says fed held held' (n, within, w));
   said = said_none p (FedLast piece ∷ []) SinkFailed refl;
   all = λ n. tt;
+  records = sym (ap (λ (t : Standing). t.state.records) same);
   well = tt;
 }
 
 -- the sink failed
-pub ends_front : (says : Says) (denies : Denies) (untrusted : ServerHost → Type 0) (p : DeskState) (t : Standing) (held held' : Option (List ℕ)) → AppendsFront t.output held held' → Ends says denies untrusted p [] t held [] held' SinkFailed
+pub ends_front : (says : Says) (denies : Denies) (untrusted : ServerHost → Type 0) (p : DeskState) (t new : Standing) (held held' : Option (List ℕ)) → new ≡ t → AppendsFront t.output held held' → Ends says denies untrusted p [] t held [] held' SinkFailed new.state.records
 unfolding goes_front
-ends_front says denies untrusted p t held held' (n, within, w) = record {
+ends_front says denies untrusted p t new held held' same (n, within, w) = record {
   at = record t { output = drop n t.output };
   goes = goes_front says t held held' (n, within, w);
   said = said_none p [] SinkFailed refl;
   all = λ n. tt;
+  records = sym (ap (λ (s : Standing). s.state.records) same);
   well = tt;
 }
 
@@ -640,11 +648,11 @@ talks_sent_before x p q t mid held held' held'' piece new sent on =
     let P : Config → Type 0 = λ k. TalksOn (x k) p mid held' piece q new held'' in
     talks_after (x t.config) p p q t held [] mid held' piece new held'' (talks_sent (x t.config) p t mid held held' sent) (subst P (ap (λ (s : Standing). s.config) sent.0) on)
 
-pub ends_sent_before : (x : Config → Says) (denies : Denies) (untrusted : ServerHost → Type 0) (p : DeskState) (t mid : Standing) (held held' held'' : Option (List ℕ)) (piece : List ℕ) (end : TalkEnd) → (mid ≡ record t { output = [] }) × Appends t.output held held'
-    → Ends (x mid.config) denies untrusted p [] mid held' piece held'' end → Ends (x t.config) denies untrusted p [] t held piece held'' end
-ends_sent_before x denies untrusted p t mid held held' held'' piece end sent e =
-    let P : Config → Type 0 = λ k. Ends (x k) denies untrusted p [] mid held' piece held'' end in
-    ends_after (x t.config) denies untrusted p p t held [] mid held' piece held'' end (talks_sent (x t.config) p t mid held held' sent) (subst P (ap (λ (s : Standing). s.config) sent.0) e)
+pub ends_sent_before : (x : Config → Says) (denies : Denies) (untrusted : ServerHost → Type 0) (p : DeskState) (t mid : Standing) (held held' held'' : Option (List ℕ)) (piece : List ℕ) (end : TalkEnd) (finished : List FinishedExchange) → (mid ≡ record t { output = [] }) × Appends t.output held held'
+    → Ends (x mid.config) denies untrusted p [] mid held' piece held'' end finished → Ends (x t.config) denies untrusted p [] t held piece held'' end finished
+ends_sent_before x denies untrusted p t mid held held' held'' piece end finished sent e =
+    let P : Config → Type 0 = λ k. Ends (x k) denies untrusted p [] mid held' piece held'' end finished in
+    ends_after (x t.config) denies untrusted p p t held [] mid held' piece held'' end finished (talks_sent (x t.config) p t mid held held' sent) (subst P (ap (λ (s : Standing). s.config) sent.0) e)
 
 -- what a source gave
 pub takes_next : (n : ℕ) (buffer : List ℕ) (old new : Option (List ℕ)) → TakesNext n buffer old new → TakesFront (take n buffer) old new
@@ -680,27 +688,27 @@ some_weaker None P Q f h = tt
 some_weaker (Some x) P Q f h = f x h
 
 -- nothing was done, and the talk ended
-pub ends_nowhere : (says : Says) (denies : Denies) (untrusted : ServerHost → Type 0) (p : DeskState) (t : Standing) (held : Option (List ℕ)) (end : TalkEnd) → EndsWell (λ e. EndsRefused says denies untrusted t [] e (untouched [] [] t)) p [] end t → Ends says denies untrusted p [] t held [] held end
+pub ends_nowhere : (says : Says) (denies : Denies) (untrusted : ServerHost → Type 0) (p : DeskState) (t : Standing) (held : Option (List ℕ)) (end : TalkEnd) → EndsWell (λ e. EndsRefused says denies untrusted t [] e (untouched [] [] t)) p [] end t → Ends says denies untrusted p [] t held [] held end t.state.records
 unfolding goes_nowhere
-ends_nowhere says denies untrusted p t held end well = record { at = t; goes = goes_nowhere says t held; said = said_none p [] end refl; all = left_nowhere end t; well = well }
+ends_nowhere says denies untrusted p t held end well = record { at = t; goes = goes_nowhere says t held; said = said_none p [] end refl; all = left_nowhere end t; records = refl; well = well }
 
 -- and it was not even begun
-pub ends_unbegun : (says : Says) (denies : Denies) (untrusted : ServerHost → Type 0) (p : DeskState) (first : List (List ℕ)) (t : Standing) (held : Option (List ℕ)) (e : Error) → EndsWell (λ e. EndsRefused says denies untrusted t [] e (untouched [] [] t)) p [] (Refused e) t → Ends says denies untrusted p first t held [] held (Refused e)
+pub ends_unbegun : (says : Says) (denies : Denies) (untrusted : ServerHost → Type 0) (p : DeskState) (first : List (List ℕ)) (t : Standing) (held : Option (List ℕ)) (e : Error) (finished : List FinishedExchange) → EndsWell (λ e. EndsRefused says denies untrusted t [] e (untouched [] [] t)) p [] (Refused e) t → finished ≡ t.state.records → Ends says denies untrusted p first t held [] held (Refused e) finished
 unfolding goes_nowhere
-ends_unbegun says denies untrusted p first t held e well = record { at = t; goes = goes_nowhere says t held; said = inl (e, refl, refl, refl); all = λ n. tt; well = well }
+ends_unbegun says denies untrusted p first t held e finished well same = record { at = t; goes = goes_nowhere says t held; said = inl (e, refl, refl, refl); all = λ n. tt; records = sym same; well = well }
 
 -- payloads were submitted first, by parts that are as they were
-pub ends_begun : {A H G : Type 0} (says : Config → A → H → G → Says) (denies : A → H → G → Denies) (untrusted : H → ServerHost → Type 0) (p : DeskState) (a a' : A) (h h' : H) (g g' : G) (t mid : Standing) (held : Option (List ℕ)) (fed : List ℕ) (held' : Option (List ℕ)) (end : TalkEnd)
-    → mid.config ≡ t.config → a' ≡ a → h' ≡ h → g' ≡ g → SaysFirst (says t.config a h g) p.side t mid → Ends (says mid.config a' h' g') (denies a' h' g') (untrusted h') p [] mid held fed held' end → Ends (says t.config a h g) (denies a h g) (untrusted h) p (first_said (first_of p.side)) t held fed held' end
+pub ends_begun : {A H G : Type 0} (says : Config → A → H → G → Says) (denies : A → H → G → Denies) (untrusted : H → ServerHost → Type 0) (p : DeskState) (a a' : A) (h h' : H) (g g' : G) (t mid : Standing) (held : Option (List ℕ)) (fed : List ℕ) (held' : Option (List ℕ)) (end : TalkEnd) (finished : List FinishedExchange)
+    → mid.config ≡ t.config → a' ≡ a → h' ≡ h → g' ≡ g → SaysFirst (says t.config a h g) p.side t mid → Ends (says mid.config a' h' g') (denies a' h' g') (untrusted h') p [] mid held fed held' end finished → Ends (says t.config a h g) (denies a h g) (untrusted h) p (first_said (first_of p.side)) t held fed held' end finished
 unfolding goes_submitted
-ends_begun says denies untrusted p a a' h h' g g' t mid held fed held' end c e k m begun ends =
+ends_begun says denies untrusted p a a' h h' g g' t mid held fed held' end finished c e k m begun ends =
     let first = first_said (first_of p.side) in
-    let same : Ends (says t.config a h g) (denies a h g) (untrusted h) p [] mid held fed held' end =
-    subst (λ x. Ends (says x a h g) (denies a h g) (untrusted h) p [] mid held fed held' end) c
-    (subst (λ x. Ends (says mid.config x h g) (denies x h g) (untrusted h) p [] mid held fed held' end) e
-    (subst (λ x. Ends (says mid.config a' x g) (denies a' x g) (untrusted x) p [] mid held fed held' end) k
-    (subst (λ x. Ends (says mid.config a' h' x) (denies a' h' x) (untrusted h') p [] mid held fed held' end) m ends))) in
-    ends_after_way (says t.config a h g) (denies a h g) (untrusted h) p p first [] t held [] mid held fed held' end (goes_submitted (says t.config a h g) t first mid held begun) (said_handed first ∙ sym (append-nil first)) (answers_none p) (λ n. handed_keeps (says t.config a h g) first t mid begun ∙ n) same
+    let same : Ends (says t.config a h g) (denies a h g) (untrusted h) p [] mid held fed held' end finished =
+    subst (λ x. Ends (says x a h g) (denies a h g) (untrusted h) p [] mid held fed held' end finished) c
+    (subst (λ x. Ends (says mid.config x h g) (denies x h g) (untrusted h) p [] mid held fed held' end finished) e
+    (subst (λ x. Ends (says mid.config a' x g) (denies a' x g) (untrusted x) p [] mid held fed held' end finished) k
+    (subst (λ x. Ends (says mid.config a' h' x) (denies a' h' x) (untrusted h') p [] mid held fed held' end finished) m ends))) in
+    ends_after_way (says t.config a h g) (denies a h g) (untrusted h) p p first [] t held [] mid held fed held' end finished (goes_submitted (says t.config a h g) t first mid held begun) (said_handed first ∙ sym (append-nil first)) (answers_none p) (λ n. handed_keeps (says t.config a h g) first t mid begun ∙ n) same
 
 -- the end is reached where none is left
 pub at_end : (buffer : List ℕ) (old new : Option (List ℕ)) → TakesNext 0 buffer old new → IsAtEnd old → ReachesEnd old new

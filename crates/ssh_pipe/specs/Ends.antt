@@ -1,10 +1,8 @@
 -- The exit status of each end of a talk.
-use Rattle.std.specs.Prelude.{◌≡◌, ◌⊎◌, ℕ, List}
-use Rattle.ssh_program.specs.Statuses.{report_written, run_refused, script_faulty, sink_failed, source_failed, want_of_memory}
+use Rattle.std.specs.Prelude.{ℕ}
+use Rattle.ssh_program.specs.Statuses.{report_written, run_refused, sink_failed, source_failed, want_of_memory}
 use Rattle.ssh_wire.specs.declared.error.Error.{Error}
 use Rattle.ssh_wire.specs.declared.error.Error.TheVariants as errors
-use Rattle.ssh_wire.specs.declared.side.Side.{Side}
-use Rattle.ssh_pipe.specs.Keys.{IsFaultyFile}
 use Rattle.ssh_pipe.specs.declared.end.TalkEnd.{TalkEnd}
 use Rattle.ssh_pipe.specs.declared.end.TalkEnd.TheVariants.{Disconnected, Exhausted, Granted, InputEnded, NotServed, Refused, SinkFailed, SourceFailed}
 
@@ -23,7 +21,3 @@ end_status NotServed = run_refused
 end_status SourceFailed = source_failed
 end_status SinkFailed = sink_failed
 end_status Exhausted = run_refused
-
--- the status of a talk that didn't begin: the key's file is faulty, or memory was wanting
-abbrev pub IsUnbegun : Side → (text : List ℕ) → ℕ → Type 0
-IsUnbegun side text status = ((status ≡ script_faulty) × IsFaultyFile side text) ⊎ (status ≡ want_of_memory)

@@ -4,6 +4,7 @@ pub mod Desks
 pub mod KeyFiles
 pub mod Keys
 pub mod Known
+pub mod Notes
 pub mod Runs
 pub mod Setup
 pub mod Talks

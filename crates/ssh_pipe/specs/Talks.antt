@@ -9,6 +9,7 @@ use Rattle.ssh_wire.specs.declared.side.Side.TheVariants.{Client}
 use Rattle.ssh_kex.specs.Refusals.{Denies}
 use Rattle.ssh_kex.specs.Setting.{Says}
 use Rattle.ssh_kex.specs.declared.config.Config.{Config}
+use Rattle.ssh_kex.specs.declared.exchange.FinishedExchange.{FinishedExchange}
 use Rattle.ssh_kex.specs.declared.exchange.ServerHost.{ServerHost}
 use Rattle.ssh_rules.specs.Parts.{Accepting, Trusting}
 use Rattle.ssh_rules.specs.Refusing.{RefusesPiece}
@@ -169,14 +170,15 @@ LeavesNone SourceFailed at = at.delivered ≡ []
 LeavesNone SinkFailed at = Unit {0}
 LeavesNone Exhausted at = at.delivered ≡ []
 
--- A talk ended at some standing of the side, which says this first.
+-- A talk ended at some standing of the side, which says this first, and which has finished these exchanges.
 pub record Ends (says : Says) (denies : Denies) (untrusted : ServerHost → Type 0) (d : DeskState)
     (first : List (List ℕ)) (old : Standing) (held : Option (List ℕ)) (fed : List ℕ) (held' : Option (List ℕ))
-    (end : TalkEnd) : Type 0 where
+    (end : TalkEnd) (finished : List FinishedExchange) : Type 0 where
   pub at : Standing
   pub goes : Goes says old held fed at held'
   pub said : SaysBack d first goes.answered goes.moves end
   pub all : old.delivered ≡ [] → LeavesNone end at
+  pub records : at.state.records ≡ finished
   pub well : EndsWell
       (λ e. EndsRefused says denies untrusted old goes.moves e (untouched goes.sent goes.answered at))
       d goes.answered end at
@@ -202,15 +204,15 @@ TellsFault failed before now end = (end ≡ failed → Rose before now) × ((end
 
 -- A new side of this configuration talked, and its desk had answered nothing: it was fed these bytes, and what was
 -- written of its output, the sink holds. What it was handed to send is what it says first, and a reply to each payload
--- that was delivered and answered. Where it is a client, each exchange that it finished was signed by a host that
--- it trusts.
+-- that was delivered and answered. It finished these exchanges. Where it is a client, each of them was signed by a host
+-- that it trusts.
 pub record Talked (side : Side) (config : Config) (says : Says) (denies : Denies) (untrusted : ServerHost → Type 0)
     (accepts : Accepting) (trusts : Trusting) (held : Option (List ℕ)) (fed : List ℕ) (held' : Option (List ℕ))
-    (end : TalkEnd) : Type 0 where
+    (end : TalkEnd) (finished : List FinishedExchange) : Type 0 where
   pub start : Standing
   pub new : IsNew side config start
   pub desk : DeskState
   pub of_side : desk.side ≡ side
   pub fresh : HasAnswered desk []
-  pub ends : Ends says denies untrusted desk (first_said (first_of desk.side)) start held fed held' end
+  pub ends : Ends says denies untrusted desk (first_said (first_of desk.side)) start held fed held' end finished
   pub known : side ≡ Client → IsSignedClient accepts trusts says config fed ends.at

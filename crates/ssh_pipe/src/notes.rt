@@ -1,91 +1,133 @@
 //! What is told beside the talk: a line for each exchange that was finished, and one for the end.
 
+ghost use Rattle.std.specs.Prelude.{[], ◌≡◌, ◌≤◌, ◌+◌, ◌++◌, ◌∷◌, drop, length, IfErr, IfOk, OnErr, OnOk};
+ghost use Rattle.std.specs.List.{flat_map};
+ghost use Rattle.ssh_wire.specs.declared.error.Error.TheVariants.{Memory};
+ghost use Rattle.ssh_pipe.specs.Notes.{IsTold, TellsLines, noted, end_note, end_words, exchange_note, exchange_notes, exchange_words};
+
 use crate::end::TalkEnd;
 use ssh_kex::FinishedExchange;
-use ssh_lines::{push_decimal, push_error, push_text};
+use ssh_lines::{push_error, push_numbered, push_text};
+use ssh_negotiate::Names;
 use ssh_transport::Transport;
 use ssh_wire::{Error, Sink, put_u8, write_all};
 use std::alloc::Global;
 
-/// Tells the exchanges behind the first so many, and answers how many are told then. Where the sink fails or memory is
-/// wanting, lines are left out.
+/// Tells the exchanges behind the first so many, and answers how many are told then. Where the sink fails, a front of a
+/// line is told. Where memory is wanting, the line is left out.
 pub(crate) fn tell_exchanges<N: Sink>(
     alloc: Global,
     transport: &Transport<'_>,
     told: usize,
     notes: &mut N,
-) -> usize {
-    let finished = transport.finished();
-    for k in told..finished {
-        let line = exchange_line(alloc, k + 1, transport.exchange(k + 1));
-        write_note(line, notes);
+) -> usize
+    ensures lines { TellsLines (exchange_notes (told + 1) (drop told transport.now.state.records))
+        (noted (N.held notes.old) (N.faults notes.old)) (noted (N.held notes.new) (N.faults notes.new)) }
+    ensures count { told ≤ length transport.now.state.records → result ≡ length transport.now.state.records }
+{
+    let mut count = told;
+    while count < transport.finished() {
+        count += 1;
+        write_note(
+            exchange_line(alloc, count, transport.exchange(count)),
+            notes,
+        );
     }
-    finished
+    count
 }
 
-/// Writes a line, where there is one.
-fn write_note<N: Sink>(line: Result<Vec<u8>, Error>, notes: &mut N) {
+/// Tells a line, where there is one.
+fn write_note<N: Sink>(line: Result<Vec<u8>, Error>, notes: &mut N)
+    ensures told { IfOk line (λ text. IsTold text.items (noted (N.held notes.old) (N.faults notes.old))
+        (noted (N.held notes.new) (N.faults notes.new))) }
+    ensures none { OnErr line (notes.new ≡ notes.old) }
+{
     if let Ok(line) = line {
-        let _written = write_all(notes, line.as_slice());
+        tell(line.as_slice(), notes);
     }
 }
 
-/// The line of an exchange: its number, key exchange, host key, cipher, both MACs, and whether it is strict.
-fn exchange_line(alloc: Global, k: usize, exchange: &FinishedExchange) -> Result<Vec<u8>, Error> {
+/// The line of an exchange: its number, and what was negotiated. Memory.
+fn exchange_line(alloc: Global, k: usize, exchange: &FinishedExchange) -> Result<Vec<u8>, Error>
+    ensures line { IfOk result (λ text. text.items ≡ exchange_note k exchange.now) }
+    ensures err { IfErr result (λ e. e ≡ Memory) }
+{
     let mut out = Vec::new(alloc);
-    push_text(&mut out, b"sshpipe: exchange ")?;
-    push_decimal(&mut out, k as u64)?;
-    push_word(&mut out, exchange.names.kex.as_str())?;
-    push_word(&mut out, exchange.names.key.as_str())?;
-    push_word(&mut out, exchange.names.cipher.as_str())?;
-    push_word(&mut out, exchange.names.client_mac.as_str())?;
-    push_word(&mut out, exchange.names.server_mac.as_str())?;
-    push_word(
-        &mut out,
-        if exchange.names.strict_kex {
-            "strict"
-        } else {
-            "plain"
-        },
-    )?;
+    push_numbered(&mut out, b"sshpipe: exchange ", k as u64)?;
+    push_names(&mut out, &exchange.names)?;
     put_u8(&mut out, b'\n')?;
     Ok(out)
 }
 
+/// What was negotiated, each word behind a space: key exchange, host key, cipher, both MACs, and whether it is strict.
+fn push_names(out: &mut Vec<u8>, names: &Names) -> Result<(), Error>
+    ensures ok { OnOk result (out.new.items ≡ out.old.items
+        ++ flat_map (λ word. 32 ∷ word) (exchange_words names.now)) }
+    ensures err { IfErr result (λ e. e ≡ Memory) }
+{
+    push_word(out, names.kex.as_str())?;
+    push_word(out, names.key.as_str())?;
+    push_word(out, names.cipher.as_str())?;
+    push_word(out, names.client_mac.as_str())?;
+    push_word(out, names.server_mac.as_str())?;
+    push_word(out, if names.strict_kex { "strict" } else { "plain" })
+}
+
 /// A space and a word.
-fn push_word(out: &mut Vec<u8>, word: &str) -> Result<(), Error> {
+fn push_word(out: &mut Vec<u8>, word: &str) -> Result<(), Error>
+    ensures ok { OnOk result (out.new.items ≡ out.old.items ++ (32 ∷ word.now)) }
+    ensures err { IfErr result (λ e. e ≡ Memory) }
+{
     put_u8(out, b' ')?;
     push_text(out, word.as_bytes())
 }
 
 /// Tells how the talk ended.
-pub(crate) fn tell_end<N: Sink>(alloc: Global, end: &TalkEnd, notes: &mut N) {
+pub(crate) fn tell_end<N: Sink>(alloc: Global, end: &TalkEnd, notes: &mut N)
+    ensures { TellsLines (end_note end.now ∷ []) (noted (N.held notes.old) (N.faults notes.old))
+        (noted (N.held notes.new) (N.faults notes.new)) }
+{
     write_note(end_line(alloc, end), notes);
 }
 
-fn end_line(alloc: Global, end: &TalkEnd) -> Result<Vec<u8>, Error> {
+/// The line of an end. Memory.
+fn end_line(alloc: Global, end: &TalkEnd) -> Result<Vec<u8>, Error>
+    ensures line { IfOk result (λ text. text.items ≡ end_note end.now) }
+    ensures err { IfErr result (λ e. e ≡ Memory) }
+{
     let mut out = Vec::new(alloc);
     push_text(&mut out, b"sshpipe: ")?;
-    match end {
-        TalkEnd::InputEnded => push_text(&mut out, b"the input has ended")?,
-        TalkEnd::Disconnected => push_text(&mut out, b"the other side has disconnected")?,
-        TalkEnd::Granted => push_text(&mut out, b"the service is granted")?,
-        TalkEnd::Refused(error) => push_refusal(&mut out, error)?,
-        TalkEnd::NotServed => push_text(&mut out, b"the service isn't offered")?,
-        TalkEnd::SourceFailed => push_text(&mut out, b"reading failed")?,
-        TalkEnd::SinkFailed => push_text(&mut out, b"writing failed")?,
-        TalkEnd::Exhausted => push_text(&mut out, b"too many pieces were read")?,
-    }
+    push_end(&mut out, end)?;
     put_u8(&mut out, b'\n')?;
     Ok(out)
 }
 
-fn push_refusal(out: &mut Vec<u8>, error: &Error) -> Result<(), Error> {
-    push_text(out, b"refused ")?;
-    push_error(out, error)
+/// Why the talk ended.
+fn push_end(out: &mut Vec<u8>, end: &TalkEnd) -> Result<(), Error>
+    ensures ok { OnOk result (out.new.items ≡ out.old.items ++ end_words end.now) }
+    ensures err { IfErr result (λ e. e ≡ Memory) }
+{
+    match end {
+        TalkEnd::InputEnded => push_text(out, b"the input has ended"),
+        TalkEnd::Disconnected => push_text(out, b"the other side has disconnected"),
+        TalkEnd::Granted => push_text(out, b"the service is granted"),
+        TalkEnd::Refused(error) => {
+            push_text(out, b"refused ")?;
+            push_error(out, error)
+        }
+        TalkEnd::NotServed => push_text(out, b"the service isn't offered"),
+        TalkEnd::SourceFailed => push_text(out, b"reading failed"),
+        TalkEnd::SinkFailed => push_text(out, b"writing failed"),
+        TalkEnd::Exhausted => push_text(out, b"too many pieces were read"),
+    }
 }
 
-/// Tells a fault outside the talk.
-pub(crate) fn tell<N: Sink>(text: &[u8], notes: &mut N) {
-    let _written = write_all(notes, text);
+/// Tells a text, or a front of it where the sink fails.
+pub(crate) fn tell<N: Sink>(text: &[u8], notes: &mut N)
+    ensures { IsTold text.now (noted (N.held notes.old) (N.faults notes.old))
+        (noted (N.held notes.new) (N.faults notes.new)) }
+{
+    match write_all(notes, text) {
+        Ok(()) | Err(_) => {}
+    }
 }

@@ -5,6 +5,7 @@ ghost use Rattle.std.specs.Process.{exit_status};
 ghost use Rattle.ssh_wire.specs.Outside.{ReachesEnd, TakesFront};
 ghost use Rattle.ssh_program.specs.Statuses.{want_of_memory};
 ghost use Rattle.rand_chacha.specs.ChaCha.{of_seed};
+ghost use Rattle.ssh_kex.specs.declared.exchange.FinishedExchange.{FinishedExchange};
 ghost use Rattle.ssh_modp.specs.Hosts.{is_known};
 ghost use Rattle.ssh_modp.specs.Rsa.{rsa_accepts};
 ghost use Rattle.ssh_rules.specs.Standing.{IsNew};
@@ -13,6 +14,7 @@ ghost use Rattle.ssh_wire.specs.declared.error.ConfigFault.{ConfigFault};
 ghost use Rattle.ssh_wire.specs.declared.error.Error.TheVariants.{InvalidConfig, Memory};
 ghost use Rattle.ssh_pipe.specs.Desks.{HasAnswered};
 ghost use Rattle.ssh_pipe.specs.Keys.{IsFaultyFile, IsSetUp};
+ghost use Rattle.ssh_pipe.specs.Notes.{TellsLines, exchange_notes, noted};
 ghost use Rattle.ssh_pipe.specs.Runs.{IsProgramRun, longest_file, ports};
 ghost use Rattle.ssh_pipe.specs.Talks.{Talked, TellsFault};
 ghost use Rattle.ssh_pipe.specs.declared.end.TalkEnd.TheVariants.{Exhausted, InputEnded, SinkFailed, SourceFailed};
@@ -59,8 +61,11 @@ pub fn exit_code<R: Files + RandomSource, S: Source, K: Sink, N: Sink>(
 ) -> ExitCode
     ensures status { exit_status result ≤ want_of_memory }
     ensures ran { IsProgramRun ⟦<Parts<FieldAgreement, RsaHosts, ModpGroups, ChaCha20Rng> as RunTold>⟧.runs arguments
-        (ports (S.left source.old) (K.held sink.old) (S.faults source.old) (K.faults sink.old))
-        (ports (S.left source.new) (K.held sink.new) (S.faults source.new) (K.faults sink.new)) (exit_status result) }
+        (ports (S.left source.old) (K.held sink.old) (S.faults source.old) (K.faults sink.old)
+        (noted (N.held notes.old) (N.faults notes.old)))
+        (ports (S.left source.new) (K.held sink.new) (S.faults source.new) (K.faults sink.new)
+        (noted (N.held notes.new) (N.faults notes.new)))
+        (exit_status result) }
 {
     match words_of(alloc, arguments) {
         Ok(words) => ExitCode::from(run(rt, alloc, words.as_slice(), source, sink, notes)),
@@ -79,8 +84,11 @@ fn run<R: Files + RandomSource, S: Source, K: Sink, N: Sink>(
 ) -> u8
     ensures status { result ≤ want_of_memory }
     ensures ran { ⟦<Parts<FieldAgreement, RsaHosts, ModpGroups, ChaCha20Rng> as RunTold>⟧.runs words.now
-        (ports (S.left source.old) (K.held sink.old) (S.faults source.old) (K.faults sink.old))
-        (ports (S.left source.new) (K.held sink.new) (S.faults source.new) (K.faults sink.new)) result }
+        (ports (S.left source.old) (K.held sink.old) (S.faults source.old) (K.faults sink.old)
+        (noted (N.held notes.old) (N.faults notes.old)))
+        (ports (S.left source.new) (K.held sink.new) (S.faults source.new) (K.faults sink.new)
+        (noted (N.held notes.new) (N.faults notes.new)))
+        result }
 {
     let Some(command) = command_of(words) else {
         tell(USAGE, notes);
@@ -118,8 +126,11 @@ pub fn run_with_key<S: Source, K: Sink, N: Sink>(
     ensures status { result ≤ want_of_memory }
     ensures ran { ⟦<Parts<FieldAgreement, RsaHosts, ModpGroups, ChaCha20Rng> as RunTold>⟧.runs_with_key
         command.now.side command.now.limit text.now seed
-        (ports (S.left source.old) (K.held sink.old) (S.faults source.old) (K.faults sink.old))
-        (ports (S.left source.new) (K.held sink.new) (S.faults source.new) (K.faults sink.new)) result }
+        (ports (S.left source.old) (K.held sink.old) (S.faults source.old) (K.faults sink.old)
+        (noted (N.held notes.old) (N.faults notes.old)))
+        (ports (S.left source.new) (K.held sink.new) (S.faults source.new) (K.faults sink.new)
+        (noted (N.held notes.new) (N.faults notes.new)))
+        result }
 {
     match set_up(alloc, command, text, seed) {
         Ok((config, mut parts)) => {
@@ -202,7 +213,7 @@ pub fn set_up(
 /// Talks as this side: a new one of this configuration is fed what is taken of the source, and what it writes goes into
 /// the sink. Each exchange that a client finished was signed, under the hash of that exchange, by the key of a host
 /// that is known (RFC 4253 section 8). The blob of that key and the signature stand in the reply that the client read,
-/// and the signature passes the test of RFC 8017 (RFC 8332).
+/// and the signature passes the test of RFC 8017 (RFC 8332). A line is told for each exchange that was finished.
 pub fn talk_as<S: Source, K: Sink, N: Sink>(
     alloc: Global,
     side: Side,
@@ -212,12 +223,14 @@ pub fn talk_as<S: Source, K: Sink, N: Sink>(
     sink: &mut K,
     notes: &mut N,
 ) -> TalkEnd
-    ensures talked { (bytes : List ℕ) × TakesFront bytes (S.left source.old) (S.left source.new)
-        × Talked side config.now
+    ensures talked { (bytes : List ℕ) × (finished : List FinishedExchange)
+        × TakesFront bytes (S.left source.old) (S.left source.new) × Talked side config.now
         (⟦<Parts<FieldAgreement, RsaHosts, ModpGroups, ChaCha20Rng> as Handed>⟧.says config.now parts.old)
         (⟦<Parts<FieldAgreement, RsaHosts, ModpGroups, ChaCha20Rng> as Handed>⟧.denies parts.old parts.new)
         (⟦<Parts<FieldAgreement, RsaHosts, ModpGroups, ChaCha20Rng> as Asked>⟧.distrusts parts.old parts.new)
-        rsa_accepts (is_known parts.old.hosts.known) (K.held sink.old) bytes (K.held sink.new) result }
+        rsa_accepts (is_known parts.old.hosts.known) (K.held sink.old) bytes (K.held sink.new) result finished
+        × TellsLines (exchange_notes 1 finished) (noted (N.held notes.old) (N.faults notes.old))
+        (noted (N.held notes.new) (N.faults notes.new)) }
     ensures whole { result ≡ InputEnded → ReachesEnd (S.left source.old) (S.left source.new) }
     ensures long { result ≡ Exhausted → IfSome (S.left source.old) (λ left. 2 ^ 64 ≤ length left + 1) }
     ensures source { TellsFault SourceFailed (S.faults source.old) (S.faults source.new) result }

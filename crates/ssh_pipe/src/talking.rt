@@ -6,6 +6,7 @@ ghost use Rattle.ssh_rules.specs.Valid.{is_good_payload};
 ghost use Rattle.ssh_wire.specs.Outside.{Appends, AppendsFront, ReachesEnd, Rose, TakesFront};
 ghost use Rattle.ssh_wire.specs.declared.error.Error.TheVariants.{Memory};
 ghost use Rattle.ssh_pipe.specs.Desks.{first_of, first_said};
+ghost use Rattle.ssh_pipe.specs.Notes.{TellsLines, exchange_notes, noted};
 ghost use Rattle.ssh_pipe.specs.Talks.{Ends, HandsReplies, IsCutAt, IsEndFor, SaysFirst, TalksOn, TellsFault};
 ghost use Rattle.ssh_pipe.specs.declared.end.TalkEnd.TheVariants.{Exhausted, InputEnded, Refused, SinkFailed, SourceFailed};
 
@@ -39,7 +40,10 @@ pub fn talk<A: Agreement, H: HostKeys, G: GroupLookup, R: Rng, S: Source, K: Sin
         × Ends (⟦<Parts<A, H, G, R> as Handed>⟧.says transport.old.config parts.old)
         (⟦<Parts<A, H, G, R> as Handed>⟧.denies parts.old parts.new)
         (⟦<Parts<A, H, G, R> as Asked>⟧.distrusts parts.old parts.new) desk.old
-        (first_said (first_of desk.old.side)) transport.old (K.held sink.old) bytes (K.held sink.new) result }
+        (first_said (first_of desk.old.side)) transport.old (K.held sink.old) bytes (K.held sink.new) result
+        transport.new.state.records }
+    ensures noted { TellsLines (exchange_notes 1 transport.new.state.records)
+        (noted (N.held notes.old) (N.faults notes.old)) (noted (N.held notes.new) (N.faults notes.new)) }
     ensures whole { result ≡ InputEnded → ReachesEnd (S.left source.old) (S.left source.new) }
     ensures long { result ≡ Exhausted → IfSome (S.left source.old) (λ left. 2 ^ 64 ≤ length left + 1) }
     ensures source { TellsFault SourceFailed (S.faults source.old) (S.faults source.new) result }
@@ -47,11 +51,14 @@ pub fn talk<A: Agreement, H: HostKeys, G: GroupLookup, R: Rng, S: Source, K: Sin
 {
     match begin(alloc, transport, parts, desk) {
         Ok(()) => take_turns(alloc, transport, parts, desk, source, sink, notes),
-        Err(error) => TalkEnd::Refused(error),
+        Err(error) => {
+            tell_exchanges(alloc, transport, 0, notes);
+            TalkEnd::Refused(error)
+        }
     }
 }
 
-/// Takes turns until one ends the talk.
+/// Takes turns until one ends the talk, and tells each exchange that is finished.
 fn take_turns<A: Agreement, H: HostKeys, G: GroupLookup, R: Rng, S: Source, K: Sink, N: Sink>(
     alloc: Global,
     transport: &mut Transport<'_>,
@@ -66,13 +73,15 @@ fn take_turns<A: Agreement, H: HostKeys, G: GroupLookup, R: Rng, S: Source, K: S
         × Ends (⟦<Parts<A, H, G, R> as Handed>⟧.says transport.old.config parts.old)
         (⟦<Parts<A, H, G, R> as Handed>⟧.denies parts.old parts.new)
         (⟦<Parts<A, H, G, R> as Asked>⟧.distrusts parts.old parts.new) desk.old [] transport.old
-        (K.held sink.old) bytes (K.held sink.new) result }
+        (K.held sink.old) bytes (K.held sink.new) result transport.new.state.records }
+    ensures noted { TellsLines (exchange_notes 1 transport.new.state.records)
+        (noted (N.held notes.old) (N.faults notes.old)) (noted (N.held notes.new) (N.faults notes.new)) }
     ensures whole { result ≡ InputEnded → ReachesEnd (S.left source.old) (S.left source.new) }
     ensures long { result ≡ Exhausted → IfSome (S.left source.old) (λ left. 2 ^ 64 ≤ length left + 1) }
     ensures source { TellsFault SourceFailed (S.faults source.old) (S.faults source.new) result }
     ensures sink { TellsFault SinkFailed (K.faults sink.old) (K.faults sink.new) result }
 {
-    let mut told = 0;
+    let mut told = tell_exchanges(alloc, transport, 0, notes);
     'turns: for _turn in 0..u64::MAX {
         let end = turn(alloc, transport, parts, desk, source, sink);
         told = tell_exchanges(alloc, transport, told, notes);
@@ -97,6 +106,7 @@ fn begin<A: Agreement, H: HostKeys, G: GroupLookup, R: Rng>(
         desk.now.side transport.old transport.new) }
     ensures live { OnOk result (transport.old.failed ≡ false → transport.new.failed ≡ false) }
     ensures config { OnOk result (transport.new.config ≡ transport.old.config) }
+    ensures records { transport.new.state.records ≡ transport.old.state.records }
     ensures parts { (parts.new.agreement ≡ parts.old.agreement) × (parts.new.hosts ≡ parts.old.hosts)
         × (parts.new.groups ≡ parts.old.groups) }
 {
@@ -124,7 +134,7 @@ fn turn<A: Agreement, H: HostKeys, G: GroupLookup, R: Rng, S: Source, K: Sink>(
         × Ends (⟦<Parts<A, H, G, R> as Handed>⟧.says transport.old.config parts.old)
         (⟦<Parts<A, H, G, R> as Handed>⟧.denies parts.old parts.new)
         (⟦<Parts<A, H, G, R> as Asked>⟧.distrusts parts.old parts.new) desk.old [] transport.old
-        (K.held sink.old) piece (K.held sink.new) end) }
+        (K.held sink.old) piece (K.held sink.new) end transport.new.state.records) }
     ensures live { result ≡ None → transport.new.failed ≡ false }
     ensures unspent { IfSome result (λ end. end ≡ Exhausted → ⊥) }
     ensures whole { IfSome result (λ end. end ≡ InputEnded → ReachesEnd (S.left source.old) (S.left source.new)) }
@@ -160,7 +170,7 @@ fn read_on<A: Agreement, H: HostKeys, G: GroupLookup, R: Rng, S: Source, K: Sink
         × Ends (⟦<Parts<A, H, G, R> as Handed>⟧.says transport.old.config parts.old)
         (⟦<Parts<A, H, G, R> as Handed>⟧.denies parts.old parts.new)
         (⟦<Parts<A, H, G, R> as Asked>⟧.distrusts parts.old parts.new) desk.old [] transport.old
-        (K.held sink.old) piece (K.held sink.new) end) }
+        (K.held sink.old) piece (K.held sink.new) end transport.new.state.records) }
     ensures live { result ≡ None → transport.new.failed ≡ false }
     ensures unspent { IfSome result (λ end. end ≡ Exhausted → ⊥) }
     ensures whole { IfSome result (λ end. end ≡ InputEnded → ReachesEnd (S.left source.old) (S.left source.new)) }
@@ -218,7 +228,7 @@ fn take_piece<A: Agreement, H: HostKeys, G: GroupLookup, R: Rng, K: Sink>(
     ensures ends { IfSome result (λ end. Ends (⟦<Parts<A, H, G, R> as Handed>⟧.says transport.old.config parts.old)
         (⟦<Parts<A, H, G, R> as Handed>⟧.denies parts.old parts.new)
         (⟦<Parts<A, H, G, R> as Asked>⟧.distrusts parts.old parts.new) desk.old [] transport.old
-        (K.held sink.old) piece.now (K.held sink.new) end) }
+        (K.held sink.old) piece.now (K.held sink.new) end transport.new.state.records) }
     ensures other { IfSome result (λ end. end ≡ InputEnded → ⊥) }
     ensures unspent { IfSome result (λ end. end ≡ Exhausted → ⊥) }
     ensures unread { IfSome result (λ end. end ≡ SourceFailed → ⊥) }
@@ -261,6 +271,7 @@ fn answer_all<A: Agreement, H: HostKeys, G: GroupLookup, R: Rng>(
         desk.old (record transport.old { delivered = [] }) transport.old.delivered desk.new transport.new }
     ensures live { result ≡ None → transport.new.failed ≡ false }
     ensures config { result ≡ None → transport.new.config ≡ transport.old.config }
+    ensures records { transport.new.state.records ≡ transport.old.state.records }
     ensures cut { IfSome result (IsCutAt desk.old transport.old.delivered) }
     ensures parts { (parts.new.agreement ≡ parts.old.agreement) × (parts.new.hosts ≡ parts.old.hosts)
         × (parts.new.groups ≡ parts.old.groups) }
@@ -288,6 +299,7 @@ fn answer_one<A: Agreement, H: HostKeys, G: GroupLookup, R: Rng>(
         desk.old transport.old (payload.now ∷ []) desk.new transport.new }
     ensures live { result ≡ None → transport.new.failed ≡ false }
     ensures config { result ≡ None → transport.new.config ≡ transport.old.config }
+    ensures records { transport.new.state.records ≡ transport.old.state.records }
     ensures cut { IfSome result (IsCutAt desk.old (payload.now ∷ [])) }
     ensures parts { (parts.new.agreement ≡ parts.old.agreement) × (parts.new.hosts ≡ parts.old.hosts)
         × (parts.new.groups ≡ parts.old.groups) }
@@ -311,6 +323,7 @@ fn submit<A: Agreement, H: HostKeys, G: GroupLookup, R: Rng>(
     requires good { is_good_payload payload.now ≡ true }
     ensures sent { result ≡ None → Submitted (⟦<Parts<A, H, G, R> as Handed>⟧.says transport.old.config parts.old)
         transport.old payload.now transport.new }
+    ensures records { transport.new.state.records ≡ transport.old.state.records }
     ensures memory { IfSome result (λ end. end ≡ Refused Memory) }
     ensures parts { (parts.new.agreement ≡ parts.old.agreement) × (parts.new.hosts ≡ parts.old.hosts)
         × (parts.new.groups ≡ parts.old.groups) }

@@ -19,11 +19,21 @@ returns-in-Err-clause-talked g c =
       delivered = [];
       failed = false;
     } in
-    let fresh = fresh_desk c.args.side in
-    ([], takes_none _, talked_as _ _ _ _ _ c.args.side c.args.config.now start fresh.desk _ [] _ _ (λ host hash signature k. k, λ host k. k) refl fresh.of_side fresh.answered (ends_unbegun _ _ _ fresh.desk _ start _ c.in-Err.error (inr (unopened fresh.desk start c.in-Err.error refl c.in-Err.ensures.err))))
+    let fresh = fresh_desk c.args.side in (
+      [],
+      [],
+      takes_none _,
+      talked_as _ _ _ _ _ c.args.side c.args.config.now start fresh.desk _ [] _ _ [] (λ host hash signature k. k, λ host k. k) refl fresh.of_side fresh.answered (ends_unbegun _ _ _ fresh.desk _ start _ c.in-Err.error [] (inr (unopened fresh.desk start c.in-Err.error refl c.in-Err.ensures.err)) refl),
+      refl,
+    )
 
 pub returns-in-Ok-clause-talked : goal.returns-in-Ok-clause-talked
 returns-in-Ok-clause-talked g c =
     let t = c.talk.ensures.talked in
-    let config = ap (λ (s : Standing). s.config) c.in-Ok.ensures.transport in
-    (t.0, t.1, talked_as _ _ _ _ _ c.args.side c.args.config.now c.in-Ok.transport c.in-Ok.desk _ t.0 _ c.talk.result (λ host hash signature k. k, λ host k. k) c.in-Ok.ensures.transport c.in-Ok.ensures.side c.in-Ok.ensures.desk (rw (sym config) t.2))
+    let config = ap (λ (s : Standing). s.config) c.in-Ok.ensures.transport in (
+      t.0,
+      c.talk.new.transport.state.records,
+      t.1,
+      talked_as _ _ _ _ _ c.args.side c.args.config.now c.in-Ok.transport c.in-Ok.desk _ t.0 _ c.talk.result _ (λ host hash signature k. k, λ host k. k) c.in-Ok.ensures.transport c.in-Ok.ensures.side c.in-Ok.ensures.desk (rw (sym config) t.2),
+      c.talk.ensures.noted,
+    )

@@ -13,6 +13,7 @@ loop-payload-preserved g c =
           (answers_more (says_of g.A.Agreement g.H.HostKeys g.G.GroupLookup) _ _ _ _ _ _ _ _ c.args.desk.now c.loop-payload.desk c.answer_one.new.desk _ _ _ _ _ inv.config inv.agreement inv.hosts inv.groups inv.answers (c.answer_one.ensures.answers c.in-None.is));
       live = c.answer_one.ensures.live c.in-None.is;
       config = c.answer_one.ensures.config c.in-None.is ∙ inv.config;
+      records = c.answer_one.ensures.records ∙ inv.records;
       agreement = c.answer_one.ensures.parts.0 ∙ inv.agreement;
       hosts = c.answer_one.ensures.parts.1 ∙ inv.hosts;
       groups = c.answer_one.ensures.parts.2 ∙ inv.groups;

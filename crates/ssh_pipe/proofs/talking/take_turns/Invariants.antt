@@ -1,5 +1,6 @@
 use Rattle.std.proofs.Common.{◌≡◌, ◌≤◌, ℕ, List, false, length}
 use Rattle.ssh_wire.specs.Outside.{TakesFront}
+use Rattle.ssh_pipe.specs.Notes.{TellsLines, exchange_notes, noted}
 use Rattle.ssh_pipe.specs.Talks.{TalksOn}
 use Rattle.ssh_pipe.proofs.talking.take_turns.Given as goal
 use Rattle.ssh_kex.specs.Members.{AgreementKept, GroupsKept, HostsKept}
@@ -12,6 +13,8 @@ invariant-turns g l = record {
   live : l.transport.failed ≡ false;
   config : l.transport.config ≡ l.fn.transport.config;
   source : g.S.Source.faults l.source ≡ g.S.Source.faults l.fn.source;
+  told : l.told ≡ length l.transport.state.records;
+  noted : TellsLines (exchange_notes 1 l.transport.state.records) (noted (g.N.Sink.held l.fn.notes) (g.N.Sink.faults l.fn.notes)) (noted (g.N.Sink.held l.notes) (g.N.Sink.faults l.notes));
   sink : g.K.Sink.faults l.sink ≡ g.K.Sink.faults l.fn.sink;
   agreement : AgreementKept g.A.Agreement l.fn.parts.agreement l.parts.agreement;
   hosts : HostsKept g.H.HostKeys l.fn.parts.hosts l.parts.hosts;
