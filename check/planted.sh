@@ -1,7 +1,7 @@
 #!/usr/bin/env bash
 # Usage: check/planted.sh [CRATE..]
 # Tries the edits that stand in crates/NAME/planted/, of all crates that have some if none is named. The gate tries
-# those in must-fail/; these are more of the same, for whoever changes a contract. It works on a copy of the
+# the few in must-fail/; these are tried by whoever changes the crate. It works on a copy of the
 # repository, and prints each edit that the proofs didn't refuse, each that couldn't be tried, and each that was refused
 # only since a proof names what it took away: such an edit says little of the contract.
 set -u
