@@ -27,7 +27,7 @@ impl Sink for SlowSink {
 }
 
 /// Answers a row of one of these kinds. False where the kind is another.
-pub(crate) fn answer(kind: &str, row: &mut Row<'_>, found: &mut Found) -> bool {
+pub(crate) fn answer(kind: &str, row: &Row<'_>, found: &Found) -> bool {
     let outcome = match kind {
         "flush" => flush(row, found),
         "carry" => carry(row, found),
@@ -40,7 +40,7 @@ pub(crate) fn answer(kind: &str, row: &mut Row<'_>, found: &mut Found) -> bool {
 /// `flush STEP FAIL ROOM PAYLOAD..`: what a clear writer of these payloads answers when it is flushed into a sink that
 /// takes so many bytes a call, whose call of this number fails, with room for so many bytes; its answer to a second
 /// flush; what the sink holds, how often it failed, and what the writer still has.
-fn flush(row: &mut Row<'_>, found: &mut Found) -> Result<(), Fault> {
+fn flush(row: &Row<'_>, found: &Found) -> Result<(), Fault> {
     let step = row.count();
     let mut fails = Vec::new(row.alloc());
     fails.push(row.number())?;
@@ -52,11 +52,11 @@ fn flush(row: &mut Row<'_>, found: &mut Found) -> Result<(), Fault> {
 }
 
 /// Appends what comes of flushing the payloads that are left into a sink.
-fn say_flushed(row: &mut Row<'_>, sink: &mut SlowSink, found: &mut Found) -> Result<(), Fault> {
+fn say_flushed(row: &Row<'_>, sink: &mut SlowSink, found: &Found) -> Result<(), Fault> {
     let mut writer = PacketWriter::clear(row.alloc());
     for _ in 0..row.left() {
         let payload = row.bytes();
-        writer.packet_raw(&mut Words::of(&[]), payload.as_slice())?;
+        writer.packet_raw(&mut Words::of(&[]), payload)?;
     }
     found.say_shown(&writer.flush_into(sink));
     found.say_shown(&writer.flush_into(sink));
@@ -67,7 +67,7 @@ fn say_flushed(row: &mut Row<'_>, sink: &mut SlowSink, found: &mut Found) -> Res
 }
 
 /// `carry KEY NONCE A B C`: three payloads sealed under `aes256-gcm@openssh.com`, and opened.
-fn carry(row: &mut Row<'_>, found: &mut Found) -> Result<(), Fault> {
+fn carry(row: &Row<'_>, found: &Found) -> Result<(), Fault> {
     let key = row.array::<32>();
     let nonce = row.array::<12>();
     let words = words_of(row.alloc(), key.as_slice())?;
@@ -77,15 +77,7 @@ fn carry(row: &mut Row<'_>, found: &mut Found) -> Result<(), Fault> {
         row.reject();
         return Ok(());
     }
-    match carry_three(
-        row.alloc(),
-        &mut rng,
-        &key,
-        &nonce,
-        a.as_slice(),
-        b.as_slice(),
-        c.as_slice(),
-    ) {
+    match carry_three(row.alloc(), &mut rng, &key, &nonce, a, b, c) {
         Ok(carried) => {
             found.say_bytes(carried.0.as_slice());
             found.say_bytes(carried.1.as_slice());

@@ -13,7 +13,7 @@ use uses::GivenAgreement;
 use vector_rows::{Fault, Found, Row, Words};
 
 /// Answers a row of one of these kinds. False where the kind is another.
-pub(crate) fn answer(kind: &str, row: &mut Row<'_>, found: &mut Found) -> bool {
+pub(crate) fn answer(kind: &str, row: &Row<'_>, found: &Found) -> bool {
     match kind {
         "sizes" => sizes(row, found),
         "sizes_read" => sizes_read(row, found),
@@ -30,25 +30,25 @@ pub(crate) fn answer(kind: &str, row: &mut Row<'_>, found: &mut Found) -> bool {
 }
 
 /// The next word as the name of a key exchange.
-pub(crate) fn kex_of(row: &mut Row<'_>) -> kex::Name {
+pub(crate) fn kex_of(row: &Row<'_>) -> kex::Name {
     let name = kex::Name::from_str(row.word());
     row.expect(name, kex::NONE)
 }
 
 /// The next word as the name of a cipher.
-fn cipher_of(row: &mut Row<'_>) -> cipher::Name {
+fn cipher_of(row: &Row<'_>) -> cipher::Name {
     let name = cipher::Name::from_str(row.word());
     row.expect(name, cipher::NONE)
 }
 
 /// The next word as the name of a MAC.
-fn mac_of(row: &mut Row<'_>) -> mac::Name {
+fn mac_of(row: &Row<'_>) -> mac::Name {
     let name = mac::Name::from_str(row.word());
     row.expect(name, mac::NONE)
 }
 
 /// The next words, KEX CIPHER MAC MAC, as names that were agreed on.
-fn names_of(row: &mut Row<'_>) -> Names {
+fn names_of(row: &Row<'_>) -> Names {
     Names {
         kex: kex_of(row),
         key: Algorithm::Ed25519,
@@ -65,7 +65,7 @@ fn names_of(row: &mut Row<'_>) -> Names {
 }
 
 /// The next words as three sizes.
-fn three_sizes(row: &mut Row<'_>) -> Result<GexParams, Error> {
+fn three_sizes(row: &Row<'_>) -> Result<GexParams, Error> {
     let least = row.number32();
     let preferred = row.number32();
     let most = row.number32();
@@ -73,7 +73,7 @@ fn three_sizes(row: &mut Row<'_>) -> Result<GexParams, Error> {
 }
 
 /// `sizes A B C`: three sizes as they are written, or why they are none.
-fn sizes(row: &mut Row<'_>, found: &mut Found) {
+fn sizes(row: &Row<'_>, found: &Found) {
     match three_sizes(row) {
         Ok(params) => {
             let mut out = Vec::new(row.alloc());
@@ -87,9 +87,9 @@ fn sizes(row: &mut Row<'_>, found: &mut Found) {
 }
 
 /// `sizes_read BYTES`: three sizes as they are read, or why they can't be, and how many bytes are left.
-fn sizes_read(row: &mut Row<'_>, found: &mut Found) {
+fn sizes_read(row: &Row<'_>, found: &Found) {
     let bytes = row.bytes();
-    let mut reader = Reader::new(bytes.as_slice());
+    let mut reader = Reader::new(bytes);
     match GexParams::decode(&mut reader) {
         Ok(params) => {
             found.say_number(u64::from(params.min_group_size));
@@ -103,24 +103,24 @@ fn sizes_read(row: &mut Row<'_>, found: &mut Found) {
 }
 
 /// `bits BYTES`: how many binary digits a prime of these bytes has.
-fn bits(row: &mut Row<'_>, found: &mut Found) {
+fn bits(row: &Row<'_>, found: &Found) {
     let group = DhGroup {
-        prime: Blob::new(row.bytes()),
+        prime: Blob::new(row.owned_bytes()),
         generator: Blob::new(Vec::new(row.alloc())),
     };
     found.say_number(group.bit_size());
 }
 
 /// `secret FORM BYTES`: the bytes of a secret that is an `mpint` or a `string`.
-fn secret(row: &mut Row<'_>, found: &mut Found) {
+fn secret(row: &Row<'_>, found: &Found) {
     let form = row.word();
     let bytes = row.bytes();
     if bytes.len() >= 1 << 24 {
         return row.reject();
     }
     let secret = match form {
-        "mpint" => SharedSecret::from_mpint(row.alloc(), bytes.as_slice()),
-        "string" => SharedSecret::from_string(row.alloc(), bytes.as_slice()),
+        "mpint" => SharedSecret::from_mpint(row.alloc(), bytes),
+        "string" => SharedSecret::from_string(row.alloc(), bytes),
         _ => return row.reject(),
     };
     match secret {
@@ -130,12 +130,12 @@ fn secret(row: &mut Row<'_>, found: &mut Found) {
 }
 
 /// `canonical BLOB`: the canonical form of a signature, or `none`.
-fn canonical(row: &mut Row<'_>, found: &mut Found) {
+fn canonical(row: &Row<'_>, found: &Found) {
     let blob = row.bytes();
     if blob.len() >= 1 << 24 {
         return row.reject();
     }
-    match canonicalize_ecdsa_signature(row.alloc(), blob.as_slice()) {
+    match canonicalize_ecdsa_signature(row.alloc(), blob) {
         Ok(Some(form)) => found.say_bytes(form.as_slice()),
         Ok(None) => found.say("none"),
         Err(error) => found.fail(Fault::from(error)),
@@ -143,7 +143,7 @@ fn canonical(row: &mut Row<'_>, found: &mut Found) {
 }
 
 /// `key_lengths KEX CIPHER MAC MAC`: the lengths of the six keys.
-fn key_lengths(row: &mut Row<'_>, found: &mut Found) {
+fn key_lengths(row: &Row<'_>, found: &Found) {
     let names = names_of(row);
     let hash = HashValue::empty();
     let keys = compute_keys(names.kex.shape().digest, None, &hash, &hash, &names, false).keys;
@@ -151,7 +151,7 @@ fn key_lengths(row: &mut Row<'_>, found: &mut Found) {
 }
 
 /// Appends the lengths of keys.
-fn say_lengths(keys: &Keys, found: &mut Found) {
+fn say_lengths(keys: &Keys, found: &Found) {
     found.say_number(keys.iv_c2s.as_bytes().len() as u64);
     found.say_number(keys.iv_s2c.as_bytes().len() as u64);
     found.say_number(keys.key_c2s.as_bytes().len() as u64);
@@ -161,7 +161,7 @@ fn say_lengths(keys: &Keys, found: &mut Found) {
 }
 
 /// `request KEX A B C`: the message that asks for a group, or why there is none, and whether a group is kept.
-fn request(row: &mut Row<'_>, found: &mut Found) {
+fn request(row: &Row<'_>, found: &Found) {
     let mut algorithm = KexAlgorithm::new(row.alloc(), kex_of(row));
     match three_sizes(row) {
         Ok(params) => say_request(row, &mut algorithm, &params, found),
@@ -170,7 +170,7 @@ fn request(row: &mut Row<'_>, found: &mut Found) {
 }
 
 /// Appends the message that asks for a group of these sizes, or why there is none, and whether a group is kept.
-fn say_request(row: &Row<'_>, algorithm: &mut KexAlgorithm, params: &GexParams, found: &mut Found) {
+fn say_request(row: &Row<'_>, algorithm: &mut KexAlgorithm, params: &GexParams, found: &Found) {
     let mut out = Vec::new(row.alloc());
     match algorithm.client_dh_gex_init(params, &mut out) {
         Ok(()) => found.say_bytes(out.as_slice()),
@@ -184,16 +184,16 @@ fn say_request(row: &Row<'_>, algorithm: &mut KexAlgorithm, params: &GexParams, 
 }
 
 /// `unstarted KEX`: what `compute_shared_secret` answers before `client_dh`.
-fn unstarted(row: &mut Row<'_>, found: &mut Found) {
+fn unstarted(row: &Row<'_>, found: &Found) {
     let mut algorithm = KexAlgorithm::new(row.alloc(), kex_of(row));
     let mut given = GivenAgreement::new(row.alloc());
     found.say_shown(&algorithm.compute_shared_secret(&mut given, b""));
 }
 
 /// `used KEX PUBLIC SECRET`: what `client_dh` writes, and what `compute_shared_secret` answers twice behind it.
-fn used(row: &mut Row<'_>, found: &mut Found) {
+fn used(row: &Row<'_>, found: &Found) {
     let mut algorithm = KexAlgorithm::new(row.alloc(), kex_of(row));
-    match GivenAgreement::of(row.alloc(), row.bytes(), row.bytes()) {
+    match GivenAgreement::of(row.alloc(), row.owned_bytes(), row.owned_bytes()) {
         Ok(mut given) => say_used(row, &mut algorithm, &mut given, found),
         Err(error) => found.fail(Fault::from(error)),
     }
@@ -204,7 +204,7 @@ fn say_used<A: Agreement>(
     row: &Row<'_>,
     algorithm: &mut KexAlgorithm,
     given: &mut A,
-    found: &mut Found,
+    found: &Found,
 ) {
     let mut own = Blob::new(Vec::new(row.alloc()));
     let mut out = Vec::new(row.alloc());

@@ -12,7 +12,7 @@ use uses::{OneGroup, agree_in_group};
 use vector_rows::{Fault, Found, Row, Words, words_of};
 
 /// Answers a row of one of these kinds. False where the kind is another.
-pub(crate) fn answer(kind: &str, row: &mut Row<'_>, found: &mut Found) -> bool {
+pub(crate) fn answer(kind: &str, row: &Row<'_>, found: &Found) -> bool {
     match kind {
         "test_offers" => offers(row, found),
         "test_agreement" => agreement(row, found),
@@ -28,7 +28,7 @@ pub(crate) fn answer(kind: &str, row: &mut Row<'_>, found: &mut Found) -> bool {
 }
 
 /// Answers a row on a part that refuses a call. False where the kind is another.
-pub(crate) fn answer_refusing(kind: &str, row: &mut Row<'_>, found: &mut Found) -> bool {
+pub(crate) fn answer_refusing(kind: &str, row: &Row<'_>, found: &Found) -> bool {
     match kind {
         "refusing_agreement" => refusing_agreement(row, found),
         "refusing_hosts" => refusing_hosts(row, found),
@@ -39,35 +39,35 @@ pub(crate) fn answer_refusing(kind: &str, row: &mut Row<'_>, found: &mut Found) 
 }
 
 /// The next words as PRIME GENERATOR, or as `none` for no group.
-pub(crate) fn group_of(row: &mut Row<'_>) -> Option<DhGroup> {
+pub(crate) fn group_of(row: &Row<'_>) -> Option<DhGroup> {
     let word = row.word();
     if word == "none" {
         return None;
     }
     Some(DhGroup {
         prime: Blob::new(row.bytes_of(word)),
-        generator: Blob::new(row.bytes()),
+        generator: Blob::new(row.owned_bytes()),
     })
 }
 
 /// The next word as a hash.
-pub(crate) fn hash_of(row: &mut Row<'_>) -> HashValue {
+pub(crate) fn hash_of(row: &Row<'_>) -> HashValue {
     let bytes = row.bytes();
     if bytes.len() > 64 {
         row.reject();
         return HashValue::empty();
     }
-    HashValue::of(bytes.as_slice())
+    HashValue::of(bytes)
 }
 
 /// The next word as an algorithm.
-fn algorithm_of(row: &mut Row<'_>) -> Algorithm {
+fn algorithm_of(row: &Row<'_>) -> Algorithm {
     let algorithm = Algorithm::from_str(row.word());
     row.expect(algorithm, Algorithm::Ed25519)
 }
 
 /// The next word as trusted hosts: BLOB:KEYBLOB with commas between them, or `-` for none.
-fn trusted_of(row: &mut Row<'_>) -> Result<Vec<TrustedHost>, Fault> {
+fn trusted_of(row: &Row<'_>) -> Result<Vec<TrustedHost>, Fault> {
     let mut trusted = Vec::new(row.alloc());
     let word = row.text();
     for pair in word.split(',').filter(|pair| !pair.is_empty()) {
@@ -91,7 +91,7 @@ fn trusted_alone(alloc: Global, blob: &[u8]) -> Result<Vec<TrustedHost>, Fault> 
 }
 
 /// Appends `ok`, or why there was no answer.
-pub(crate) fn say_answer<T>(found: &mut Found, answer: &Result<T, Refusal>) {
+pub(crate) fn say_answer<T>(found: &Found, answer: &Result<T, Refusal>) {
     match answer {
         Ok(_) => found.say("ok"),
         Err(refusal) => found.say_shown(refusal),
@@ -99,7 +99,7 @@ pub(crate) fn say_answer<T>(found: &mut Found, answer: &Result<T, Refusal>) {
 }
 
 /// Appends bytes, or why there are none.
-pub(crate) fn say_blob(found: &mut Found, answer: &Result<Blob, Refusal>) {
+pub(crate) fn say_blob(found: &Found, answer: &Result<Blob, Refusal>) {
     match answer {
         Ok(blob) => found.say_bytes(blob.as_slice()),
         Err(refusal) => found.say_shown(refusal),
@@ -107,24 +107,18 @@ pub(crate) fn say_blob(found: &mut Found, answer: &Result<Blob, Refusal>) {
 }
 
 /// `test_offers NAME`: whether the test agreement has the key exchange.
-fn offers(row: &mut Row<'_>, found: &mut Found) {
+fn offers(row: &Row<'_>, found: &Found) {
     found.say_shown(&TestAgreement::new().offers(kex_of(row)));
 }
 
 /// `test_agreement NAME GROUP CLIENT SERVER`: the server's value that is drawn from these bytes and its secret, how
 /// many calls and refusals there were, and how many words were left undrawn.
-fn agreement(row: &mut Row<'_>, found: &mut Found) {
+fn agreement(row: &Row<'_>, found: &Found) {
     let name = kex_of(row);
     let group = group_of(row);
     let (client, server) = (row.bytes(), row.bytes());
-    match words_of(row.alloc(), server.as_slice()) {
-        Ok(words) => say_agreement(
-            name,
-            group.as_ref(),
-            client.as_slice(),
-            words.as_slice(),
-            found,
-        ),
+    match words_of(row.alloc(), server) {
+        Ok(words) => say_agreement(name, group.as_ref(), client, words.as_slice(), found),
         Err(fault) => found.fail(fault),
     }
 }
@@ -135,7 +129,7 @@ fn say_agreement(
     group: Option<&DhGroup>,
     client: &[u8],
     words: &[u32],
-    found: &mut Found,
+    found: &Found,
 ) {
     let mut rng = Words::of(words);
     let mut parts = TestAgreement::new();
@@ -152,28 +146,22 @@ fn say_agreement(
 }
 
 /// `test_secret NAME GROUP LOCAL SERVER`: a client's secret, and how many refusals there were.
-fn secret(row: &mut Row<'_>, found: &mut Found) {
+fn secret(row: &Row<'_>, found: &Found) {
     let name = kex_of(row);
     let group = group_of(row);
     let (local, server) = (row.bytes(), row.bytes());
     let mut parts = TestAgreement::new();
-    let answer = parts.client_agree(
-        row.alloc(),
-        name,
-        group.as_ref(),
-        local.as_slice(),
-        server.as_slice(),
-    );
+    let answer = parts.client_agree(row.alloc(), name, group.as_ref(), local, server);
     say_blob(found, &answer);
     found.say_number(parts.refusals());
 }
 
 /// `test_signature ALGORITHM KEYBLOB HASH`: the signature.
-fn signature(row: &mut Row<'_>, found: &mut Found) {
+fn signature(row: &Row<'_>, found: &Found) {
     let algorithm = algorithm_of(row);
     let key = HostKey {
         algorithm,
-        blob: Blob::new(row.bytes()),
+        blob: Blob::new(row.owned_bytes()),
     };
     let hash = hash_of(row);
     let mut parts = TestHosts::new(Vec::new(row.alloc()));
@@ -182,7 +170,7 @@ fn signature(row: &mut Row<'_>, found: &mut Found) {
 
 /// `test_host TRUSTED ALGORITHM BLOB HASH SIGNATURE`: whether the host is trusted, whether its signature is right, and
 /// how many calls, signatures refused and hosts refused there were.
-fn host(row: &mut Row<'_>, found: &mut Found) {
+fn host(row: &Row<'_>, found: &Found) {
     match trusted_of(row) {
         Ok(trusted) => say_host(row, &mut TestHosts::new(trusted), found),
         Err(fault) => found.fail(fault),
@@ -190,16 +178,16 @@ fn host(row: &mut Row<'_>, found: &mut Found) {
 }
 
 /// Appends what host keys answer on the host and the signature of the next words.
-fn say_host(row: &mut Row<'_>, parts: &mut TestHosts, found: &mut Found) {
+fn say_host(row: &Row<'_>, parts: &mut TestHosts, found: &Found) {
     let host = ServerHost {
         algorithm: algorithm_of(row),
         is_certificate: false,
-        blob: Blob::new(row.bytes()),
+        blob: Blob::new(row.owned_bytes()),
     };
     let hash = hash_of(row);
     let signature = row.bytes();
     say_answer(found, &parts.check(row.alloc(), &host));
-    let answer = parts.verify(row.alloc(), &host, &hash, signature.as_slice());
+    let answer = parts.verify(row.alloc(), &host, &hash, signature);
     say_answer(found, &answer);
     found.say_number(parts.calls());
     found.say_number(parts.refused_verify());
@@ -207,7 +195,7 @@ fn say_host(row: &mut Row<'_>, parts: &mut TestHosts, found: &mut Found) {
 }
 
 /// The next words as sizes: LEAST PREFERRED MOST.
-pub(crate) fn sizes_of(row: &mut Row<'_>) -> GexParams {
+pub(crate) fn sizes_of(row: &Row<'_>) -> GexParams {
     GexParams {
         min_group_size: row.number32(),
         preferred_group_size: row.number32(),
@@ -216,7 +204,7 @@ pub(crate) fn sizes_of(row: &mut Row<'_>) -> GexParams {
 }
 
 /// `test_group BITS LEAST PREFERRED MOST`: how many bytes the prime has, the prime, the generator.
-fn group(row: &mut Row<'_>, found: &mut Found) {
+fn group(row: &Row<'_>, found: &Found) {
     let mut parts = TestGroups {
         bits: row.number32(),
     };
@@ -225,7 +213,7 @@ fn group(row: &mut Row<'_>, found: &mut Found) {
 }
 
 /// Appends a group, or why there is none.
-pub(crate) fn say_group(found: &mut Found, answer: &Result<DhGroup, Refusal>) {
+pub(crate) fn say_group(found: &Found, answer: &Result<DhGroup, Refusal>) {
     match answer {
         Ok(group) => {
             found.say_number(group.prime.as_slice().len() as u64);
@@ -237,7 +225,7 @@ pub(crate) fn say_group(found: &mut Found, answer: &Result<DhGroup, Refusal>) {
 }
 
 /// `one_group LEAST PREFERRED MOST`: the same of a lookup that knows one group, and how often it was asked.
-fn one_group(row: &mut Row<'_>, found: &mut Found) {
+fn one_group(row: &Row<'_>, found: &Found) {
     let mut part = OneGroup { calls: 0 };
     let sizes = sizes_of(row);
     say_group(found, &part.lookup_dh_gex_group(row.alloc(), &sizes));
@@ -246,11 +234,11 @@ fn one_group(row: &mut Row<'_>, found: &mut Found) {
 
 /// `agree NAME BITS CLIENT SERVER`: the client's and the server's secret, in a group of so many bits and by values
 /// that are drawn from these bytes.
-fn agree(row: &mut Row<'_>, found: &mut Found) {
+fn agree(row: &Row<'_>, found: &Found) {
     let name = kex_of(row);
     let bits = row.number32();
     let (client, server) = (row.bytes(), row.bytes());
-    let outcome = agree_drawing(name, bits, client.as_slice(), server.as_slice(), found);
+    let outcome = agree_drawing(name, bits, client, server, found);
     found.note(outcome);
 }
 
@@ -260,7 +248,7 @@ fn agree_drawing(
     bits: u32,
     client: &[u8],
     server: &[u8],
-    found: &mut Found,
+    found: &Found,
 ) -> Result<(), Fault> {
     let client = words_of(found.alloc(), client)?;
     let server = words_of(found.alloc(), server)?;
@@ -273,7 +261,7 @@ fn say_agreed(
     bits: u32,
     client_words: &[u32],
     server_words: &[u32],
-    found: &mut Found,
+    found: &Found,
 ) -> Result<(), Fault> {
     let alloc = found.alloc();
     let blob = Blob::copy_of(alloc, b"host")?;
@@ -311,7 +299,7 @@ fn say_secrets<A: Agreement, H: HostKeys, G: GroupLookup, R: Rng>(
     host: &ServerHost,
     client: &mut Parts<A, H, G, R>,
     server: &mut Parts<A, H, G, R>,
-    found: &mut Found,
+    found: &Found,
 ) {
     let sizes = GexParams {
         min_group_size: bits,
@@ -328,7 +316,7 @@ fn say_secrets<A: Agreement, H: HostKeys, G: GroupLookup, R: Rng>(
 }
 
 /// A part that refuses the call with the next word's number.
-fn refusing<T: Drop>(row: &mut Row<'_>, inner: T) -> Refusing<T> {
+fn refusing<T: Drop>(row: &Row<'_>, inner: T) -> Refusing<T> {
     Refusing {
         inner,
         refuse_at: row.number(),
@@ -338,14 +326,14 @@ fn refusing<T: Drop>(row: &mut Row<'_>, inner: T) -> Refusing<T> {
 }
 
 /// Appends the counts of calls and of refusals.
-fn say_counts<T>(found: &mut Found, part: &Refusing<T>) {
+fn say_counts<T>(found: &Found, part: &Refusing<T>) {
     found.say_number(part.calls);
     found.say_shown(&part.refusals);
 }
 
 /// `refusing_agreement NUMBER CALL..`: what each of the calls `offers`, `start`, `server` and `client` of a test
 /// agreement answers that refuses the call with this number, and the counts.
-fn refusing_agreement(row: &mut Row<'_>, found: &mut Found) {
+fn refusing_agreement(row: &Row<'_>, found: &Found) {
     let mut part = refusing(row, TestAgreement::new());
     let mut rng = Words::of(&[]);
     for _ in 0..row.left() {
@@ -355,12 +343,7 @@ fn refusing_agreement(row: &mut Row<'_>, found: &mut Found) {
 }
 
 /// Appends what an agreement answers the next word's call.
-fn ask_agreement<A: Agreement, R: Rng>(
-    row: &mut Row<'_>,
-    found: &mut Found,
-    part: &mut A,
-    rng: &mut R,
-) {
+fn ask_agreement<A: Agreement, R: Rng>(row: &Row<'_>, found: &Found, part: &mut A, rng: &mut R) {
     let name = kex::CURVE25519;
     let value = [0; 32];
     match row.word() {
@@ -380,7 +363,7 @@ fn ask_agreement<A: Agreement, R: Rng>(
 
 /// `refusing_hosts NUMBER CALL..`: the same of `sign`, `verify` and `check` of test host keys, which trust a host of no
 /// bytes, and whose signatures are given no bytes to judge.
-fn refusing_hosts(row: &mut Row<'_>, found: &mut Found) {
+fn refusing_hosts(row: &Row<'_>, found: &Found) {
     match trusted_alone(row.alloc(), &[]) {
         Ok(trusted) => {
             let mut part = refusing(row, TestHosts::new(trusted));
@@ -394,7 +377,7 @@ fn refusing_hosts(row: &mut Row<'_>, found: &mut Found) {
 }
 
 /// Appends what host keys answer the next word's call.
-fn ask_hosts<H: HostKeys>(row: &mut Row<'_>, found: &mut Found, part: &mut H) {
+fn ask_hosts<H: HostKeys>(row: &Row<'_>, found: &Found, part: &mut H) {
     let alloc = row.alloc();
     let algorithm = Algorithm::Ed25519;
     let hash = HashValue::empty();
@@ -416,7 +399,7 @@ fn ask_hosts<H: HostKeys>(row: &mut Row<'_>, found: &mut Found, part: &mut H) {
 }
 
 /// `refusing_groups NUMBER TIMES`: the same of a lookup of 9 bits that is asked so many times.
-fn refusing_groups(row: &mut Row<'_>, found: &mut Found) {
+fn refusing_groups(row: &Row<'_>, found: &Found) {
     let mut part = refusing(row, TestGroups { bits: 9 });
     let sizes = GexParams {
         min_group_size: 0,

@@ -19,7 +19,7 @@ type With<A> = Parts<A, GivenHosts, TestGroups, Words<'static>>;
 ///
 /// Of a link of a script of `run` by its configurations and steps: the payloads that were delivered to the server, or
 /// the refusal.
-pub(crate) fn answer(kind: &str, row: &mut Row<'_>, found: &mut Found) -> bool {
+pub(crate) fn answer(kind: &str, row: &Row<'_>, found: &Found) -> bool {
     let outcome = match kind {
         "joined" => joined(row, found),
         "zeroed" => zeroed(row, found),
@@ -31,7 +31,7 @@ pub(crate) fn answer(kind: &str, row: &mut Row<'_>, found: &mut Found) -> bool {
 }
 
 /// `joined CLIENT SERVER SCRIPT`: the link where client and server each hold this secret.
-fn joined(row: &mut Row<'_>, found: &mut Found) -> Result<(), Fault> {
+fn joined(row: &Row<'_>, found: &Found) -> Result<(), Fault> {
     let client = given(row)?;
     let server = given(row)?;
     say_between(row, client, server, found);
@@ -39,7 +39,7 @@ fn joined(row: &mut Row<'_>, found: &mut Found) -> Result<(), Fault> {
 }
 
 /// `zeroed SCRIPT`: the link where both sides make the tests' values, and a client's secret is zeros.
-fn zeroed(row: &mut Row<'_>, found: &mut Found) -> Result<(), Fault> {
+fn zeroed(row: &Row<'_>, found: &Found) -> Result<(), Fault> {
     say_between(row, ZeroAgreement::new(), ZeroAgreement::new(), found);
     Ok(())
 }
@@ -47,32 +47,32 @@ fn zeroed(row: &mut Row<'_>, found: &mut Found) -> Result<(), Fault> {
 /// `granted SCRIPT NAME TOLD VALUE`: the client of the script's configurations asks for the service NAME, and the
 /// server tells the extension TOLD of this value. The message of each grant of the server, and the messages that its
 /// client reads, or the refusal.
-fn granted(row: &mut Row<'_>, found: &mut Found) -> Result<(), Fault> {
+fn granted(row: &Row<'_>, found: &Found) -> Result<(), Fault> {
     let text = row.bytes();
     let name = row.bytes();
     let extensions = told(row)?;
-    match str::from_utf8(name.as_slice()) {
-        Ok(name) => say_granted(text.as_slice(), name, extensions, found),
+    match str::from_utf8(name) {
+        Ok(name) => say_granted(text, name, extensions, found),
         Err(_) => row.reject(),
     }
     Ok(())
 }
 
 /// The row's next extension, alone.
-fn told(row: &mut Row<'_>) -> Result<ExtInfo, Fault> {
+fn told(row: &Row<'_>) -> Result<ExtInfo, Fault> {
     let name = row.bytes();
     let value = row.bytes();
-    let Ok(name) = str::from_utf8(name.as_slice()) else {
+    let Ok(name) = str::from_utf8(name) else {
         return Err(Fault::Malformed);
     };
     let name = ServiceName::new(row.alloc(), name)?;
     let mut extensions = ExtInfo::new(row.alloc());
-    extensions.push(name, value.as_slice())?;
+    extensions.push(name, value)?;
     Ok(extensions)
 }
 
 /// Appends what comes of asking for the service on a link of the script of this text.
-fn say_granted(text: &[u8], name: &str, extensions: ExtInfo, found: &mut Found) {
+fn say_granted(text: &[u8], name: &str, extensions: ExtInfo, found: &Found) {
     match parse_script(found.alloc(), false, text) {
         Ok(script) => say_asked(&script, name, extensions, found),
         Err(_) => found.fail(Fault::Malformed),
@@ -80,7 +80,7 @@ fn say_granted(text: &[u8], name: &str, extensions: ExtInfo, found: &mut Found) 
 }
 
 /// Appends what comes of asking for the service on a link of the script's configurations.
-fn say_asked(script: &Script, name: &str, extensions: ExtInfo, found: &mut Found) {
+fn say_asked(script: &Script, name: &str, extensions: ExtInfo, found: &Found) {
     let alloc = found.alloc();
     let mut parts = (
         parts_of(alloc, TestAgreement::new()),
@@ -97,7 +97,7 @@ fn say_asked_by<A: Agreement>(
     parts: &mut (With<A>, With<A>),
     name: &str,
     extensions: ExtInfo,
-    found: &mut Found,
+    found: &Found,
 ) {
     match ask_for_service(
         found.alloc(),
@@ -113,7 +113,7 @@ fn say_asked_by<A: Agreement>(
 }
 
 /// Appends the messages of the grants, and then those that were told.
-fn say_messages(granted: &Granted, found: &mut Found) {
+fn say_messages(granted: &Granted, found: &Found) {
     for answer in granted.answers.as_slice() {
         match answer {
             ServiceAnswer::Accepted(reply) => found.say_bytes(reply.as_slice()),
@@ -130,22 +130,17 @@ fn say_messages(granted: &Granted, found: &mut Found) {
 }
 
 /// Appends what comes of the row's script between sides with these agreements.
-fn say_between<A: Agreement + Drop>(row: &mut Row<'_>, client: A, server: A, found: &mut Found) {
+fn say_between<A: Agreement + Drop>(row: &Row<'_>, client: A, server: A, found: &Found) {
     let text = row.bytes();
     let mut client = parts_of(row.alloc(), client);
     let mut server = parts_of(row.alloc(), server);
     let_sign(&mut client.hosts, found);
     let_sign(&mut server.hosts, found);
-    say_link(text.as_slice(), &mut client, &mut server, found);
+    say_link(text, &mut client, &mut server, found);
 }
 
 /// Appends what comes of the script of this text with these parts.
-fn say_link<A: Agreement>(
-    text: &[u8],
-    client: &mut With<A>,
-    server: &mut With<A>,
-    found: &mut Found,
-) {
+fn say_link<A: Agreement>(text: &[u8], client: &mut With<A>, server: &mut With<A>, found: &Found) {
     match parse_script(found.alloc(), false, text) {
         Ok(script) => say_run(&script, client, server, found),
         Err(_) => found.fail(Fault::Malformed),
@@ -157,7 +152,7 @@ fn say_run<A: Agreement>(
     script: &Script,
     client: &mut With<A>,
     server: &mut With<A>,
-    found: &mut Found,
+    found: &Found,
 ) {
     match run_link(
         found.alloc(),
@@ -173,16 +168,16 @@ fn say_run<A: Agreement>(
 }
 
 /// Appends payloads.
-fn say_payloads(payloads: &PayloadList, found: &mut Found) {
+fn say_payloads(payloads: &PayloadList, found: &Found) {
     for payload in payloads.as_slice() {
         found.say_bytes(payload.as_slice());
     }
 }
 
 /// An agreement on the row's next secret.
-fn given(row: &mut Row<'_>) -> Result<GivenAgreement, Fault> {
+fn given(row: &Row<'_>) -> Result<GivenAgreement, Fault> {
     let public = Vec::from_slice(row.alloc(), &[1; 32])?;
-    Ok(GivenAgreement::of(row.alloc(), public, row.bytes())?)
+    Ok(GivenAgreement::of(row.alloc(), public, row.owned_bytes())?)
 }
 
 /// Parts of a side with this agreement, which draw zeros.
@@ -196,7 +191,7 @@ fn parts_of<A: Agreement + Drop>(alloc: Global, agreement: A) -> With<A> {
 }
 
 /// Lets host keys sign once, with no bytes.
-fn let_sign(hosts: &mut GivenHosts, found: &mut Found) {
+fn let_sign(hosts: &mut GivenHosts, found: &Found) {
     if hosts.push(Vec::new(found.alloc())).is_err() {
         found.fail(Fault::Memory);
     }

@@ -18,16 +18,11 @@ use vector_rows::{Answers, Fault, Found, Row, check};
 struct Exchanges;
 
 impl Answers for Exchanges {
-    fn passes_over(
-        &mut self,
-        _kind: &str,
-        _row: &mut Row<'_>,
-        _wanted: &str,
-    ) -> Result<bool, Fault> {
+    fn passes_over(&mut self, _kind: &str, _row: &Row<'_>, _wanted: &str) -> Result<bool, Fault> {
         Ok(false)
     }
 
-    fn answer(&mut self, kind: &str, row: &mut Row<'_>, found: &mut Found) -> Result<bool, Fault> {
+    fn answer(&mut self, kind: &str, row: &Row<'_>, found: &Found) -> Result<bool, Fault> {
         Ok(
             forms::answer(kind, row, found)
                 || handed::answer(kind, row, found)

@@ -10,7 +10,7 @@ use uses::{DrawnGroup, ListedAgreement, ListedGroups, OneKey};
 use vector_rows::{Fault, Found, Row, Words, words_of};
 
 /// Answers a row of one of these kinds. False where the kind is another.
-pub(crate) fn answer(kind: &str, row: &mut Row<'_>, found: &mut Found) -> bool {
+pub(crate) fn answer(kind: &str, row: &Row<'_>, found: &Found) -> bool {
     let outcome = match kind {
         "one_key" => {
             one_key(row, found);
@@ -26,7 +26,7 @@ pub(crate) fn answer(kind: &str, row: &mut Row<'_>, found: &mut Found) -> bool {
 }
 
 /// The next word as groups: PRIME:GENERATOR with commas between them, or `-` for none.
-fn groups_of(row: &mut Row<'_>) -> Result<Vec<DhGroup>, Fault> {
+fn groups_of(row: &Row<'_>) -> Result<Vec<DhGroup>, Fault> {
     let mut groups = Vec::new(row.alloc());
     let word = row.text();
     for pair in word.split(',').filter(|pair| !pair.is_empty()) {
@@ -41,11 +41,11 @@ fn groups_of(row: &mut Row<'_>) -> Result<Vec<DhGroup>, Fault> {
 
 /// `one_key OWN ASKED HASH`: the signature by host keys whose one key has the blob OWN, under a key of the blob ASKED;
 /// how many calls they refused, and how many the inner ones were asked.
-fn one_key(row: &mut Row<'_>, found: &mut Found) {
-    let blob = Blob::new(row.bytes());
+fn one_key(row: &Row<'_>, found: &Found) {
+    let blob = Blob::new(row.owned_bytes());
     let key = HostKey {
         algorithm: Algorithm::Ed25519,
-        blob: Blob::new(row.bytes()),
+        blob: Blob::new(row.owned_bytes()),
     };
     let hash = hash_of(row);
     let mut part = OneKey {
@@ -63,7 +63,7 @@ fn one_key(row: &mut Row<'_>, found: &mut Found) {
 
 /// `listed_groups GROUPS LEAST PREFERRED MOST`: how many bytes the prime of the group has that is found in the list,
 /// the prime, the generator; how many calls there were, and how many were refused.
-fn listed_groups(row: &mut Row<'_>, found: &mut Found) -> Result<(), Fault> {
+fn listed_groups(row: &Row<'_>, found: &Found) -> Result<(), Fault> {
     let mut part = ListedGroups {
         groups: groups_of(row)?,
         calls: 0,
@@ -78,7 +78,7 @@ fn listed_groups(row: &mut Row<'_>, found: &mut Found) -> Result<(), Fault> {
 
 /// `listed_agreement GROUPS NAME GROUP`: what an agreement of these groups answers a client's start, a server and a
 /// client in this group; how many calls it refused, and how many the inner one was asked.
-fn listed_agreement(row: &mut Row<'_>, found: &mut Found) -> Result<(), Fault> {
+fn listed_agreement(row: &Row<'_>, found: &Found) -> Result<(), Fault> {
     let mut part = ListedAgreement {
         inner: TestAgreement::new(),
         groups: groups_of(row)?,
@@ -91,7 +91,7 @@ fn listed_agreement(row: &mut Row<'_>, found: &mut Found) -> Result<(), Fault> {
 }
 
 /// Appends what an agreement answers in the group of the next words.
-fn ask_in_group<A: Agreement>(row: &mut Row<'_>, found: &mut Found, part: &mut A) {
+fn ask_in_group<A: Agreement>(row: &Row<'_>, found: &Found, part: &mut A) {
     let alloc = row.alloc();
     let name = kex_of(row);
     let group = group_of(row);
@@ -113,15 +113,15 @@ fn ask_in_group<A: Agreement>(row: &mut Row<'_>, found: &mut Found, part: &mut A
 
 /// `drawn_group GROUPS BYTES`: how many bytes the prime of the group has that is drawn of the table by these bytes, the
 /// prime, the generator, or `none`; and how many words were left undrawn.
-fn drawn_group(row: &mut Row<'_>, found: &mut Found) -> Result<(), Fault> {
+fn drawn_group(row: &Row<'_>, found: &Found) -> Result<(), Fault> {
     let groups = groups_of(row)?;
     let bytes = row.bytes();
-    let words = words_of(row.alloc(), bytes.as_slice())?;
+    let words = words_of(row.alloc(), bytes)?;
     say_drawn(groups.as_slice(), words.as_slice(), found)
 }
 
 /// Appends the group of the table that these words draw.
-fn say_drawn(groups: &[DhGroup], words: &[u32], found: &mut Found) -> Result<(), Fault> {
+fn say_drawn(groups: &[DhGroup], words: &[u32], found: &Found) -> Result<(), Fault> {
     let mut rng = Words::of(words);
     match DrawnGroup::draw(found.alloc(), &mut rng, groups)? {
         Some(mut part) => {

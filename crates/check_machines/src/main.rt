@@ -14,16 +14,11 @@ struct PlayRows;
 
 impl Answers for PlayRows {
     /// None.
-    fn passes_over(
-        &mut self,
-        _kind: &str,
-        _row: &mut Row<'_>,
-        _wanted: &str,
-    ) -> Result<bool, Fault> {
+    fn passes_over(&mut self, _kind: &str, _row: &Row<'_>, _wanted: &str) -> Result<bool, Fault> {
         Ok(false)
     }
 
-    fn answer(&mut self, kind: &str, row: &mut Row<'_>, found: &mut Found) -> Result<bool, Fault> {
+    fn answer(&mut self, kind: &str, row: &Row<'_>, found: &Found) -> Result<bool, Fault> {
         if kind != "play" {
             return Ok(false);
         }

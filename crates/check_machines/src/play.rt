@@ -32,13 +32,13 @@ type Handed = Parts<
 /// `play PREFERENCES PREFERENCES KEYS CERTIFICATES CAUSE SETTINGS MESSAGES..`: what each step of both machines writes
 /// and leads to, the client's first, where each is given the other's packets in turn. The first message goes to the
 /// client.
-pub(crate) fn answer(row: &mut Row<'_>, found: &mut Found) -> Result<(), Fault> {
+pub(crate) fn answer(row: &Row<'_>, found: &Found) -> Result<(), Fault> {
     let mut client = client_of(row)?;
     play_client_row(&mut client, row, found)
 }
 
 /// How a client is set up, by the next word.
-fn client_of(row: &mut Row<'_>) -> Result<Config, Fault> {
+fn client_of(row: &Row<'_>) -> Result<Config, Fault> {
     let none = ServerKeys {
         keys: Vec::new(row.alloc()),
         certificates: Vec::new(row.alloc()),
@@ -47,7 +47,7 @@ fn client_of(row: &mut Row<'_>) -> Result<Config, Fault> {
 }
 
 /// How a server is set up, by the next words.
-fn server_of(row: &mut Row<'_>) -> Result<Config, Fault> {
+fn server_of(row: &Row<'_>) -> Result<Config, Fault> {
     let prefers = preferred(row)?;
     match host_of(row) {
         Ok(host) => config_of(row.alloc(), SERVER_ID, prefers, sizes(), host),
@@ -56,7 +56,7 @@ fn server_of(row: &mut Row<'_>) -> Result<Config, Fault> {
 }
 
 /// The keys and certificates of the next words.
-fn host_of(row: &mut Row<'_>) -> Result<ServerKeys, Fault> {
+fn host_of(row: &Row<'_>) -> Result<ServerKeys, Fault> {
     match (keys(row)?, certificates(row)?) {
         (Some(keys), Some(certificates)) => Ok(ServerKeys { keys, certificates }),
         _ => Err(Fault::Malformed),
@@ -73,7 +73,7 @@ fn sizes() -> GexParams {
 }
 
 /// Lets a client speak with a server that the next words set up.
-fn play_client_row(client: &mut Config, row: &mut Row<'_>, found: &mut Found) -> Result<(), Fault> {
+fn play_client_row(client: &mut Config, row: &Row<'_>, found: &Found) -> Result<(), Fault> {
     let mut server = server_of(row)?;
     play_row(client, &mut server, row, found)
 }
@@ -82,8 +82,8 @@ fn play_client_row(client: &mut Config, row: &mut Row<'_>, found: &mut Found) ->
 fn play_row(
     client: &mut Config,
     server: &mut Config,
-    row: &mut Row<'_>,
-    found: &mut Found,
+    row: &Row<'_>,
+    found: &Found,
 ) -> Result<(), Fault> {
     let cause = cause_of(row);
     let settings = Settings::of(row)?;
@@ -122,7 +122,7 @@ impl Setup<'_> {
     }
 
     /// Lets both machines speak.
-    fn play(&self, given: &[Given], found: &mut Found) -> Result<(), Fault> {
+    fn play(&self, given: &[Given], found: &Found) -> Result<(), Fault> {
         let mut client = Machine::new(found.alloc());
         self.play_client(&mut client, given, found)
     }
@@ -132,7 +132,7 @@ impl Setup<'_> {
         &'c self,
         machine: &mut Machine<'c>,
         given: &[Given],
-        found: &mut Found,
+        found: &Found,
     ) -> Result<(), Fault> {
         let trusted = self.trusted(found.alloc())?;
         let mut parts = self.settings.handed(&self.settings.client, trusted);
@@ -145,7 +145,7 @@ impl Setup<'_> {
         machine: &mut Machine<'c>,
         parts: &mut Handed,
         given: &[Given],
-        found: &mut Found,
+        found: &Found,
     ) -> Result<(), Fault> {
         let mut client = Seat::new(found.alloc(), "client", machine, parts);
         client.begin(Side::Client, self.client, SERVER_ID, self.cause)?;
@@ -157,7 +157,7 @@ impl Setup<'_> {
         &self,
         client: &mut Seat<'_, '_>,
         given: &[Given],
-        found: &mut Found,
+        found: &Found,
     ) -> Result<(), Fault> {
         let mut server = Machine::new(found.alloc());
         self.play_server(client, &mut server, given, found)
@@ -169,7 +169,7 @@ impl Setup<'_> {
         client: &mut Seat<'_, '_>,
         machine: &mut Machine<'c>,
         given: &[Given],
-        found: &mut Found,
+        found: &Found,
     ) -> Result<(), Fault> {
         let none = Vec::new(found.alloc());
         let mut parts = self.settings.handed(&self.settings.server, none);
@@ -183,7 +183,7 @@ impl Setup<'_> {
         machine: &mut Machine<'c>,
         parts: &mut Handed,
         given: &[Given],
-        found: &mut Found,
+        found: &Found,
     ) -> Result<(), Fault> {
         let mut server = Seat::new(found.alloc(), "server", machine, parts);
         server.begin(Side::Server, self.server, CLIENT_ID, self.cause)?;
@@ -193,12 +193,7 @@ impl Setup<'_> {
 }
 
 /// What both say, and whether they agree where none is refused.
-fn spoken(
-    client: &mut Seat<'_, '_>,
-    server: &mut Seat<'_, '_>,
-    given: &[Given],
-    found: &mut Found,
-) {
+fn spoken(client: &mut Seat<'_, '_>, server: &mut Seat<'_, '_>, given: &[Given], found: &Found) {
     if played(client, server, given, found) {
         say_end(found, client, server);
     }
@@ -206,7 +201,7 @@ fn spoken(
 
 /// The next word as why the exchange begins: `first`, or a later one behind a first that was strict or not,
 /// `strict:HASH` or `plain:HASH`.
-fn cause_of(row: &mut Row<'_>) -> KexCause {
+fn cause_of(row: &Row<'_>) -> KexCause {
     let word = row.word();
     if word == "first" {
         return KexCause::Initial;
@@ -248,7 +243,7 @@ impl Settings {
     /// looked-up group's `bits`, of `blob`, as one host key whose blob has so many bytes, of `trust`, which is `none`
     /// where the client trusts no host, of the numbers of calls that are refused, such as `client_hosts`, and of the
     /// key exchange that a side's agreement lacks, such as `client_without`.
-    fn of(row: &mut Row<'_>) -> Result<Settings, Fault> {
+    fn of(row: &Row<'_>) -> Result<Settings, Fault> {
         let none = Refused {
             agreement: 0,
             hosts: 0,
@@ -377,7 +372,7 @@ impl How {
 
 /// The words that are left, as `AT:none`, `AT:same`, `AT:#NUMBER` or `AT:PAYLOAD`. Of several for one message each is
 /// given, in order.
-fn given_of(row: &mut Row<'_>) -> Result<Vec<Given>, Fault> {
+fn given_of(row: &Row<'_>) -> Result<Vec<Given>, Fault> {
     let mut given = Vec::new(row.alloc());
     for _ in 0..row.left() {
         given.push(next_given(row))?;
@@ -386,7 +381,7 @@ fn given_of(row: &mut Row<'_>) -> Result<Vec<Given>, Fault> {
 }
 
 /// The next word as what is given.
-fn next_given(row: &mut Row<'_>) -> Given {
+fn next_given(row: &Row<'_>) -> Given {
     let word = row.word();
     let (at, how) = row.expect(word.split_once(':'), ("", ""));
     let at = number_of(row, at);
@@ -400,11 +395,11 @@ fn next_given(row: &mut Row<'_>) -> Given {
 }
 
 /// A part of a word as a number below 2^32.
-fn number_of(row: &mut Row<'_>, digits: &str) -> u32 {
+fn number_of(row: &Row<'_>, digits: &str) -> u32 {
     row.expect(digits.parse::<u32>().ok(), 0)
 }
 
-fn how_of(row: &mut Row<'_>, how: &str) -> How {
+fn how_of(row: &Row<'_>, how: &str) -> How {
     match how {
         "none" => How::Nothing,
         "same" => How::Itself,
@@ -459,7 +454,7 @@ impl<'s, 'c> Seat<'s, 'c> {
     }
 
     /// Gives its machine a message, or none. False where it is refused.
-    fn give(&mut self, input: Option<Incoming<'_>>, found: &mut Found) -> bool {
+    fn give(&mut self, input: Option<Incoming<'_>>, found: &Found) -> bool {
         if !self.machine.runs() {
             found.fail(Fault::Malformed);
             return false;
@@ -488,7 +483,7 @@ impl<'s, 'c> Seat<'s, 'c> {
 }
 
 /// Appends what a step leads to: how many bytes it wrote, or these where the machine is done.
-fn say_progress(found: &mut Found, progress: Progress, written: &[u8]) {
+fn say_progress(found: &Found, progress: Progress, written: &[u8]) {
     if progress == Progress::Done {
         found.say("done");
         return found.say_bytes(written);
@@ -504,7 +499,7 @@ fn played(
     client: &mut Seat<'_, '_>,
     server: &mut Seat<'_, '_>,
     given: &[Given],
-    found: &mut Found,
+    found: &Found,
 ) -> bool {
     let mut to_client = PacketReader::new(found.alloc());
     let mut to_server = PacketReader::new(found.alloc());
@@ -539,7 +534,7 @@ fn turn(
     seat: &mut Seat<'_, '_>,
     taken: &mut usize,
     given: &[Given],
-    found: &mut Found,
+    found: &Found,
 ) -> bool {
     if !seat.machine.runs() {
         return true;
@@ -564,7 +559,7 @@ fn is_taken(
     incoming: Incoming<'_>,
     number: usize,
     given: &[Given],
-    found: &mut Found,
+    found: &Found,
 ) -> bool {
     let mut is_given = false;
     for one in given {
@@ -579,7 +574,7 @@ fn is_taken(
 }
 
 /// Appends whether both sides have the same, how long the hash is, and the session id, or `own` where it is the hash.
-fn say_end(found: &mut Found, client: &Seat<'_, '_>, server: &Seat<'_, '_>) {
+fn say_end(found: &Found, client: &Seat<'_, '_>, server: &Seat<'_, '_>) {
     match (client.machine.keys(), server.machine.keys()) {
         (Some(client), Some(server)) => say_same(found, client, server),
         _ => found.say("open"),
@@ -587,7 +582,7 @@ fn say_end(found: &mut Found, client: &Seat<'_, '_>, server: &Seat<'_, '_>) {
 }
 
 /// The same of the keys of both.
-fn say_same(found: &mut Found, client: &NewKeys, server: &NewKeys) {
+fn say_same(found: &Found, client: &NewKeys, server: &NewKeys) {
     found.say(if are_same(client, server) {
         "same"
     } else {

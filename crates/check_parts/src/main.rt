@@ -16,16 +16,11 @@ struct PartRows;
 
 impl Answers for PartRows {
     /// None.
-    fn passes_over(
-        &mut self,
-        _kind: &str,
-        _row: &mut Row<'_>,
-        _wanted: &str,
-    ) -> Result<bool, Fault> {
+    fn passes_over(&mut self, _kind: &str, _row: &Row<'_>, _wanted: &str) -> Result<bool, Fault> {
         Ok(false)
     }
 
-    fn answer(&mut self, kind: &str, row: &mut Row<'_>, found: &mut Found) -> Result<bool, Fault> {
+    fn answer(&mut self, kind: &str, row: &Row<'_>, found: &Found) -> Result<bool, Fault> {
         match kind {
             "offers" => offers(row, found),
             "group" => grouped(row, found),
@@ -38,7 +33,7 @@ impl Answers for PartRows {
 }
 
 /// Answers a row of one of the kinds whose words are copied first, which can fail. False where the kind is another.
-fn answer_fallible(kind: &str, row: &mut Row<'_>, found: &mut Found) -> Result<bool, Fault> {
+fn answer_fallible(kind: &str, row: &Row<'_>, found: &Found) -> Result<bool, Fault> {
     let outcome = match kind {
         "start" => started(row, found),
         "answer" => answered(row, found),
@@ -51,13 +46,13 @@ fn answer_fallible(kind: &str, row: &mut Row<'_>, found: &mut Found) -> Result<b
 }
 
 /// The name of a key exchange.
-fn kex_name(row: &mut Row<'_>) -> kex::Name {
+fn kex_name(row: &Row<'_>) -> kex::Name {
     let name = kex::Name::from_str(row.word());
     row.expect(name, kex::NONE)
 }
 
 /// `PRIME GENERATOR`, or `own own` where no group is handed over.
-fn group_in(row: &mut Row<'_>) -> Option<DhGroup> {
+fn group_in(row: &Row<'_>) -> Option<DhGroup> {
     let prime = row.word();
     let generator = row.word();
     if prime == "own" {
@@ -70,12 +65,12 @@ fn group_in(row: &mut Row<'_>) -> Option<DhGroup> {
 }
 
 /// The next word as the words of a generator that draws its bytes.
-fn drawn_in(row: &mut Row<'_>) -> Result<Vec<u32>, Fault> {
+fn drawn_in(row: &Row<'_>) -> Result<Vec<u32>, Fault> {
     let bytes = row.bytes();
-    words_of(row.alloc(), bytes.as_slice())
+    words_of(row.alloc(), bytes)
 }
 
-fn say_refusal(refusal: Refusal, found: &mut Found) {
+fn say_refusal(refusal: Refusal, found: &Found) {
     match refusal {
         Refusal::Refused => found.say("Refused"),
         Refusal::Memory => found.fail(Fault::Memory),
@@ -83,14 +78,14 @@ fn say_refusal(refusal: Refusal, found: &mut Found) {
 }
 
 /// `offers NAME`
-fn offers(row: &mut Row<'_>, found: &mut Found) {
+fn offers(row: &Row<'_>, found: &Found) {
     let name = kex_name(row);
     let offers = FieldAgreement::new().offers(name);
     found.say(if offers { "yes" } else { "no" });
 }
 
 /// `start NAME PRIME GENERATOR DRAWN`: a client's public value, and what it keeps.
-fn started(row: &mut Row<'_>, found: &mut Found) -> Result<(), Fault> {
+fn started(row: &Row<'_>, found: &Found) -> Result<(), Fault> {
     let name = kex_name(row);
     let group = group_in(row);
     say_started(name, group.as_ref(), row, found)
@@ -99,8 +94,8 @@ fn started(row: &mut Row<'_>, found: &mut Found) -> Result<(), Fault> {
 fn say_started(
     name: kex::Name,
     group: Option<&DhGroup>,
-    row: &mut Row<'_>,
-    found: &mut Found,
+    row: &Row<'_>,
+    found: &Found,
 ) -> Result<(), Fault> {
     let drawn = drawn_in(row)?;
     let mut rng = Words::of(drawn.as_slice());
@@ -115,7 +110,7 @@ fn say_started(
 }
 
 /// `answer NAME PRIME GENERATOR CLIENT DRAWN`: a server's public value, and the secret.
-fn answered(row: &mut Row<'_>, found: &mut Found) -> Result<(), Fault> {
+fn answered(row: &Row<'_>, found: &Found) -> Result<(), Fault> {
     let name = kex_name(row);
     let group = group_in(row);
     say_answered(name, group.as_ref(), row, found)
@@ -124,14 +119,14 @@ fn answered(row: &mut Row<'_>, found: &mut Found) -> Result<(), Fault> {
 fn say_answered(
     name: kex::Name,
     group: Option<&DhGroup>,
-    row: &mut Row<'_>,
-    found: &mut Found,
+    row: &Row<'_>,
+    found: &Found,
 ) -> Result<(), Fault> {
     let client = row.bytes();
     let drawn = drawn_in(row)?;
     let mut rng = Words::of(drawn.as_slice());
     let mut agreement = FieldAgreement::new();
-    match agreement.server_agree(row.alloc(), name, group, client.as_slice(), &mut rng) {
+    match agreement.server_agree(row.alloc(), name, group, client, &mut rng) {
         Ok(agreed) => {
             found.say_bytes(agreed.public.as_slice());
             found.say_bytes(agreed.secret.as_slice());
@@ -142,30 +137,24 @@ fn say_answered(
 }
 
 /// `secret NAME PRIME GENERATOR LOCAL SERVER`: the secret of a client.
-fn finished(row: &mut Row<'_>, found: &mut Found) {
+fn finished(row: &Row<'_>, found: &Found) {
     let name = kex_name(row);
     let group = group_in(row);
     say_finished(name, group.as_ref(), row, found);
 }
 
-fn say_finished(name: kex::Name, group: Option<&DhGroup>, row: &mut Row<'_>, found: &mut Found) {
+fn say_finished(name: kex::Name, group: Option<&DhGroup>, row: &Row<'_>, found: &Found) {
     let local = row.bytes();
     let server = row.bytes();
     let mut agreement = FieldAgreement::new();
-    match agreement.client_agree(
-        row.alloc(),
-        name,
-        group,
-        local.as_slice(),
-        server.as_slice(),
-    ) {
+    match agreement.client_agree(row.alloc(), name, group, local, server) {
         Ok(secret) => found.say_bytes(secret.as_slice()),
         Err(refusal) => say_refusal(refusal, found),
     }
 }
 
 /// `group LEAST PREFERRED MOST`: the prime and the generator that are found.
-fn grouped(row: &mut Row<'_>, found: &mut Found) {
+fn grouped(row: &Row<'_>, found: &Found) {
     let sizes = GexParams {
         min_group_size: row.number32(),
         preferred_group_size: row.number32(),
@@ -180,17 +169,17 @@ fn grouped(row: &mut Row<'_>, found: &mut Found) {
     }
 }
 
-fn algorithm(row: &mut Row<'_>) -> Algorithm {
+fn algorithm(row: &Row<'_>) -> Algorithm {
     let algorithm = Algorithm::from_str(row.word());
     row.expect(algorithm, Algorithm::Ed25519)
 }
 
 /// `sign ALGORITHM BLOB PRIVATE HASH`: the blob of the signature.
-fn signed(row: &mut Row<'_>, found: &mut Found) -> Result<(), Fault> {
+fn signed(row: &Row<'_>, found: &Found) -> Result<(), Fault> {
     let algorithm = algorithm(row);
     let key = HostKey {
         algorithm: Algorithm::Rsa(None),
-        blob: Blob::new(row.bytes()),
+        blob: Blob::new(row.owned_bytes()),
     };
     let private = private_in(row, key.blob.as_slice())?;
     let mut hosts = RsaHosts::new(Some(private), Vec::new(row.alloc()));
@@ -199,10 +188,10 @@ fn signed(row: &mut Row<'_>, found: &mut Found) -> Result<(), Fault> {
 }
 
 /// The next word as the private part of a key of this blob.
-fn private_in(row: &mut Row<'_>, blob: &[u8]) -> Result<RsaKey, Fault> {
+fn private_in(row: &Row<'_>, blob: &[u8]) -> Result<RsaKey, Fault> {
     Ok(RsaKey {
         blob: Blob::copy_of(row.alloc(), blob)?,
-        private: Blob::new(row.bytes()),
+        private: Blob::new(row.owned_bytes()),
     })
 }
 
@@ -210,8 +199,8 @@ fn say_signature(
     hosts: &mut RsaHosts,
     key: &HostKey,
     algorithm: Algorithm,
-    row: &mut Row<'_>,
-    found: &mut Found,
+    row: &Row<'_>,
+    found: &Found,
 ) {
     let hash = hash_in(row);
     match hosts.sign(row.alloc(), key, algorithm, &hash) {
@@ -221,45 +210,42 @@ fn say_signature(
 }
 
 /// A hash, of at most 64 bytes.
-fn hash_in(row: &mut Row<'_>) -> HashValue {
+fn hash_in(row: &Row<'_>) -> HashValue {
     let bytes = row.bytes();
-    if bytes.as_slice().len() > 64 {
+    if bytes.len() > 64 {
         row.reject();
         return HashValue::of(&[]);
     }
-    HashValue::of(bytes.as_slice())
+    HashValue::of(bytes)
 }
 
-fn host_in(row: &mut Row<'_>) -> ServerHost {
+fn host_in(row: &Row<'_>) -> ServerHost {
     ServerHost {
         algorithm: algorithm(row),
         is_certificate: false,
-        blob: Blob::new(row.bytes()),
+        blob: Blob::new(row.owned_bytes()),
     }
 }
 
 /// `verify ALGORITHM BLOB HASH SIGNATURE`
-fn verified(row: &mut Row<'_>, found: &mut Found) {
+fn verified(row: &Row<'_>, found: &Found) {
     let host = host_in(row);
     let hash = hash_in(row);
     say_verified(&host, &hash, row, found);
 }
 
-fn say_verified(host: &ServerHost, hash: &HashValue, row: &mut Row<'_>, found: &mut Found) {
+fn say_verified(host: &ServerHost, hash: &HashValue, row: &Row<'_>, found: &Found) {
     let signature = row.bytes();
     let mut hosts = RsaHosts::new(None, Vec::new(row.alloc()));
-    say_agreed(
-        hosts.verify(row.alloc(), host, hash, signature.as_slice()),
-        found,
-    );
+    say_agreed(hosts.verify(row.alloc(), host, hash, signature), found);
 }
 
 /// `trust BLOB KNOWN..`: whether a host of the first blob is trusted, where the others are known.
-fn trusted(row: &mut Row<'_>, found: &mut Found) -> Result<(), Fault> {
+fn trusted(row: &Row<'_>, found: &Found) -> Result<(), Fault> {
     let host = ServerHost {
         algorithm: Algorithm::Rsa(None),
         is_certificate: false,
-        blob: Blob::new(row.bytes()),
+        blob: Blob::new(row.owned_bytes()),
     };
     let mut hosts = RsaHosts::new(None, known_in(row)?);
     say_agreed(hosts.check(row.alloc(), &host), found);
@@ -267,16 +253,16 @@ fn trusted(row: &mut Row<'_>, found: &mut Found) -> Result<(), Fault> {
 }
 
 /// The blobs that the words left have.
-fn known_in(row: &mut Row<'_>) -> Result<Vec<Blob>, Fault> {
+fn known_in(row: &Row<'_>) -> Result<Vec<Blob>, Fault> {
     let mut known = Vec::new(row.alloc());
     for _ in 0..row.left() {
-        known.push(Blob::new(row.bytes()))?;
+        known.push(Blob::new(row.owned_bytes()))?;
     }
     Ok(known)
 }
 
 /// Appends whether a host was found good.
-fn say_agreed(answer: Result<(), Refusal>, found: &mut Found) {
+fn say_agreed(answer: Result<(), Refusal>, found: &Found) {
     match answer {
         Ok(()) => found.say("Ok"),
         Err(refusal) => say_refusal(refusal, found),

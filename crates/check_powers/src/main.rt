@@ -12,16 +12,11 @@ struct PowerRows;
 
 impl Answers for PowerRows {
     /// None.
-    fn passes_over(
-        &mut self,
-        _kind: &str,
-        _row: &mut Row<'_>,
-        _wanted: &str,
-    ) -> Result<bool, Fault> {
+    fn passes_over(&mut self, _kind: &str, _row: &Row<'_>, _wanted: &str) -> Result<bool, Fault> {
         Ok(false)
     }
 
-    fn answer(&mut self, kind: &str, row: &mut Row<'_>, found: &mut Found) -> Result<bool, Fault> {
+    fn answer(&mut self, kind: &str, row: &Row<'_>, found: &Found) -> Result<bool, Fault> {
         match kind {
             "power" => power(row, found),
             "less" => less(row, found),
@@ -33,17 +28,17 @@ impl Answers for PowerRows {
 }
 
 /// `power BASE EXPONENT MODULUS`: the bytes of the power, or why the number is no modulus.
-fn power(row: &mut Row<'_>, found: &mut Found) {
+fn power(row: &Row<'_>, found: &Found) {
     let base = row.bytes();
     let exponent = row.bytes();
     let modulus = row.bytes();
-    match Modulus::new(row.alloc(), modulus.as_slice()) {
-        Ok(modulus) => say_power(&modulus, base.as_slice(), exponent.as_slice(), found),
+    match Modulus::new(row.alloc(), modulus) {
+        Ok(modulus) => say_power(&modulus, base, exponent, found),
         Err(fault) => say_fault(fault, found),
     }
 }
 
-fn say_power(modulus: &Modulus, base: &[u8], exponent: &[u8], found: &mut Found) {
+fn say_power(modulus: &Modulus, base: &[u8], exponent: &[u8], found: &Found) {
     match modulus.power(found.alloc(), base, exponent) {
         Ok(power) => found.say_bytes(power.as_slice()),
         Err(_) => found.fail(Fault::Memory),
@@ -51,7 +46,7 @@ fn say_power(modulus: &Modulus, base: &[u8], exponent: &[u8], found: &mut Found)
 }
 
 /// Appends why a number is no modulus.
-fn say_fault(fault: ModulusError, found: &mut Found) {
+fn say_fault(fault: ModulusError, found: &Found) {
     match fault {
         ModulusError::Even => found.say("Even"),
         ModulusError::Small => found.say("Small"),
@@ -61,17 +56,17 @@ fn say_fault(fault: ModulusError, found: &mut Found) {
 }
 
 /// `less BYTES BYTES`: whether the first spell the lesser number.
-fn less(row: &mut Row<'_>, found: &mut Found) {
+fn less(row: &Row<'_>, found: &Found) {
     let first = row.bytes();
     let second = row.bytes();
-    let is_less = is_less(first.as_slice(), second.as_slice());
+    let is_less = is_less(first, second);
     found.say(if is_less { "true" } else { "false" });
 }
 
 /// `magnitude BYTES`: the bytes without zeros at the front.
-fn shortened(row: &mut Row<'_>, found: &mut Found) {
+fn shortened(row: &Row<'_>, found: &Found) {
     let bytes = row.bytes();
-    found.say_bytes(magnitude(bytes.as_slice()));
+    found.say_bytes(magnitude(bytes));
 }
 
 fn main(rt: HostRuntime) -> ExitCode {

@@ -17,21 +17,13 @@ use vector_rows::{Fault, Found, Row, words_of};
 /// hash of each exchange, how many payloads were delivered, and how many bytes were written. In their place stands a
 /// refusal, or what was otherwise than recorded: `exchanges`, `delivered` or `wrote`. The side's own DISCONNECT isn't
 /// sent; `disconnected` stands behind where the peer's came.
-pub(crate) fn answer_carried(
-    talk: &Talk,
-    row: &mut Row<'_>,
-    found: &mut Found,
-) -> Result<(), Fault> {
+pub(crate) fn answer_carried(talk: &Talk, row: &Row<'_>, found: &Found) -> Result<(), Fault> {
     say_connection(talk, side_of(row), None, found)
 }
 
 /// `polled SIDE SIZE`: the same, where the transport keeps the peer's bytes in pieces of this size, and lends each
 /// payload; `queued` stands behind the number of bytes where any is delivered too.
-pub(crate) fn answer_polled(
-    talk: &Talk,
-    row: &mut Row<'_>,
-    found: &mut Found,
-) -> Result<(), Fault> {
+pub(crate) fn answer_polled(talk: &Talk, row: &Row<'_>, found: &Found) -> Result<(), Fault> {
     let side = side_of(row);
     say_connection(talk, side, Some(row.count()), found)
 }
@@ -41,7 +33,7 @@ fn say_connection(
     talk: &Talk,
     side: Side,
     size: Option<usize>,
-    found: &mut Found,
+    found: &Found,
 ) -> Result<(), Fault> {
     let (own, _) = talk.sides(side);
     let words = drawn_by(found.alloc(), own.packets.as_slice())?;
@@ -54,7 +46,7 @@ fn say_connection_drawing(
     side: Side,
     size: Option<usize>,
     words: &[u32],
-    found: &mut Found,
+    found: &Found,
 ) -> Result<(), Fault> {
     let mut parts = parts_drawing(found.alloc(), words);
     found.note(give_all(&mut parts, side, talk.agreed.as_slice()));
@@ -67,7 +59,7 @@ fn say_connection_by(
     side: Side,
     size: Option<usize>,
     parts: &mut Given<'_>,
-    found: &mut Found,
+    found: &Found,
 ) -> Result<(), Fault> {
     let config = connection_set_up(found.alloc(), talk, side)?;
     say_connection_under(talk, side, size, &config, parts, found)
@@ -95,7 +87,7 @@ fn say_connection_under(
     size: Option<usize>,
     config: &Config,
     parts: &mut Given<'_>,
-    found: &mut Found,
+    found: &Found,
 ) -> Result<(), Fault> {
     match transport_of(found.alloc(), side, config) {
         Ok(mut transport) => {
@@ -125,23 +117,15 @@ fn say_outcome(
     size: Option<usize>,
     transport: &mut Transport<'_>,
     parts: &mut Given<'_>,
-    found: &mut Found,
+    found: &Found,
 ) {
     let mut payloads = Vec::new(found.alloc());
-    let mut refusal = Found::new(found.alloc());
-    carry(
-        talk,
-        side,
-        size,
-        transport,
-        parts,
-        &mut payloads,
-        &mut refusal,
-    );
+    let refusal = Found::new(found.alloc());
+    carry(talk, side, size, transport, parts, &mut payloads, &refusal);
     if let Some(fault) = refusal.fault() {
         found.fail(fault);
     }
-    match refusal.as_str() {
+    match refusal.into_text().as_str() {
         "" => say_carried(talk, side, transport, payloads.as_slice(), found),
         "Disconnect" => {
             say_carried(talk, side, transport, payloads.as_slice(), found);
@@ -159,7 +143,7 @@ fn carry(
     transport: &mut Transport<'_>,
     parts: &mut Given<'_>,
     payloads: &mut Vec<Vec<u8>>,
-    refusal: &mut Found,
+    refusal: &Found,
 ) {
     let (own, peer) = talk.sides(side);
     let packets = own.packets.as_slice();
@@ -249,7 +233,7 @@ fn say_carried(
     side: Side,
     transport: &mut Transport<'_>,
     payloads: &[Vec<u8>],
-    found: &mut Found,
+    found: &Found,
 ) {
     let (own, peer) = talk.sides(side);
     say_exchanges(talk, transport, found);
@@ -267,7 +251,7 @@ fn say_carried(
 }
 
 /// Appends the hash of each exchange, or what was otherwise.
-fn say_exchanges(talk: &Talk, transport: &Transport<'_>, found: &mut Found) {
+fn say_exchanges(talk: &Talk, transport: &Transport<'_>, found: &Found) {
     if transport.finished() != talk.agreed.len() {
         found.say("exchanges");
     }

@@ -67,11 +67,7 @@ impl Tally {
 /// one of its packets damaged. For each damage: how many trials there were, and in how many nobody noticed it and the
 /// payloads were delivered as they were sent. In all others exactly those were delivered that stand before the damage;
 /// where it was otherwise, `otherwise` and in how many trials stand behind.
-pub(crate) fn answer_damaged(
-    talk: &Talk,
-    row: &mut Row<'_>,
-    found: &mut Found,
-) -> Result<(), Fault> {
+pub(crate) fn answer_damaged(talk: &Talk, row: &Row<'_>, found: &Found) -> Result<(), Fault> {
     let side = side_of(row);
     let (own, _) = talk.sides(side);
     let words = drawn_by(row.alloc(), own.packets.as_slice())?;
@@ -79,14 +75,14 @@ pub(crate) fn answer_damaged(
 }
 
 /// Appends what became of the trials of each damage, where the side draws these words.
-fn say_damages(talk: &Talk, side: Side, words: &[u32], found: &mut Found) -> Result<(), Fault> {
+fn say_damages(talk: &Talk, side: Side, words: &[u32], found: &Found) -> Result<(), Fault> {
     let config = connection_set_up(found.alloc(), talk, side)?;
     say_damages_under(talk, side, &config, words, found);
     Ok(())
 }
 
 /// The same under this configuration.
-fn say_damages_under(talk: &Talk, side: Side, config: &Config, words: &[u32], found: &mut Found) {
+fn say_damages_under(talk: &Talk, side: Side, config: &Config, words: &[u32], found: &Found) {
     for (damage, name) in DAMAGES {
         let mut tally = Tally {
             trials: 0,
@@ -100,7 +96,7 @@ fn say_damages_under(talk: &Talk, side: Side, config: &Config, words: &[u32], fo
 }
 
 /// Appends what became of trials.
-fn say_tally(tally: Tally, found: &mut Found) {
+fn say_tally(tally: Tally, found: &Found) {
     found.say_number(tally.trials);
     found.say_number(tally.unnoticed);
     if tally.otherwise > 0 {

@@ -25,14 +25,14 @@ struct Connections {
 
 impl Answers for Connections {
     /// What stands on the wire is learned; what is left over is for the check of packets.
-    fn passes_over(&mut self, kind: &str, row: &mut Row<'_>, wanted: &str) -> Result<bool, Fault> {
+    fn passes_over(&mut self, kind: &str, row: &Row<'_>, wanted: &str) -> Result<bool, Fault> {
         if kind == "left" {
             return Ok(true);
         }
         self.talk.learn(kind, row, wanted)
     }
 
-    fn answer(&mut self, kind: &str, row: &mut Row<'_>, found: &mut Found) -> Result<bool, Fault> {
+    fn answer(&mut self, kind: &str, row: &Row<'_>, found: &Found) -> Result<bool, Fault> {
         let outcome = match kind {
             "agreed" => answer_agreed(&mut self.talk, row, found),
             "carried" => answer_carried(&self.talk, row, found),

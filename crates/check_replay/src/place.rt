@@ -42,7 +42,7 @@ impl Places {
     }
 
     /// Takes the cipher and the MAC of what follows. A tag of a MAC is as long as its key (RFC 4253 section 6.4).
-    pub(crate) fn set_tag(&mut self, row: &mut Row<'_>) {
+    pub(crate) fn set_tag(&mut self, row: &Row<'_>) {
         let cipher = cipher::Name::from_str(row.word());
         let mac = mac::Name::from_str(row.word());
         match (cipher, mac) {

@@ -37,7 +37,7 @@ pub(crate) fn polled<A: Agreement, H: HostKeys, G: GroupLookup, R: Rng>(
     wire: &[u8],
     size: usize,
     lent: &mut Vec<Vec<u8>>,
-    found: &mut Found,
+    found: &Found,
 ) {
     let mut pieces = Pieces { wire, size };
     for packet in packets {
@@ -71,7 +71,7 @@ fn poll_pieces<A: Agreement, H: HostKeys, G: GroupLookup, R: Rng>(
     is_last: bool,
     pieces: &mut Pieces<'_>,
     lent: &mut Vec<Vec<u8>>,
-    found: &mut Found,
+    found: &Found,
 ) {
     for _ in 0..=pieces.wire.len() {
         poll_kept(transport, parts, is_last, lent, found);
@@ -86,7 +86,7 @@ fn poll_pieces<A: Agreement, H: HostKeys, G: GroupLookup, R: Rng>(
 }
 
 /// Lets a transport keep a whole piece.
-fn keep_piece(transport: &mut Transport<'_>, piece: &[u8], found: &mut Found) {
+fn keep_piece(transport: &mut Transport<'_>, piece: &[u8], found: &Found) {
     match take_input(transport, piece) {
         Ok(count) if count == piece.len() => {}
         _ => found.fail(Fault::Refused),
@@ -99,7 +99,7 @@ fn poll_kept<A: Agreement, H: HostKeys, G: GroupLookup, R: Rng>(
     parts: &mut Parts<A, H, G, R>,
     is_last: bool,
     lent: &mut Vec<Vec<u8>>,
-    found: &mut Found,
+    found: &Found,
 ) {
     for _ in 0..=transport.unfinished() {
         if !is_last && !transport.inside() || !is_lent(transport, parts, lent, found) {
@@ -113,7 +113,7 @@ fn is_lent<A: Agreement, H: HostKeys, G: GroupLookup, R: Rng>(
     transport: &mut Transport<'_>,
     parts: &mut Parts<A, H, G, R>,
     lent: &mut Vec<Vec<u8>>,
-    found: &mut Found,
+    found: &Found,
 ) -> bool {
     match poll_payload(transport, parts, found) {
         Ok(Some(payload)) => {

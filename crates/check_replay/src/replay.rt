@@ -20,13 +20,9 @@ use vector_rows::{Fault, Found, Row, words_of};
 /// own preferences: key exchange, cipher, MACs of both directions, exchange hash, session id, and the six keys in the
 /// order of their letters. Before them stands `wrote` where it would have written other messages, and `unjudged` where
 /// a client asked nobody for the signature. A refusal stands in their place.
-pub(crate) fn answer_agreed(
-    talk: &mut Talk,
-    row: &mut Row<'_>,
-    found: &mut Found,
-) -> Result<(), Fault> {
+pub(crate) fn answer_agreed(talk: &mut Talk, row: &Row<'_>, found: &Found) -> Result<(), Fault> {
     let side = side_of(row);
-    let agreed = agreed_by(talk, row.bytes())?;
+    let agreed = agreed_by(talk, row.owned_bytes())?;
     learn_agreed(talk, side, agreed, found)
 }
 
@@ -35,7 +31,7 @@ fn learn_agreed(
     talk: &mut Talk,
     side: Side,
     mut agreed: Agreed,
-    found: &mut Found,
+    found: &Found,
 ) -> Result<(), Fault> {
     if let Some(made) = replayed(talk, side, &agreed, found)? {
         agreed.hash = made.hash;
@@ -58,7 +54,7 @@ struct Made {
 }
 
 /// Appends what an exchange leaves.
-fn say_keys(found: &mut Found, left: &NewKeys) {
+fn say_keys(found: &Found, left: &NewKeys) {
     found.say(left.names.kex.as_str());
     found.say(left.names.cipher.as_str());
     found.say(left.names.client_mac.as_str());
@@ -79,7 +75,7 @@ fn replayed(
     talk: &Talk,
     side: Side,
     agreed: &Agreed,
-    found: &mut Found,
+    found: &Found,
 ) -> Result<Option<Made>, Fault> {
     let (own, _) = talk.sides(side);
     let words = cookie_words(found.alloc(), own)?;
@@ -97,7 +93,7 @@ fn replayed_drawing(
     side: Side,
     agreed: &Agreed,
     words: &[u32],
-    found: &mut Found,
+    found: &Found,
 ) -> Result<Option<Made>, Fault> {
     let mut parts = parts_drawing(found.alloc(), words);
     found.note(give_all(&mut parts, side, std::slice::from_ref(agreed)));
@@ -110,7 +106,7 @@ fn replayed_by(
     side: Side,
     host: &[u8],
     parts: &mut Given<'_>,
-    found: &mut Found,
+    found: &Found,
 ) -> Result<Option<Made>, Fault> {
     let (own, _) = talk.sides(side);
     let config = exchange_set_up(found.alloc(), side, own, host)?;
@@ -128,7 +124,7 @@ fn replayed_under(
     side: Side,
     config: &Config,
     parts: &mut Given<'_>,
-    found: &mut Found,
+    found: &Found,
 ) -> Result<Option<Made>, Fault> {
     let mut machine = Machine::new(found.alloc());
     replayed_through(talk, side, config, &mut machine, parts, found)
@@ -141,7 +137,7 @@ fn replayed_through<'c>(
     config: &'c Config,
     machine: &mut Machine<'c>,
     parts: &mut Given<'_>,
-    found: &mut Found,
+    found: &Found,
 ) -> Result<Option<Made>, Fault> {
     let alloc = found.alloc();
     let (_, peer) = talk.sides(side);
@@ -164,7 +160,7 @@ fn made_by(
     machine: &mut Machine<'_>,
     parts: &mut Given<'_>,
     output: &mut PacketWriter,
-    found: &mut Found,
+    found: &Found,
 ) -> Result<Option<Made>, Fault> {
     let (own, peer) = talk.sides(side);
     drive(machine, peer.last_exchange()?, parts, output, found);
@@ -191,7 +187,7 @@ fn drive<A: Agreement, H: HostKeys, G: GroupLookup, R: Rng>(
     packets: &[Packet],
     parts: &mut Parts<A, H, G, R>,
     output: &mut PacketWriter,
-    found: &mut Found,
+    found: &Found,
 ) {
     for packet in packets {
         if packet.is_kex() {

@@ -71,12 +71,12 @@ impl Speaker {
     }
 
     /// Learns of a row: its bytes, its keys, a packet.
-    fn learn(&mut self, kind: &str, row: &mut Row<'_>, wanted: &str) -> Result<(), Fault> {
+    fn learn(&mut self, kind: &str, row: &Row<'_>, wanted: &str) -> Result<(), Fault> {
         if kind == "keys" {
             self.places.set_tag(row);
             return Ok(());
         }
-        let bytes = row.bytes();
+        let bytes = row.owned_bytes();
         let (number, told) = told_by(row.alloc(), wanted)?;
         if row.is_malformed() {
             return Err(Fault::Malformed);
@@ -120,8 +120,8 @@ impl Speaker {
 
 /// The number and the bytes that a row has as its answer.
 fn told_by(alloc: Global, wanted: &str) -> Result<(u32, Vec<u8>), Fault> {
-    let mut told = Row::of(alloc, wanted)?;
-    let (number, bytes) = (told.number32(), told.bytes());
+    let told = Row::of(alloc, wanted)?;
+    let (number, bytes) = (told.number32(), told.owned_bytes());
     if told.is_malformed() {
         return Err(Fault::Malformed);
     }
@@ -185,12 +185,7 @@ impl Talk {
     }
 
     /// Learns of a row of a connection: its begin, a side's bytes, its keys, a packet. False where the kind is another.
-    pub(crate) fn learn(
-        &mut self,
-        kind: &str,
-        row: &mut Row<'_>,
-        wanted: &str,
-    ) -> Result<bool, Fault> {
+    pub(crate) fn learn(&mut self, kind: &str, row: &Row<'_>, wanted: &str) -> Result<bool, Fault> {
         match kind {
             "connection" => {
                 self.forget();

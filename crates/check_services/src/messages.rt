@@ -9,7 +9,7 @@ use std::str;
 use vector_rows::{Fault, Found, Row};
 
 /// Answers a row of one of these kinds. False where the kind is another.
-pub(crate) fn answer(kind: &str, row: &mut Row<'_>, found: &mut Found) -> Result<bool, Fault> {
+pub(crate) fn answer(kind: &str, row: &Row<'_>, found: &Found) -> Result<bool, Fault> {
     match kind {
         "name" => name(row, found),
         "message" => message(row, found),
@@ -20,7 +20,7 @@ pub(crate) fn answer(kind: &str, row: &mut Row<'_>, found: &mut Found) -> Result
 
 /// Answers a row of one of the kinds whose words can be such that a call fails that is to succeed. False where the kind
 /// is another.
-fn answer_fallible(kind: &str, row: &mut Row<'_>, found: &mut Found) -> Result<bool, Fault> {
+fn answer_fallible(kind: &str, row: &Row<'_>, found: &Found) -> Result<bool, Fault> {
     let outcome = match kind {
         "info" => info(row, found),
         "algorithms" => algorithms(row, found),
@@ -32,15 +32,15 @@ fn answer_fallible(kind: &str, row: &mut Row<'_>, found: &mut Found) -> Result<b
 }
 
 /// `name BYTES`: the name of this text, or what is wrong with it.
-fn name(row: &mut Row<'_>, found: &mut Found) {
+fn name(row: &Row<'_>, found: &Found) {
     let bytes = row.bytes();
-    match str::from_utf8(bytes.as_slice()) {
+    match str::from_utf8(bytes) {
         Ok(text) => say_name(text, found),
         Err(_) => row.reject(),
     }
 }
 
-fn say_name(text: &str, found: &mut Found) {
+fn say_name(text: &str, found: &Found) {
     match ServiceName::new(found.alloc(), text) {
         Ok(name) => found.say(name.as_str()),
         Err(error) => found.say_shown(&error),
@@ -48,16 +48,16 @@ fn say_name(text: &str, found: &mut Found) {
 }
 
 /// `message PAYLOAD`: the message that is read, and `same` where it is written as the same bytes; or why none is read.
-fn message(row: &mut Row<'_>, found: &mut Found) {
+fn message(row: &Row<'_>, found: &Found) {
     let payload = row.bytes();
-    match ServiceMessage::decode(row.alloc(), payload.as_slice()) {
-        Ok(message) => say_message(&message, payload.as_slice(), found),
+    match ServiceMessage::decode(row.alloc(), payload) {
+        Ok(message) => say_message(&message, payload, found),
         Err(error) => found.say_shown(&error),
     }
 }
 
 /// Appends a message, and what it is written as, or `same` where that is this payload.
-fn say_message(message: &ServiceMessage, payload: &[u8], found: &mut Found) {
+fn say_message(message: &ServiceMessage, payload: &[u8], found: &Found) {
     say_fields(message, found);
     let out = written(message, found);
     if out.as_slice() == payload {
@@ -67,7 +67,7 @@ fn say_message(message: &ServiceMessage, payload: &[u8], found: &mut Found) {
     }
 }
 
-fn say_fields(message: &ServiceMessage, found: &mut Found) {
+fn say_fields(message: &ServiceMessage, found: &Found) {
     match message {
         ServiceMessage::Request(name) => {
             found.say("request");
@@ -84,7 +84,7 @@ fn say_fields(message: &ServiceMessage, found: &mut Found) {
     }
 }
 
-fn say_extensions(extensions: &[Extension], found: &mut Found) {
+fn say_extensions(extensions: &[Extension], found: &Found) {
     for extension in extensions {
         found.say(extension.name.as_str());
         found.say_bytes(extension.value.as_slice());
@@ -92,14 +92,14 @@ fn say_extensions(extensions: &[Extension], found: &mut Found) {
 }
 
 /// What a message is written as.
-fn written(message: &ServiceMessage, found: &mut Found) -> Vec<u8> {
+fn written(message: &ServiceMessage, found: &Found) -> Vec<u8> {
     let mut out = Vec::new(found.alloc());
     note(message.encode(&mut out), found);
     out
 }
 
 /// Keeps why a call failed that was to succeed.
-pub(crate) fn note(outcome: Result<(), Error>, found: &mut Found) {
+pub(crate) fn note(outcome: Result<(), Error>, found: &Found) {
     if let Err(error) = outcome {
         found.fail(Fault::from(error));
     }
@@ -107,7 +107,7 @@ pub(crate) fn note(outcome: Result<(), Error>, found: &mut Found) {
 
 /// `info NAME VALUE ..`: the extensions that are added one after the other, a value as bytes or as `zeros:COUNT`: each
 /// refusal, and then the message that is written.
-fn info(row: &mut Row<'_>, found: &mut Found) -> Result<(), Fault> {
+fn info(row: &Row<'_>, found: &Found) -> Result<(), Fault> {
     let mut info = ExtInfo::new(row.alloc());
     for _ in 0..row.left() / 2 {
         add_extension(&mut info, row, found)?;
@@ -118,7 +118,7 @@ fn info(row: &mut Row<'_>, found: &mut Found) -> Result<(), Fault> {
 }
 
 /// Adds the extension of the next two words, or appends the refusal.
-fn add_extension(info: &mut ExtInfo, row: &mut Row<'_>, found: &mut Found) -> Result<(), Fault> {
+fn add_extension(info: &mut ExtInfo, row: &Row<'_>, found: &Found) -> Result<(), Fault> {
     let name = ServiceName::new(row.alloc(), row.word())?;
     let value = value_of(row)?;
     if let Err(error) = info.push(name, value.as_slice()) {
@@ -128,7 +128,7 @@ fn add_extension(info: &mut ExtInfo, row: &mut Row<'_>, found: &mut Found) -> Re
 }
 
 /// The next word as a value.
-fn value_of(row: &mut Row<'_>) -> Result<Vec<u8>, Fault> {
+fn value_of(row: &Row<'_>) -> Result<Vec<u8>, Fault> {
     let word = row.word();
     match word.strip_prefix("zeros:") {
         Some(count) => zeros(row, count),
@@ -137,7 +137,7 @@ fn value_of(row: &mut Row<'_>) -> Result<Vec<u8>, Fault> {
 }
 
 /// As many zeros as a text tells.
-fn zeros(row: &mut Row<'_>, count: &str) -> Result<Vec<u8>, Fault> {
+fn zeros(row: &Row<'_>, count: &str) -> Result<Vec<u8>, Fault> {
     let count = row.expect(count.parse::<u16>().ok(), 0);
     let mut value = Vec::new(row.alloc());
     value.resize(usize::from(count), 0)?;
@@ -146,16 +146,16 @@ fn zeros(row: &mut Row<'_>, count: &str) -> Result<Vec<u8>, Fault> {
 
 /// `algorithms PAYLOAD`: the signature algorithms that extension info tells, `none` where it tells none, or why they
 /// can't be read.
-fn algorithms(row: &mut Row<'_>, found: &mut Found) -> Result<(), Fault> {
+fn algorithms(row: &Row<'_>, found: &Found) -> Result<(), Fault> {
     let payload = row.bytes();
-    match ServiceMessage::decode(row.alloc(), payload.as_slice())? {
+    match ServiceMessage::decode(row.alloc(), payload)? {
         ServiceMessage::Info(info) => say_algorithms(&info, found),
         _ => row.reject(),
     }
     Ok(())
 }
 
-fn say_algorithms(info: &ExtInfo, found: &mut Found) {
+fn say_algorithms(info: &ExtInfo, found: &Found) {
     match server_sig_algs(found.alloc(), info) {
         Ok(Some(names)) => say_names(&names, found),
         Ok(None) => found.say("none"),
@@ -163,7 +163,7 @@ fn say_algorithms(info: &ExtInfo, found: &mut Found) {
     }
 }
 
-fn say_names(names: &NameList, found: &mut Found) {
+fn say_names(names: &NameList, found: &Found) {
     found.say("names");
     for name in names.0.as_slice() {
         found.say(name.as_str());
@@ -172,17 +172,17 @@ fn say_names(names: &NameList, found: &mut Found) {
 
 /// `answers OFFERED PAYLOAD ..`: what is answered to payloads that come one after the other, where these services are
 /// offered, with commas between them.
-fn answers(row: &mut Row<'_>, found: &mut Found) -> Result<(), Fault> {
+fn answers(row: &Row<'_>, found: &Found) -> Result<(), Fault> {
     let mut services = services_in(row)?;
     for _ in 0..row.left() {
         let payload = row.bytes();
-        say_received(&mut services, payload.as_slice(), found);
+        say_received(&mut services, payload, found);
     }
     Ok(())
 }
 
 /// Appends what is answered to a payload.
-fn say_received(services: &mut Services, payload: &[u8], found: &mut Found) {
+fn say_received(services: &mut Services, payload: &[u8], found: &Found) {
     match services.receive(payload) {
         Ok(answer) => say_answer(&answer, found),
         Err(error) => found.fail(Fault::from(error)),
@@ -190,7 +190,7 @@ fn say_received(services: &mut Services, payload: &[u8], found: &mut Found) {
 }
 
 /// The next word as services that are offered.
-pub(crate) fn services_in(row: &mut Row<'_>) -> Result<Services, Fault> {
+pub(crate) fn services_in(row: &Row<'_>) -> Result<Services, Fault> {
     let names = offered(row.alloc(), row.text())?;
     Ok(Services::new(names))
 }
@@ -207,13 +207,13 @@ fn offered(alloc: Global, text: &str) -> Result<Vec<ServiceName>, Fault> {
     Ok(names)
 }
 
-pub(crate) fn say_answers(answers: &[ServiceAnswer], found: &mut Found) {
+pub(crate) fn say_answers(answers: &[ServiceAnswer], found: &Found) {
     for answer in answers {
         say_answer(answer, found);
     }
 }
 
-fn say_answer(answer: &ServiceAnswer, found: &mut Found) {
+fn say_answer(answer: &ServiceAnswer, found: &Found) {
     match answer {
         ServiceAnswer::Accepted(reply) => {
             found.say("accepted");

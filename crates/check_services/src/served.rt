@@ -1,7 +1,7 @@
 //! Rows on a server that grants services over a transport.
 
 use crate::messages::{note, say_answers, services_in};
-use machine_rows::{config_of, feed, key_of, lent, submit, trusted_by};
+use machine_rows::{config_of, feed, key_of, submit, trusted_by};
 use rand_core::Rng;
 use ssh_kex::{Agreement, Config, GexParams, GroupLookup, HostKeys, Parts};
 use ssh_negotiate::ServerKeys;
@@ -11,7 +11,7 @@ use ssh_vectors::{TestAgreement, TestGroups, TestHosts};
 use ssh_wire::Blob;
 use std::alloc::Global;
 use vector_rows::preferences::preferred;
-use vector_rows::{Fault, Found, Row, Words};
+use vector_rows::{Fault, Found, Row, Words, lent_ok};
 
 /// How many turns a first exchange takes at most.
 const TURNS: u32 = 8;
@@ -19,7 +19,7 @@ const TURNS: u32 = 8;
 /// `served PREFERENCES OFFERED PAYLOAD ..`: both sides come out of their first exchange, and the client submits the
 /// payloads. What a server answers that offers these services, with commas between them; `to` and what is delivered to
 /// the client; and what the server answers once its transport has failed.
-pub(crate) fn answer(kind: &str, row: &mut Row<'_>, found: &mut Found) -> Result<bool, Fault> {
+pub(crate) fn answer(kind: &str, row: &Row<'_>, found: &Found) -> Result<bool, Fault> {
     if kind != "served" {
         return Ok(false);
     }
@@ -32,7 +32,7 @@ pub(crate) fn answer(kind: &str, row: &mut Row<'_>, found: &mut Found) -> Result
 }
 
 /// Both sides' configuration, by the next word.
-fn config_by(row: &mut Row<'_>) -> Result<Config, Fault> {
+fn config_by(row: &Row<'_>) -> Result<Config, Fault> {
     let host = own_keys(row.alloc())?;
     let preferred = preferred(row)?;
     let gex = GexParams {
@@ -52,7 +52,7 @@ fn own_keys(alloc: Global) -> Result<ServerKeys, Fault> {
 }
 
 /// Answers by the words that are left, where both sides have this configuration.
-fn served(config: &Config, row: &mut Row<'_>, found: &mut Found) -> Result<(), Fault> {
+fn served(config: &Config, row: &Row<'_>, found: &Found) -> Result<(), Fault> {
     let mut services = services_in(row)?;
     let mut parts = parts_of(row.alloc(), config)?;
     with_client(config, &mut parts, &mut services, row, found)
@@ -76,18 +76,14 @@ fn with_client<A: Agreement, H: HostKeys, G: GroupLookup, R: Rng>(
     config: &Config,
     parts: &mut Parts<A, H, G, R>,
     services: &mut Services,
-    row: &mut Row<'_>,
-    found: &mut Found,
+    row: &Row<'_>,
+    found: &Found,
 ) -> Result<(), Fault> {
-    match Transport::client(row.alloc(), config) {
-        Ok(client) => {
-            lent(
-                client,
-                |client| with_server(config, client, parts, services, row, found),
-            )
-        }
-        Err(error) => Err(Fault::from(error)),
-    }
+    let made = Transport::client(row.alloc(), config);
+    lent_ok(
+        made,
+        |client| with_server(config, client, parts, services, row, found),
+    )?
 }
 
 /// Answers where the server is one of this configuration, too.
@@ -96,19 +92,14 @@ fn with_server<A: Agreement, H: HostKeys, G: GroupLookup, R: Rng>(
     client: &mut Transport<'_>,
     parts: &mut Parts<A, H, G, R>,
     services: &mut Services,
-    row: &mut Row<'_>,
-    found: &mut Found,
+    row: &Row<'_>,
+    found: &Found,
 ) -> Result<(), Fault> {
-    match Transport::server(row.alloc(), config) {
-        Ok(server) => {
-            lent(
-                server,
-                |server| say_talk(client, server, parts, services, row, found),
-            );
-            Ok(())
-        }
-        Err(error) => Err(Fault::from(error)),
-    }
+    let made = Transport::server(row.alloc(), config);
+    Ok(lent_ok(
+        made,
+        |server| say_talk(client, server, parts, services, row, found),
+    )?)
 }
 
 /// Appends what the server answers to the payloads that are left, and what comes of it.
@@ -117,8 +108,8 @@ fn say_talk<A: Agreement, H: HostKeys, G: GroupLookup, R: Rng>(
     server: &mut Transport<'_>,
     parts: &mut Parts<A, H, G, R>,
     services: &mut Services,
-    row: &mut Row<'_>,
-    found: &mut Found,
+    row: &Row<'_>,
+    found: &Found,
 ) {
     greet(client, server, parts, found);
     submit_all(client, parts, row, found);
@@ -134,7 +125,7 @@ fn greet<A: Agreement, H: HostKeys, G: GroupLookup, R: Rng>(
     client: &mut Transport<'_>,
     server: &mut Transport<'_>,
     parts: &mut Parts<A, H, G, R>,
-    found: &mut Found,
+    found: &Found,
 ) {
     for _ in 0..TURNS {
         carry(client, server, parts, found);
@@ -151,7 +142,7 @@ fn carry<A: Agreement, H: HostKeys, G: GroupLookup, R: Rng>(
     from: &mut Transport<'_>,
     to: &mut Transport<'_>,
     parts: &mut Parts<A, H, G, R>,
-    found: &mut Found,
+    found: &Found,
 ) {
     note(feed(to, parts, from.output()), found);
     let sent = from.output().len();
@@ -162,12 +153,12 @@ fn carry<A: Agreement, H: HostKeys, G: GroupLookup, R: Rng>(
 fn submit_all<A: Agreement, H: HostKeys, G: GroupLookup, R: Rng>(
     transport: &mut Transport<'_>,
     parts: &mut Parts<A, H, G, R>,
-    row: &mut Row<'_>,
-    found: &mut Found,
+    row: &Row<'_>,
+    found: &Found,
 ) {
     for _ in 0..row.left() {
         let payload = row.bytes();
-        note(submit(transport, parts, payload.as_slice()), found);
+        note(submit(transport, parts, payload), found);
     }
 }
 
@@ -176,7 +167,7 @@ fn say_served<A: Agreement, H: HostKeys, G: GroupLookup, R: Rng>(
     transport: &mut Transport<'_>,
     parts: &mut Parts<A, H, G, R>,
     services: &mut Services,
-    found: &mut Found,
+    found: &Found,
 ) {
     match serve(found.alloc(), transport, parts, services) {
         Ok(answers) => say_answers(answers.as_slice(), found),
@@ -185,7 +176,7 @@ fn say_served<A: Agreement, H: HostKeys, G: GroupLookup, R: Rng>(
 }
 
 /// Appends what was delivered.
-fn say_delivered(transport: &mut Transport<'_>, found: &mut Found) {
+fn say_delivered(transport: &mut Transport<'_>, found: &Found) {
     found.say("to");
     for payload in transport.take_delivered().as_slice() {
         found.say_bytes(payload.as_slice());
@@ -197,7 +188,7 @@ fn say_failed<A: Agreement, H: HostKeys, G: GroupLookup, R: Rng>(
     transport: &mut Transport<'_>,
     parts: &mut Parts<A, H, G, R>,
     services: &mut Services,
-    found: &mut Found,
+    found: &Found,
 ) {
     if feed(transport, parts, &[0; 64]).is_ok() {
         found.fail(Fault::Refused);

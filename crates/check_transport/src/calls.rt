@@ -1,8 +1,8 @@
 //! Rows of one side's transport: its configuration, and calls one after the other.
 
 use machine_rows::{
-    config_of, feed, key_of, keys_of, lent, poll_payload, rekey, side_of, submit, take_input,
-    times, trusted_by,
+    config_of, feed, key_of, keys_of, poll_payload, rekey, side_of, submit, take_input, times,
+    trusted_by,
 };
 use rand_core::Rng;
 use ssh_kex::{Agreement, Config, GexParams, GroupLookup, HostKeys, Parts};
@@ -13,14 +13,14 @@ use ssh_vectors::{TestAgreement, TestGroups, TestHosts};
 use ssh_wire::{Blob, Error, Side, SshId, Text};
 use std::alloc::Global;
 use vector_rows::preferences::{preferred, settings};
-use vector_rows::{Fault, Found, Row, Words};
+use vector_rows::{Fault, Found, Row, Words, lent_ok};
 
 /// `calls SIDE PREFERENCES SETTINGS CALL..`: what a transport of the side answers to `feed:BYTES`, `submit:BYTES`,
 /// `rekey`, `take:BYTES`, `poll` and `pieces:SIZE:BYTES`, one after the other; whether it has failed or is inside an
 /// exchange; and how many bytes of input are unfinished, how many exchanges are finished, how many payloads are
 /// delivered, and how many bytes are written. A configuration that is refused stands in their place. A client trusts
 /// the host key of its own configuration.
-pub(crate) fn answer(kind: &str, row: &mut Row<'_>, found: &mut Found) -> Result<bool, Fault> {
+pub(crate) fn answer(kind: &str, row: &Row<'_>, found: &Found) -> Result<bool, Fault> {
     if kind != "calls" {
         return Ok(false);
     }
@@ -34,7 +34,7 @@ pub(crate) fn answer(kind: &str, row: &mut Row<'_>, found: &mut Found) -> Result
 }
 
 /// The next word as PREFERENCES of a side's configuration.
-fn config_by(row: &mut Row<'_>) -> Result<Config, Fault> {
+fn config_by(row: &Row<'_>) -> Result<Config, Fault> {
     let host = own_keys(row.alloc())?;
     let preferred = preferred(row)?;
     let gex = GexParams {
@@ -54,12 +54,7 @@ fn own_keys(alloc: Global) -> Result<ServerKeys, Fault> {
 }
 
 /// Answers by the words that are left, of which the first are SETTINGS of this configuration.
-fn answer_set(
-    side: Side,
-    config: &mut Config,
-    row: &mut Row<'_>,
-    found: &mut Found,
-) -> Result<(), Fault> {
+fn answer_set(side: Side, config: &mut Config, row: &Row<'_>, found: &Found) -> Result<(), Fault> {
     set_all(config, row)?;
     say_calls(side, config, row, found)
 }
@@ -67,7 +62,7 @@ fn answer_set(
 /// Sets what the next word gives as SETTINGS: `default`, or the version line as `id` or as `rawid`, the limits `write`
 /// and `read`, the sizes `least`, `wanted` and `most`, `macs` as so many MACs `none`, and `blob` as one host key whose
 /// blob has so many bytes.
-fn set_all(config: &mut Config, row: &mut Row<'_>) -> Result<(), Fault> {
+fn set_all(config: &mut Config, row: &Row<'_>) -> Result<(), Fault> {
     for (name, value) in settings(row)? {
         match name {
             "id" => config.id = id_of(row.alloc(), value)?,
@@ -84,19 +79,14 @@ fn id_of(alloc: Global, text: &str) -> Result<SshId, Fault> {
 
 /// The version line of these bytes.
 fn raw_id_of(alloc: Global, digits: &str) -> Result<SshId, Fault> {
-    let mut words = Row::of(alloc, digits)?;
-    match String::from_utf8(words.bytes()) {
+    let words = Row::of(alloc, digits)?;
+    match String::from_utf8(words.owned_bytes()) {
         Ok(text) if !words.is_malformed() => Ok(SshId::Raw(Text::new(text))),
         _ => Err(Fault::Malformed),
     }
 }
 
-fn set_number(
-    config: &mut Config,
-    row: &mut Row<'_>,
-    name: &str,
-    value: &str,
-) -> Result<(), Fault> {
+fn set_number(config: &mut Config, row: &Row<'_>, name: &str, value: &str) -> Result<(), Fault> {
     let number = row.expect(value.parse::<u32>().ok(), 0);
     match name {
         "write" => config.limits.rekey_write_limit = number as usize,
@@ -112,14 +102,10 @@ fn set_number(
 }
 
 /// Appends what a transport of a side under a configuration answers, or why there is none.
-fn say_calls(
-    side: Side,
-    config: &Config,
-    row: &mut Row<'_>,
-    found: &mut Found,
-) -> Result<(), Fault> {
-    match transport_of(row.alloc(), side, config) {
-        Ok(transport) => lent(transport, |transport| called(transport, config, row, found)),
+fn say_calls(side: Side, config: &Config, row: &Row<'_>, found: &Found) -> Result<(), Fault> {
+    let made = transport_of(row.alloc(), side, config);
+    match lent_ok(made, |transport| called(transport, config, row, found)) {
+        Ok(outcome) => outcome,
         Err(error) => {
             found.say_shown(&error);
             Ok(())
@@ -138,8 +124,8 @@ fn transport_of(alloc: Global, side: Side, config: &Config) -> Result<Transport<
 fn called(
     transport: &mut Transport<'_>,
     config: &Config,
-    row: &mut Row<'_>,
-    found: &mut Found,
+    row: &Row<'_>,
+    found: &Found,
 ) -> Result<(), Fault> {
     let mut parts = Parts {
         agreement: TestAgreement::new(),
@@ -155,8 +141,8 @@ fn called(
 fn say_answers<A: Agreement, H: HostKeys, G: GroupLookup, R: Rng>(
     transport: &mut Transport<'_>,
     parts: &mut Parts<A, H, G, R>,
-    row: &mut Row<'_>,
-    found: &mut Found,
+    row: &Row<'_>,
+    found: &Found,
 ) {
     for _ in 0..row.left() {
         say_answer(transport, parts, row, found);
@@ -168,8 +154,8 @@ fn say_answers<A: Agreement, H: HostKeys, G: GroupLookup, R: Rng>(
 fn say_answer<A: Agreement, H: HostKeys, G: GroupLookup, R: Rng>(
     transport: &mut Transport<'_>,
     parts: &mut Parts<A, H, G, R>,
-    row: &mut Row<'_>,
-    found: &mut Found,
+    row: &Row<'_>,
+    found: &Found,
 ) {
     let call = row.word();
     match call {
@@ -179,7 +165,7 @@ fn say_answer<A: Agreement, H: HostKeys, G: GroupLookup, R: Rng>(
     }
 }
 
-fn say_done(answer: Result<(), Error>, found: &mut Found) {
+fn say_done(answer: Result<(), Error>, found: &Found) {
     match answer {
         Ok(()) => found.say("ok"),
         Err(error) => found.say_shown(&error),
@@ -187,7 +173,7 @@ fn say_done(answer: Result<(), Error>, found: &mut Found) {
 }
 
 /// Appends how a transport stands.
-fn say_state(transport: &mut Transport<'_>, found: &mut Found) {
+fn say_state(transport: &mut Transport<'_>, found: &Found) {
     if transport.failed() {
         found.say("failed");
     } else if transport.inside() {
@@ -204,8 +190,8 @@ fn say_given<A: Agreement, H: HostKeys, G: GroupLookup, R: Rng>(
     transport: &mut Transport<'_>,
     parts: &mut Parts<A, H, G, R>,
     call: &str,
-    row: &mut Row<'_>,
-    found: &mut Found,
+    row: &Row<'_>,
+    found: &Found,
 ) {
     let (name, given) = call.split_once(':').unwrap_or((call, ""));
     let (size, digits) = given.split_once(':').unwrap_or(("0", given));
@@ -220,7 +206,7 @@ fn say_given<A: Agreement, H: HostKeys, G: GroupLookup, R: Rng>(
     }
 }
 
-fn say_taken(answer: Result<usize, Error>, found: &mut Found) {
+fn say_taken(answer: Result<usize, Error>, found: &Found) {
     match answer {
         Ok(count) => found.say_number(count as u64),
         Err(error) => found.say_shown(&error),
@@ -231,7 +217,7 @@ fn say_taken(answer: Result<usize, Error>, found: &mut Found) {
 fn say_poll<A: Agreement, H: HostKeys, G: GroupLookup, R: Rng>(
     transport: &mut Transport<'_>,
     parts: &mut Parts<A, H, G, R>,
-    found: &mut Found,
+    found: &Found,
 ) {
     if !say_lent(transport, parts, found) && !transport.failed() {
         found.say("none");
@@ -242,7 +228,7 @@ fn say_poll<A: Agreement, H: HostKeys, G: GroupLookup, R: Rng>(
 fn say_lent<A: Agreement, H: HostKeys, G: GroupLookup, R: Rng>(
     transport: &mut Transport<'_>,
     parts: &mut Parts<A, H, G, R>,
-    found: &mut Found,
+    found: &Found,
 ) -> bool {
     match poll_payload(transport, parts, found) {
         Ok(Some(payload)) => {
@@ -264,7 +250,7 @@ fn say_pieces<A: Agreement, H: HostKeys, G: GroupLookup, R: Rng>(
     parts: &mut Parts<A, H, G, R>,
     size: usize,
     bytes: &[u8],
-    found: &mut Found,
+    found: &Found,
 ) {
     for piece in bytes.chunks(size.max(1)) {
         match take_input(transport, piece) {
@@ -283,7 +269,7 @@ fn say_pieces<A: Agreement, H: HostKeys, G: GroupLookup, R: Rng>(
 fn say_all_lent<A: Agreement, H: HostKeys, G: GroupLookup, R: Rng>(
     transport: &mut Transport<'_>,
     parts: &mut Parts<A, H, G, R>,
-    found: &mut Found,
+    found: &Found,
 ) {
     for _ in 0..=transport.unfinished() {
         if !say_lent(transport, parts, found) {

@@ -13,16 +13,11 @@ struct CallRows;
 
 impl Answers for CallRows {
     /// None.
-    fn passes_over(
-        &mut self,
-        _kind: &str,
-        _row: &mut Row<'_>,
-        _wanted: &str,
-    ) -> Result<bool, Fault> {
+    fn passes_over(&mut self, _kind: &str, _row: &Row<'_>, _wanted: &str) -> Result<bool, Fault> {
         Ok(false)
     }
 
-    fn answer(&mut self, kind: &str, row: &mut Row<'_>, found: &mut Found) -> Result<bool, Fault> {
+    fn answer(&mut self, kind: &str, row: &Row<'_>, found: &Found) -> Result<bool, Fault> {
         calls::answer(kind, row, found)
     }
 }

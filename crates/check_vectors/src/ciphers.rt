@@ -11,7 +11,7 @@ use ssh_mac::{DigestKind, HashValue, Hasher, hmac_of};
 use vector_rows::{Fault, Found, Row};
 
 /// Answers a row of one of these kinds. False where the kind is another.
-pub(crate) fn answer(kind: &str, row: &mut Row<'_>, found: &mut Found) -> bool {
+pub(crate) fn answer(kind: &str, row: &Row<'_>, found: &Found) -> bool {
     match kind {
         "aes" => aes(row, found),
         "digest" => digest(row, found),
@@ -25,7 +25,7 @@ pub(crate) fn answer(kind: &str, row: &mut Row<'_>, found: &mut Found) -> bool {
 }
 
 /// The same of the kinds that are of a mode.
-fn answer_in_modes(kind: &str, row: &mut Row<'_>, found: &mut Found) -> bool {
+fn answer_in_modes(kind: &str, row: &Row<'_>, found: &Found) -> bool {
     let outcome = match kind {
         "ctr" => counter_mode(row, found),
         "cbc" => chaining_mode(row, found),
@@ -49,13 +49,13 @@ fn is_gcm_key(key: &[u8]) -> bool
 }
 
 /// `aes KEY BLOCK`: the encrypted block, and `back` with what it decrypts to where that is another.
-fn aes(row: &mut Row<'_>, found: &mut Found) {
+fn aes(row: &Row<'_>, found: &Found) {
     let key = row.bytes();
     let plain = row.array::<16>();
-    if !is_key(key.as_slice()) {
+    if !is_key(key) {
         return row.reject();
     }
-    let aes = Aes::new(key.as_slice());
+    let aes = Aes::new(key);
     let mut block = plain;
     aes.encrypt_block(&mut block);
     found.say_bytes(&block);
@@ -64,26 +64,26 @@ fn aes(row: &mut Row<'_>, found: &mut Found) {
 }
 
 /// `ctr KEY COUNTER CUT TEXT`: see `run`.
-fn counter_mode(row: &mut Row<'_>, found: &mut Found) -> Result<(), Fault> {
+fn counter_mode(row: &Row<'_>, found: &Found) -> Result<(), Fault> {
     let key = row.bytes();
     let first = row.array::<16>();
-    if !is_key(key.as_slice()) {
+    if !is_key(key) {
         return Err(Fault::Malformed);
     }
-    let mut sealing = CtrWrapper::new(key.as_slice(), &first);
-    let mut opening = CtrWrapper::new(key.as_slice(), &first);
+    let mut sealing = CtrWrapper::new(key, &first);
+    let mut opening = CtrWrapper::new(key, &first);
     run(&mut sealing, &mut opening, row, found)
 }
 
 /// `cbc KEY BLOCK CUT TEXT`: see `run`.
-fn chaining_mode(row: &mut Row<'_>, found: &mut Found) -> Result<(), Fault> {
+fn chaining_mode(row: &Row<'_>, found: &Found) -> Result<(), Fault> {
     let key = row.bytes();
     let first = row.array::<16>();
-    if !is_key(key.as_slice()) {
+    if !is_key(key) {
         return Err(Fault::Malformed);
     }
-    let mut sealing = CbcWrapper::new(key.as_slice(), &first);
-    let mut opening = CbcWrapper::new(key.as_slice(), &first);
+    let mut sealing = CbcWrapper::new(key, &first);
+    let mut opening = CbcWrapper::new(key, &first);
     run(&mut sealing, &mut opening, row, found)
 }
 
@@ -92,12 +92,12 @@ fn chaining_mode(row: &mut Row<'_>, found: &mut Found) -> Result<(), Fault> {
 fn run<C: PacketLengthProbe>(
     sealing: &mut C,
     opening: &mut C,
-    row: &mut Row<'_>,
-    found: &mut Found,
+    row: &Row<'_>,
+    found: &Found,
 ) -> Result<(), Fault> {
     let cut = row.count();
     let text = row.bytes();
-    let mut bytes = Vec::from_slice(row.alloc(), text.as_slice())?;
+    let mut bytes = Vec::from_slice(row.alloc(), text)?;
     let cut = cut.min(bytes.len());
     let (front, rest) = bytes.as_mut_slice().split_at_mut(cut);
     sealing.encrypt_data(front);
@@ -110,26 +110,20 @@ fn run<C: PacketLengthProbe>(
         say_other(found, "probe", &block, plain);
     }
     opening.decrypt_data(bytes.as_mut_slice());
-    say_other(found, "back", bytes.as_slice(), text.as_slice());
+    say_other(found, "back", bytes.as_slice(), text);
     Ok(())
 }
 
 /// `gcm KEY NONCE AAD TEXT`: see `run_gcm`.
-fn galois_counter_mode(row: &mut Row<'_>, found: &mut Found) -> Result<(), Fault> {
+fn galois_counter_mode(row: &Row<'_>, found: &Found) -> Result<(), Fault> {
     let key = row.bytes();
     let nonce = row.array::<12>();
     let aad = row.bytes();
     let text = row.bytes();
-    if !is_gcm_key(key.as_slice()) {
+    if !is_gcm_key(key) {
         return Err(Fault::Malformed);
     }
-    run_gcm(
-        &Gcm::new(key.as_slice()),
-        &nonce,
-        aad.as_slice(),
-        text.as_slice(),
-        found,
-    )
+    run_gcm(&Gcm::new(key), &nonce, aad, text, found)
 }
 
 /// The encrypted text and the tag. `taken` where a changed tag is accepted, `changed` where the text isn't then as it
@@ -139,7 +133,7 @@ fn run_gcm(
     nonce: &[u8; 12],
     aad: &[u8],
     text: &[u8],
-    found: &mut Found,
+    found: &Found,
 ) -> Result<(), Fault> {
     if aad.len() >= 1 << 24 || text.len() >= 1 << 24 {
         return Err(Fault::Malformed);
@@ -163,7 +157,7 @@ fn run_gcm(
     Ok(())
 }
 
-fn digest_kind(row: &mut Row<'_>) -> DigestKind {
+fn digest_kind(row: &Row<'_>) -> DigestKind {
     let kind = match row.word() {
         "sha1" => Some(DigestKind::Sha1),
         "sha256" => Some(DigestKind::Sha256),
@@ -175,11 +169,11 @@ fn digest_kind(row: &mut Row<'_>) -> DigestKind {
 }
 
 /// `digest KIND TEXT`: the digest and its length, and `halves` with that of two pieces where it is another.
-fn digest(row: &mut Row<'_>, found: &mut Found) {
+fn digest(row: &Row<'_>, found: &Found) {
     let kind = digest_kind(row);
     let text = row.bytes();
-    let whole = digest_of_two(kind, text.as_slice(), &[]);
-    let (front, rest) = text.as_slice().split_at(text.len() / 2);
+    let whole = digest_of_two(kind, text, &[]);
+    let (front, rest) = text.split_at(text.len() / 2);
     let halves = digest_of_two(kind, front, rest);
     found.say_bytes(whole.as_bytes());
     found.say_number(kind.digest_len() as u64);
@@ -194,31 +188,31 @@ fn digest_of_two(kind: DigestKind, front: &[u8], rest: &[u8]) -> HashValue {
 }
 
 /// `digest_of_many KIND TEXT COUNT`: the digest of a text that stands there so many times.
-fn digest_of_many(row: &mut Row<'_>, found: &mut Found) {
+fn digest_of_many(row: &Row<'_>, found: &Found) {
     let kind = digest_kind(row);
     let text = row.bytes();
     let count = row.count();
     let mut hasher = Hasher::new(kind);
     for _ in 0..count {
-        hasher.update(text.as_slice());
+        hasher.update(text);
     }
     found.say_bytes(hasher.finalize().as_bytes());
 }
 
 /// `hmac KIND KEY TEXT`: the HMAC, and `halves` with that of two pieces where it is another.
-fn hmac(row: &mut Row<'_>, found: &mut Found) {
+fn hmac(row: &Row<'_>, found: &Found) {
     let kind = digest_kind(row);
     let key = row.bytes();
     let text = row.bytes();
-    let (front, rest) = text.as_slice().split_at(text.len() / 2);
-    let whole = hmac_of(kind, key.as_slice(), text.as_slice(), &[]);
-    let halves = hmac_of(kind, key.as_slice(), front, rest);
+    let (front, rest) = text.split_at(text.len() / 2);
+    let whole = hmac_of(kind, key, text, &[]);
+    let halves = hmac_of(kind, key, front, rest);
     found.say_bytes(whole.as_bytes());
     say_other(found, "halves", halves.as_bytes(), whole.as_bytes());
 }
 
 /// `tag NAME KEY NUMBER TEXT`: see `say_tag`.
-fn tag(row: &mut Row<'_>, found: &mut Found) {
+fn tag(row: &Row<'_>, found: &Found) {
     let name = row.word();
     let name = row.expect(mac::Name::from_str(name), mac::NONE);
     let key = row.bytes();
@@ -227,17 +221,12 @@ fn tag(row: &mut Row<'_>, found: &mut Found) {
     if key.len() != name.key_len() {
         return row.reject();
     }
-    say_tag(
-        &name.make_mac(key.as_slice()),
-        number,
-        text.as_slice(),
-        found,
-    );
+    say_tag(&name.make_mac(key), number, text, found);
 }
 
 /// Whether a MAC is over the encrypted packet, its tag, and whether it accepts that, that for another number, that for
 /// another text, half of it, and none.
-fn say_tag(mac: &MacKey, number: u32, text: &[u8], found: &mut Found) {
+fn say_tag(mac: &MacKey, number: u32, text: &[u8], found: &Found) {
     let mut room = [0; 64];
     let tag = &mut room[..mac.mac_len()];
     mac.compute(number, text, tag);
@@ -255,13 +244,13 @@ fn say_tag(mac: &MacKey, number: u32, text: &[u8], found: &mut Found) {
 }
 
 /// `hash_values BYTES BYTES`: the bytes of both as hash values, and whether these are equal.
-fn hash_values(row: &mut Row<'_>, found: &mut Found) {
+fn hash_values(row: &Row<'_>, found: &Found) {
     let (first, second) = (row.bytes(), row.bytes());
     if first.len() > 64 || second.len() > 64 {
         return row.reject();
     }
-    let first = HashValue::of(first.as_slice());
-    let second = HashValue::of(second.as_slice());
+    let first = HashValue::of(first);
+    let second = HashValue::of(second);
     found.say_bytes(first.as_bytes());
     found.say_bytes(second.as_bytes());
     found.say_shown(&(first == second));

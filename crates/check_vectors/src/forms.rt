@@ -8,7 +8,7 @@ use ssh_wire::{
 use vector_rows::{Fault, Found, Row};
 
 /// Answers a row of one of these kinds. False where the kind is another.
-pub(crate) fn answer(kind: &str, row: &mut Row<'_>, found: &mut Found) -> bool {
+pub(crate) fn answer(kind: &str, row: &Row<'_>, found: &Found) -> bool {
     match kind {
         "forms" => forms(row, found),
         "names" => names(row, found),
@@ -21,7 +21,7 @@ pub(crate) fn answer(kind: &str, row: &mut Row<'_>, found: &mut Found) -> bool {
 }
 
 /// The same of the kinds that write a form.
-fn answer_written(kind: &str, row: &mut Row<'_>, found: &mut Found) -> bool {
+fn answer_written(kind: &str, row: &Row<'_>, found: &Found) -> bool {
     let outcome = match kind {
         "put" => put(row, found),
         "mpint" => mpint(row, found),
@@ -34,16 +34,16 @@ fn answer_written(kind: &str, row: &mut Row<'_>, found: &mut Found) -> bool {
 }
 
 /// `forms BYTES FORM..`: what each form reads at the front of what is left, and how many bytes are left.
-fn forms(row: &mut Row<'_>, found: &mut Found) {
+fn forms(row: &Row<'_>, found: &Found) {
     let bytes = row.bytes();
-    let mut reader = Reader::new(bytes.as_slice());
+    let mut reader = Reader::new(bytes);
     for _ in 0..row.left() {
         form(row, &mut reader, found);
     }
     say_left(found, &reader);
 }
 
-fn form(row: &mut Row<'_>, reader: &mut Reader<'_>, found: &mut Found) {
+fn form(row: &Row<'_>, reader: &mut Reader<'_>, found: &Found) {
     match row.word() {
         "u8" => say_numbered(found, reader.read_u8()),
         "u32" => say_numbered(found, reader.read_u32()),
@@ -55,21 +55,21 @@ fn form(row: &mut Row<'_>, reader: &mut Reader<'_>, found: &mut Found) {
     }
 }
 
-fn say_numbered<T: Into<u64>>(found: &mut Found, answer: Result<T, Error>) {
+fn say_numbered<T: Into<u64>>(found: &Found, answer: Result<T, Error>) {
     match answer {
         Ok(number) => found.say_number(number.into()),
         Err(error) => found.say_shown(&error),
     }
 }
 
-fn say_read(found: &mut Found, answer: Result<&[u8], Error>) {
+fn say_read(found: &Found, answer: Result<&[u8], Error>) {
     match answer {
         Ok(bytes) => found.say_bytes(bytes),
         Err(error) => found.say_shown(&error),
     }
 }
 
-fn say_end(found: &mut Found, answer: Result<(), Error>) {
+fn say_end(found: &Found, answer: Result<(), Error>) {
     match answer {
         Ok(()) => found.say("end"),
         Err(error) => found.say_shown(&error),
@@ -77,13 +77,13 @@ fn say_end(found: &mut Found, answer: Result<(), Error>) {
 }
 
 /// Appends how many bytes are left.
-fn say_left(found: &mut Found, reader: &Reader<'_>) {
+fn say_left(found: &Found, reader: &Reader<'_>) {
     found.say("left");
     found.say_number(reader.remaining_len() as u64);
 }
 
 /// `put FORM VALUE ..`: the bytes of these forms, one behind the other.
-fn put(row: &mut Row<'_>, found: &mut Found) -> Result<(), Fault> {
+fn put(row: &Row<'_>, found: &Found) -> Result<(), Fault> {
     let mut out = Vec::new(row.alloc());
     for _ in 0..row.left() / 2 {
         put_form(row, &mut out)?;
@@ -92,11 +92,11 @@ fn put(row: &mut Row<'_>, found: &mut Found) -> Result<(), Fault> {
     Ok(())
 }
 
-fn put_form(row: &mut Row<'_>, out: &mut Vec<u8>) -> Result<(), Fault> {
+fn put_form(row: &Row<'_>, out: &mut Vec<u8>) -> Result<(), Fault> {
     match row.word() {
         "u8" => put_u8(out, byte(row))?,
         "u32" => put_u32(out, row.number32())?,
-        "string" => return put_short(out, row.bytes().as_slice()),
+        "string" => return put_short(out, row.bytes()),
         _ => row.reject(),
     }
     Ok(())
@@ -111,27 +111,27 @@ fn put_short(out: &mut Vec<u8>, bytes: &[u8]) -> Result<(), Fault> {
 }
 
 /// `mpint NUMBER`: the mpint of a number, high byte first.
-fn mpint(row: &mut Row<'_>, found: &mut Found) -> Result<(), Fault> {
+fn mpint(row: &Row<'_>, found: &Found) -> Result<(), Fault> {
     let number = row.bytes();
     if number.len() >= 1 << 24 {
         return Err(Fault::Malformed);
     }
     let mut out = Vec::new(row.alloc());
-    encode_mpint(number.as_slice(), &mut out)?;
+    encode_mpint(number, &mut out)?;
     found.say_bytes(out.as_slice());
     Ok(())
 }
 
 /// `names BYTES`: the names of a name-list, and how many bytes are left behind it.
-fn names(row: &mut Row<'_>, found: &mut Found) {
+fn names(row: &Row<'_>, found: &Found) {
     let bytes = row.bytes();
-    let mut reader = Reader::new(bytes.as_slice());
+    let mut reader = Reader::new(bytes);
     say_list(found, &NameList::decode(row.alloc(), &mut reader));
     say_left(found, &reader);
 }
 
 /// `joined TEXT`: how many names a text of joined names has, and the text of them.
-fn joined(row: &mut Row<'_>, found: &mut Found) {
+fn joined(row: &Row<'_>, found: &Found) {
     say_list(
         found,
         &NameList::from_encoded_string(row.alloc(), row.text()),
@@ -139,7 +139,7 @@ fn joined(row: &mut Row<'_>, found: &mut Found) {
 }
 
 /// How many names and their text, and `encoded` with what is written of them where that isn't their text.
-fn say_list(found: &mut Found, answer: &Result<NameList, Error>) {
+fn say_list(found: &Found, answer: &Result<NameList, Error>) {
     match answer {
         Ok(list) => {
             let outcome = say_names(found, list);
@@ -149,7 +149,7 @@ fn say_list(found: &mut Found, answer: &Result<NameList, Error>) {
     }
 }
 
-fn say_names(found: &mut Found, list: &NameList) -> Result<(), Fault> {
+fn say_names(found: &Found, list: &NameList) -> Result<(), Fault> {
     found.say_number(list.0.len() as u64);
     let text = list.as_encoded_string()?;
     let bytes = text.as_str().as_bytes();
@@ -167,7 +167,7 @@ fn say_names(found: &mut Found, list: &NameList) -> Result<(), Fault> {
 
 /// `letters HOW COUNT`: how many names are read of a text of so many names `a`, or of a name-list of one name
 /// of so many letters.
-fn many_letters(row: &mut Row<'_>, found: &mut Found) -> Result<(), Fault> {
+fn many_letters(row: &Row<'_>, found: &Found) -> Result<(), Fault> {
     let how = row.word();
     let count = row.count();
     match how {
@@ -177,7 +177,7 @@ fn many_letters(row: &mut Row<'_>, found: &mut Found) -> Result<(), Fault> {
     }
 }
 
-fn short_names(count: usize, found: &mut Found) -> Result<(), Fault> {
+fn short_names(count: usize, found: &Found) -> Result<(), Fault> {
     let mut text = String::new(found.alloc());
     for i in 0..count {
         text.push_str(if i == 0 { "a" } else { ",a" })?;
@@ -187,7 +187,7 @@ fn short_names(count: usize, found: &mut Found) -> Result<(), Fault> {
     Ok(())
 }
 
-fn long_name(count: usize, found: &mut Found) -> Result<(), Fault> {
+fn long_name(count: usize, found: &Found) -> Result<(), Fault> {
     let name = letters(found.alloc(), count)?;
     let mut list = Vec::new(found.alloc());
     put_short(&mut list, name.as_slice())?;
@@ -196,7 +196,7 @@ fn long_name(count: usize, found: &mut Found) -> Result<(), Fault> {
     Ok(())
 }
 
-fn say_count(found: &mut Found, answer: &Result<NameList, Error>) {
+fn say_count(found: &Found, answer: &Result<NameList, Error>) {
     match answer {
         Ok(list) => found.say_number(list.0.len() as u64),
         Err(error) => found.say_shown(error),
@@ -204,10 +204,10 @@ fn say_count(found: &mut Found, answer: &Result<NameList, Error>) {
 }
 
 /// `limited MOST BYTES`: a string of at most 2 or 3 bytes, and how many bytes are left behind it.
-fn limited(row: &mut Row<'_>, found: &mut Found) {
+fn limited(row: &Row<'_>, found: &Found) {
     let most = row.count();
     let bytes = row.bytes();
-    let mut reader = Reader::new(bytes.as_slice());
+    let mut reader = Reader::new(bytes);
     match most {
         2 => limited_to::<2>(&mut reader, found),
         3 => limited_to::<3>(&mut reader, found),
@@ -216,7 +216,7 @@ fn limited(row: &mut Row<'_>, found: &mut Found) {
     say_left(found, &reader);
 }
 
-fn limited_to<const N: usize>(reader: &mut Reader<'_>, found: &mut Found) {
+fn limited_to<const N: usize>(reader: &mut Reader<'_>, found: &Found) {
     let answer: Result<LimitedString<N>, Error> = LimitedString::decode(found.alloc(), reader);
     match answer {
         Ok(text) => found.say(text.as_str()),
@@ -225,9 +225,9 @@ fn limited_to<const N: usize>(reader: &mut Reader<'_>, found: &mut Found) {
 }
 
 /// `id KIND TEXT`: what is written of an id of this text behind `#`, and what is hashed of it.
-fn id(row: &mut Row<'_>, found: &mut Found) {
+fn id(row: &Row<'_>, found: &Found) {
     let is_standard = is_first_of(row, "standard", "raw");
-    let bytes = row.bytes();
+    let bytes = row.owned_bytes();
     let text = row.expect(String::from_utf8(bytes).ok(), String::new(found.alloc()));
     let outcome = if is_standard {
         say_id(found, &SshId::Standard(Text::new(text)))
@@ -237,7 +237,7 @@ fn id(row: &mut Row<'_>, found: &mut Found) {
     found.note(outcome);
 }
 
-fn say_id(found: &mut Found, id: &SshId) -> Result<(), Fault> {
+fn say_id(found: &Found, id: &SshId) -> Result<(), Fault> {
     let mut out = Vec::new(found.alloc());
     put_u8(&mut out, b'#')?;
     id.write(&mut out)?;
@@ -247,9 +247,9 @@ fn say_id(found: &mut Found, id: &SshId) -> Result<(), Fault> {
 }
 
 /// `channel BYTES`: a channel's number as a number and as a text, and its bytes again.
-fn channel(row: &mut Row<'_>, found: &mut Found) -> Result<(), Fault> {
+fn channel(row: &Row<'_>, found: &Found) -> Result<(), Fault> {
     let bytes = row.bytes();
-    let id = ChannelId::decode(&mut Reader::new(bytes.as_slice()))?;
+    let id = ChannelId::decode(&mut Reader::new(bytes))?;
     found.say_number(u64::from(u32::from(id)));
     say_text(found, &id);
     let mut out = Vec::new(row.alloc());

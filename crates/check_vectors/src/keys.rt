@@ -9,18 +9,18 @@ use ssh_packet::{CipherPair, OpenKey, SealKey, cipher, clear};
 use vector_rows::Row;
 
 /// Two names, and a key for each.
-#[derive(Drop)]
-pub(crate) struct Material {
+#[derive(Clone, Copy)]
+pub(crate) struct Material<'r> {
     cipher: cipher::Name,
     mac: mac::Name,
-    key: Vec<u8>,
-    nonce: Vec<u8>,
-    mac_key: Vec<u8>,
+    key: &'r [u8],
+    nonce: &'r [u8],
+    mac_key: &'r [u8],
 }
 
-impl Material {
+impl<'r> Material<'r> {
     /// The next words as CIPHER MAC KEY NONCE MACKEY.
-    pub(crate) fn of(row: &mut Row<'_>) -> Material {
+    pub(crate) fn of(row: &'r Row<'_>) -> Material<'r> {
         let (cipher, mac) = (row.word(), row.word());
         let material = Material {
             cipher: row.expect(cipher::Name::from_str(cipher), cipher::NONE),
@@ -47,12 +47,8 @@ impl Material {
     /// clear.
     pub(crate) fn sealing(&self) -> SealKey {
         if self.has_lengths() {
-            self.cipher.make_sealing_key(
-                self.key.as_slice(),
-                self.nonce.as_slice(),
-                self.mac_key.as_slice(),
-                self.mac,
-            )
+            self.cipher
+                .make_sealing_key(self.key, self.nonce, self.mac_key, self.mac)
         } else {
             SealKey::Clear(clear::Key)
         }
@@ -61,12 +57,8 @@ impl Material {
     /// A key to open with, as `sealing`.
     pub(crate) fn opening(&self) -> OpenKey {
         if self.has_lengths() {
-            self.cipher.make_opening_key(
-                self.key.as_slice(),
-                self.nonce.as_slice(),
-                self.mac_key.as_slice(),
-                self.mac,
-            )
+            self.cipher
+                .make_opening_key(self.key, self.nonce, self.mac_key, self.mac)
         } else {
             OpenKey::Clear(clear::Key)
         }
@@ -74,9 +66,9 @@ impl Material {
 
     /// Whether each key has the length of its name.
     fn has_lengths(&self) -> bool
-        ensures { IsTrue result → (length self.now.key.items ≡ cipher_key_length self.now.cipher)
-            × (length self.now.nonce.items ≡ nonce_length self.now.cipher)
-            × (length self.now.mac_key.items ≡ mac_key_length self.now.mac) }
+        ensures { IsTrue result → (length self.now.key.now ≡ cipher_key_length self.now.cipher)
+            × (length self.now.nonce.now ≡ nonce_length self.now.cipher)
+            × (length self.now.mac_key.now ≡ mac_key_length self.now.mac) }
     {
         self.key.len() == self.cipher.key_len()
             && self.nonce.len() == self.cipher.nonce_len()

@@ -35,7 +35,7 @@ impl Source for Bytes<'_> {
 }
 
 /// Answers a row of one of these kinds. False where the kind is another.
-pub(crate) fn answer(kind: &str, row: &mut Row<'_>, found: &mut Found) -> bool {
+pub(crate) fn answer(kind: &str, row: &Row<'_>, found: &Found) -> bool {
     match kind {
         "line" => line(row, found),
         "pieces" => pieces(row, found),
@@ -47,28 +47,28 @@ pub(crate) fn answer(kind: &str, row: &mut Row<'_>, found: &mut Found) -> bool {
 }
 
 /// Whether other lines may come before an id line, by a word: `others` or `alone`.
-fn allows_others(row: &mut Row<'_>) -> bool {
+fn allows_others(row: &Row<'_>) -> bool {
     is_first_of(row, "others", "alone")
 }
 
 /// `line WHETHER BYTES`: what becomes of the bytes, and the id, as `hear`.
-fn line(row: &mut Row<'_>, found: &mut Found) {
+fn line(row: &Row<'_>, found: &Found) {
     let allows = allows_others(row);
     let bytes = row.bytes();
-    hear(bytes.as_slice(), allows, found);
+    hear(bytes, allows, found);
 }
 
 /// What becomes of bytes whole and byte by byte, as `hear_cut`: `cut` with the second answer where it is another.
-pub(crate) fn hear(bytes: &[u8], allows: bool, found: &mut Found) {
-    let mut cut = Found::new(found.alloc());
+pub(crate) fn hear(bytes: &[u8], allows: bool, found: &Found) {
+    let cut = Found::new(found.alloc());
     hear_cut(bytes, bytes.len(), allows, found);
-    hear_cut(bytes, 1, allows, &mut cut);
-    say_otherwise(found, "cut", &cut);
+    hear_cut(bytes, 1, allows, &cut);
+    say_otherwise(found, "cut", cut);
 }
 
 /// What becomes of bytes in pieces of a size: how many bytes an id line takes and its text, `more`, or the
 /// refusal.
-fn hear_cut(bytes: &[u8], size: usize, allows: bool, found: &mut Found) {
+fn hear_cut(bytes: &[u8], size: usize, allows: bool, found: &Found) {
     let mut reader = ReadSshIdBuffer::new();
     let mut fed = 0usize;
     for piece in bytes.chunks(size.max(1)) {
@@ -86,7 +86,7 @@ fn hear_cut(bytes: &[u8], size: usize, allows: bool, found: &mut Found) {
 
 /// `pieces WHETHER BYTES ..`: what becomes of each piece, then the answer at the end, how many bytes wait, and
 /// the id.
-fn pieces(row: &mut Row<'_>, found: &mut Found) {
+fn pieces(row: &Row<'_>, found: &Found) {
     let mut reader = ReadSshIdBuffer::new();
     for _ in 0..row.left() / 2 {
         piece(&mut reader, row, found);
@@ -99,10 +99,10 @@ fn pieces(row: &mut Row<'_>, found: &mut Found) {
     found.say_bytes(reader.id());
 }
 
-fn piece(reader: &mut ReadSshIdBuffer, row: &mut Row<'_>, found: &mut Found) {
+fn piece(reader: &mut ReadSshIdBuffer, row: &Row<'_>, found: &Found) {
     let allows = allows_others(row);
     let bytes = row.bytes();
-    match reader.feed(bytes.as_slice(), allows) {
+    match reader.feed(bytes, allows) {
         Ok(IdProgress::NotYet) => found.say("more"),
         Ok(IdProgress::Id { used }) => found.say_number(used as u64),
         Err(error) => found.say_shown(&error),
@@ -111,23 +111,23 @@ fn piece(reader: &mut ReadSshIdBuffer, row: &mut Row<'_>, found: &mut Found) {
 
 /// `source PEER STEP BYTES`: the id of a `server` or a `client` from a source that hands out so many bytes a
 /// call, asked for twice, and what was read behind its line.
-fn source(row: &mut Row<'_>, found: &mut Found) {
+fn source(row: &Row<'_>, found: &Found) {
     let is_server = is_first_of(row, "server", "client");
     let step = row.count();
     let bytes = row.bytes();
     let mut reader = SshRead::new(Bytes {
-        bytes: bytes.as_slice(),
+        bytes: bytes,
         step,
         is_broken: false,
         faults: 0,
     });
-    let mut again = Found::new(row.alloc());
+    let again = Found::new(row.alloc());
     read_id(&mut reader, is_server, found);
-    read_id(&mut reader, is_server, &mut again);
-    say_otherwise(found, "again", &again);
+    read_id(&mut reader, is_server, &again);
+    say_otherwise(found, "again", again);
 }
 
-fn read_id(reader: &mut SshRead<Bytes<'_>>, is_server: bool, found: &mut Found) {
+fn read_id(reader: &mut SshRead<Bytes<'_>>, is_server: bool, found: &Found) {
     let answer = if is_server {
         reader.read_ssh_id()
     } else {
@@ -141,10 +141,10 @@ fn read_id(reader: &mut SshRead<Bytes<'_>>, is_server: bool, found: &mut Found) 
 
 /// `broken BYTES`: what a source answers whose first call fails, how many faults it counted, the id that comes
 /// after, and what was read behind its line.
-fn broken(row: &mut Row<'_>, found: &mut Found) {
+fn broken(row: &Row<'_>, found: &Found) {
     let bytes = row.bytes();
     let mut reader = SshRead::new(Bytes {
-        bytes: bytes.as_slice(),
+        bytes: bytes,
         step: 4096,
         is_broken: true,
         faults: 0,

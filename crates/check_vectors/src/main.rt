@@ -25,16 +25,11 @@ struct Below {
 
 impl Answers for Below {
     /// What was agreed, and what a transport carries, is for the check of the machines.
-    fn passes_over(
-        &mut self,
-        kind: &str,
-        _row: &mut Row<'_>,
-        _wanted: &str,
-    ) -> Result<bool, Fault> {
+    fn passes_over(&mut self, kind: &str, _row: &Row<'_>, _wanted: &str) -> Result<bool, Fault> {
         Ok(matches!(kind, "agreed" | "carried" | "polled" | "damaged"))
     }
 
-    fn answer(&mut self, kind: &str, row: &mut Row<'_>, found: &mut Found) -> Result<bool, Fault> {
+    fn answer(&mut self, kind: &str, row: &Row<'_>, found: &Found) -> Result<bool, Fault> {
         Ok(
             forms::answer(kind, row, found)
                 || lines::answer(kind, row, found)

@@ -19,7 +19,7 @@ use vector_rows::preferences::{
 use vector_rows::{Fault, Found, Row, Words, words_of};
 
 /// Answers a row of one of these kinds. False where the kind is another.
-pub(crate) fn answer(kind: &str, row: &mut Row<'_>, found: &mut Found) -> bool {
+pub(crate) fn answer(kind: &str, row: &Row<'_>, found: &Found) -> bool {
     match kind {
         "kex_name" => kex_name(row, found),
         "kex_extension" => kex_extension(row, found),
@@ -33,7 +33,7 @@ pub(crate) fn answer(kind: &str, row: &mut Row<'_>, found: &mut Found) -> bool {
 }
 
 /// The same of the kinds whose words give preferences, or lists of names.
-fn answer_of_lists(kind: &str, row: &mut Row<'_>, found: &mut Found) -> bool {
+fn answer_of_lists(kind: &str, row: &Row<'_>, found: &Found) -> bool {
     let outcome = match kind {
         "preferred" => preferences(row, found),
         "signing_names" => signing_names(row, found),
@@ -53,7 +53,7 @@ fn answer_of_lists(kind: &str, row: &mut Row<'_>, found: &mut Found) -> bool {
 
 /// `kex_name TEXT`: the place of the name in the table, its text, and what it says of its exchange: whether there is
 /// none, whether it is a group exchange, the digest, how the secret is hashed; or `none`.
-fn kex_name(row: &mut Row<'_>, found: &mut Found) {
+fn kex_name(row: &Row<'_>, found: &Found) {
     let Some(name) = kex::Name::from_str(row.text()) else {
         return found.say("none");
     };
@@ -65,7 +65,7 @@ fn kex_name(row: &mut Row<'_>, found: &mut Found) {
     say_kex(found, name);
 }
 
-fn say_kex(found: &mut Found, name: kex::Name) {
+fn say_kex(found: &Found, name: kex::Name) {
     let shape = name.shape();
     found.say(name.as_str());
     found.say_shown(&shape.skip);
@@ -75,7 +75,7 @@ fn say_kex(found: &mut Found, name: kex::Name) {
 }
 
 /// `kex_extension TEXT`: the text of an extension name, and what it says, as `kex_name`.
-fn kex_extension(row: &mut Row<'_>, found: &mut Found) {
+fn kex_extension(row: &Row<'_>, found: &Found) {
     match extension(row.word()) {
         Some(name) => say_kex(found, name),
         None => row.reject(),
@@ -83,7 +83,7 @@ fn kex_extension(row: &mut Row<'_>, found: &mut Found) {
 }
 
 /// Appends a list with commas between its names, or `-` for none.
-fn say_names<A: AsName>(found: &mut Found, names: &[A]) {
+fn say_names<A: AsName>(found: &Found, names: &[A]) {
     found.say(if names.is_empty() { "-" } else { "" });
     for (i, name) in names.iter().enumerate() {
         if i > 0 {
@@ -94,7 +94,7 @@ fn say_names<A: AsName>(found: &mut Found, names: &[A]) {
 }
 
 /// The next word as a side.
-fn side(row: &mut Row<'_>) -> Side {
+fn side(row: &Row<'_>) -> Side {
     if is_first_of(row, "client", "server") {
         Side::Client
     } else {
@@ -103,7 +103,7 @@ fn side(row: &mut Row<'_>) -> Side {
 }
 
 /// `is_server SIDE`: whether the side is the server.
-fn is_server(row: &mut Row<'_>, found: &mut Found) {
+fn is_server(row: &Row<'_>, found: &Found) {
     found.say_shown(&match side(row) {
         Side::Client => Client::is_server(),
         Side::Server => Server::is_server(),
@@ -111,7 +111,7 @@ fn is_server(row: &mut Row<'_>, found: &mut Found) {
 }
 
 /// The next word as why an exchange begins: `first`, or a later one behind a `strict` or a `plain` first one.
-fn cause_with(row: &mut Row<'_>, session_id: HashValue) -> KexCause {
+fn cause_with(row: &Row<'_>, session_id: HashValue) -> KexCause {
     let strict = match row.word() {
         "strict" => true,
         "plain" => false,
@@ -125,12 +125,12 @@ fn cause_with(row: &mut Row<'_>, session_id: HashValue) -> KexCause {
 }
 
 /// `cause HASH CAUSE`: whether the exchange follows a strict one, whether it is a later one, and the hash of the first.
-fn cause(row: &mut Row<'_>, found: &mut Found) {
+fn cause(row: &Row<'_>, found: &Found) {
     let hash = row.bytes();
     if hash.len() > 64 {
         return row.reject();
     }
-    let cause = cause_with(row, HashValue::of(hash.as_slice()));
+    let cause = cause_with(row, HashValue::of(hash));
     found.say_shown(&cause.is_strict_rekey());
     found.say_shown(&cause.is_rekey());
     match cause.session_id() {
@@ -141,7 +141,7 @@ fn cause(row: &mut Row<'_>, found: &mut Found) {
 
 /// `preferred HOW PREFERENCES`: key exchanges, host keys, certificates, ciphers, MACs and compressions of preferences
 /// as they are `given`, of a `copy`, or of the `compressed` defaults.
-fn preferences(row: &mut Row<'_>, found: &mut Found) -> Result<(), Fault> {
+fn preferences(row: &Row<'_>, found: &Found) -> Result<(), Fault> {
     let how = row.word();
     let given = preferred(row)?;
     match how {
@@ -153,19 +153,19 @@ fn preferences(row: &mut Row<'_>, found: &mut Found) -> Result<(), Fault> {
     Ok(())
 }
 
-fn say_copy(found: &mut Found, given: &Preferred) -> Result<(), Fault> {
+fn say_copy(found: &Found, given: &Preferred) -> Result<(), Fault> {
     let copy = given.try_clone(found.alloc())?;
     say_preferred(found, &copy);
     Ok(())
 }
 
-fn say_compressed(found: &mut Found) -> Result<(), Fault> {
+fn say_compressed(found: &Found) -> Result<(), Fault> {
     let compressed = Preferred::compressed(found.alloc())?;
     say_preferred(found, &compressed);
     Ok(())
 }
 
-fn say_preferred(found: &mut Found, preferred: &Preferred) {
+fn say_preferred(found: &Found, preferred: &Preferred) {
     say_names(found, preferred.kex.as_slice());
     say_names(found, preferred.key.as_slice());
     say_names(found, preferred.host_key_certificates.as_slice());
@@ -175,7 +175,7 @@ fn say_preferred(found: &mut Found, preferred: &Preferred) {
 }
 
 /// `signs KEY ALGORITHM`: whether a key of an algorithm signs under another.
-fn signs(row: &mut Row<'_>, found: &mut Found) {
+fn signs(row: &Row<'_>, found: &Found) {
     let (key, under) = (row.word(), row.word());
     let (Some(algorithm), Some(under)) = (Algorithm::from_str(key), Algorithm::from_str(under))
     else {
@@ -186,32 +186,32 @@ fn signs(row: &mut Row<'_>, found: &mut Found) {
 }
 
 /// `signing_names PREFERENCES KEYS`: the preferred algorithms under which some key signs.
-fn signing_names(row: &mut Row<'_>, found: &mut Found) -> Result<(), Fault> {
+fn signing_names(row: &Row<'_>, found: &Found) -> Result<(), Fault> {
     let preferred = preferred(row)?;
-    let keys = some(keys(row)?)?;
+    let keys = some(keys(row))?;
     let names = preferred.possible_host_key_algos_for_keys(row.alloc(), keys.as_slice())?;
     say_names(found, names.as_slice());
     Ok(())
 }
 
 /// What has to be given.
-fn some<T: Drop>(given: Option<T>) -> Result<T, Fault> {
+fn some<T: Drop>(given: Result<Option<T>, Fault>) -> Result<T, Fault> {
     match given {
-        Some(given) => Ok(given),
-        None => Err(Fault::Malformed),
+        Ok(Some(given)) => Ok(given),
+        Ok(None) => Err(Fault::Malformed),
+        Err(fault) => Err(fault),
     }
 }
 
 /// The next words as KEYS CERTIFICATES of a server.
-fn hosts(row: &mut Row<'_>) -> Result<ServerKeys, Fault> {
-    Ok(ServerKeys {
-        keys: some(keys(row)?)?,
-        certificates: some(certificates(row)?)?,
-    })
+fn hosts(row: &Row<'_>) -> Result<ServerKeys, Fault> {
+    let keys = some(keys(row))?;
+    let certificates = some(certificates(row))?;
+    Ok(ServerKeys { keys, certificates })
 }
 
 /// `certificate_names PREFERENCES KEYS CERTIFICATES`: the algorithms under which a server has a certificate.
-fn certificate_names(row: &mut Row<'_>, found: &mut Found) -> Result<(), Fault> {
+fn certificate_names(row: &Row<'_>, found: &Found) -> Result<(), Fault> {
     let preferred = preferred(row)?;
     say_certificate_names(&preferred, &hosts(row)?, found)
 }
@@ -219,7 +219,7 @@ fn certificate_names(row: &mut Row<'_>, found: &mut Found) -> Result<(), Fault> 
 fn say_certificate_names(
     preferred: &Preferred,
     hosts: &ServerKeys,
-    found: &mut Found,
+    found: &Found,
 ) -> Result<(), Fault> {
     let names = server_certificate_names(
         found.alloc(),
@@ -248,7 +248,7 @@ fn write_from(
 }
 
 /// The same by the next words, as `client PREFERENCES` or `server PREFERENCES KEYS CERTIFICATES`.
-fn write_by(row: &mut Row<'_>, writer: &mut PacketWriter, cookie: &[u8]) -> Result<Bytes, Fault> {
+fn write_by(row: &Row<'_>, writer: &mut PacketWriter, cookie: &[u8]) -> Result<Bytes, Fault> {
     let alloc = row.alloc();
     let side = side(row);
     let preferred = preferred(row)?;
@@ -260,7 +260,7 @@ fn write_by(row: &mut Row<'_>, writer: &mut PacketWriter, cookie: &[u8]) -> Resu
 
 /// `kexinit COOKIE SIDE..`, the side as in `write_by`: the KEXINIT's length and payload as they are answered, and
 /// the length and the bytes of the packet that is sent in clear.
-fn kexinit_written(row: &mut Row<'_>, found: &mut Found) -> Result<(), Fault> {
+fn kexinit_written(row: &Row<'_>, found: &Found) -> Result<(), Fault> {
     let cookie = row.array::<16>();
     let mut writer = PacketWriter::clear(row.alloc());
     let payload = write_by(row, &mut writer, &cookie)?;
@@ -270,21 +270,21 @@ fn kexinit_written(row: &mut Row<'_>, found: &mut Found) -> Result<(), Fault> {
 }
 
 /// Appends how many bytes, and these.
-fn say_sized(found: &mut Found, bytes: &[u8]) {
+fn say_sized(found: &Found, bytes: &[u8]) {
     found.say_number(bytes.len() as u64);
     found.say_bytes(bytes);
 }
 
 /// `offered SIDE..`, the side as in `write_by`: the length of the KEXINIT, its lists of names, and what stands
 /// behind them.
-fn offered(row: &mut Row<'_>, found: &mut Found) -> Result<(), Fault> {
+fn offered(row: &Row<'_>, found: &Found) -> Result<(), Fault> {
     let alloc = row.alloc();
     let payload = write_by(row, &mut PacketWriter::clear(alloc), &[0; 16])?;
     found.say_number(payload.as_slice().len() as u64);
     say_lists(payload.as_slice().get(17..).unwrap_or(b""), found)
 }
 
-fn say_lists(lists: &[u8], found: &mut Found) -> Result<(), Fault> {
+fn say_lists(lists: &[u8], found: &Found) -> Result<(), Fault> {
     let mut reader = Reader::new(lists);
     for _ in 0..10 {
         let list = NameList::decode(found.alloc(), &mut reader)?;
@@ -297,7 +297,7 @@ fn say_lists(lists: &[u8], found: &mut Found) -> Result<(), Fault> {
 }
 
 /// Appends a refusal: its name, and of one for want of a common name the kind and both lists.
-fn say_refusal(found: &mut Found, error: &Error) {
+fn say_refusal(found: &Found, error: &Error) {
     let Error::NoCommonAlgo { kind, ours, theirs } = error else {
         return found.say_shown(error);
     };
@@ -307,7 +307,7 @@ fn say_refusal(found: &mut Found, error: &Error) {
     say_names(found, theirs.0.as_slice());
 }
 
-fn say_chosen<A: AsName>(found: &mut Found, answer: &Result<(bool, A), Error>) {
+fn say_chosen<A: AsName>(found: &Found, answer: &Result<(bool, A), Error>) {
     match answer {
         Ok((is_first, name)) => {
             found.say(name.as_name());
@@ -319,7 +319,7 @@ fn say_chosen<A: AsName>(found: &mut Found, answer: &Result<(bool, A), Error>) {
 
 /// `select SIDE KIND OWN PEER`: the name that a side selects from its own list and the peer's, and whether both name it
 /// first; or `NoCommonAlgo KIND OWN PEER`.
-fn select(row: &mut Row<'_>, found: &mut Found) -> Result<(), Fault> {
+fn select(row: &Row<'_>, found: &Found) -> Result<(), Fault> {
     let side = side(row);
     match row.word() {
         "kex" => select_of::<kex::Name>(side, AlgorithmKind::Kex, row, found),
@@ -336,8 +336,8 @@ fn select(row: &mut Row<'_>, found: &mut Found) -> Result<(), Fault> {
 fn select_of<N: Named>(
     side: Side,
     kind: AlgorithmKind,
-    row: &mut Row<'_>,
-    found: &mut Found,
+    row: &Row<'_>,
+    found: &Found,
 ) -> Result<(), Fault> {
     let own = names::<N>(row.alloc(), row.word())?;
     let peer = texts(row.alloc(), row.word())?;
@@ -361,7 +361,7 @@ fn selected<A: AsName + Copy, B: AsName>(
 
 /// `choice KIND CLIENT SERVER`: what the client selects, as `select`, and `server` with what the server selects where
 /// that is another, its lists aside.
-fn choice(row: &mut Row<'_>, found: &mut Found) -> Result<(), Fault> {
+fn choice(row: &Row<'_>, found: &Found) -> Result<(), Fault> {
     match row.word() {
         "kex" => choice_of::<kex::Name>(AlgorithmKind::Kex, row, found),
         "key" => choice_of::<HostName>(AlgorithmKind::Key, row, found),
@@ -373,25 +373,21 @@ fn choice(row: &mut Row<'_>, found: &mut Found) -> Result<(), Fault> {
     }
 }
 
-fn choice_of<N: Named>(
-    kind: AlgorithmKind,
-    row: &mut Row<'_>,
-    found: &mut Found,
-) -> Result<(), Fault> {
+fn choice_of<N: Named>(kind: AlgorithmKind, row: &Row<'_>, found: &Found) -> Result<(), Fault> {
     let client = names::<N>(row.alloc(), row.word())?;
     let server = names::<N>(row.alloc(), row.word())?;
     say_choice(kind, client.as_slice(), server.as_slice(), found);
     Ok(())
 }
 
-fn say_choice<N: Named>(kind: AlgorithmKind, client: &[N], server: &[N], found: &mut Found) {
+fn say_choice<N: Named>(kind: AlgorithmKind, client: &[N], server: &[N], found: &Found) {
     let alloc = found.alloc();
     say_chosen(found, &Client::select(alloc, client, server, kind));
-    let mut other = Found::new(alloc);
+    let other = Found::new(alloc);
     let mut answer = Server::select(alloc, server, client, kind);
     exchange(&mut answer);
-    say_chosen(&mut other, &answer);
-    say_otherwise(found, "server", &other);
+    say_chosen(&other, &answer);
+    say_otherwise(found, "server", other);
 }
 
 /// Lets the lists of a refusal change places.
@@ -405,7 +401,7 @@ fn exchange<A: Drop>(answer: &mut Result<A, Error>) {
 }
 
 /// Appends what was chosen, or the refusal.
-fn say_read(found: &mut Found, answer: &Result<Names, Error>) {
+fn say_read(found: &Found, answer: &Result<Names, Error>) {
     match answer {
         Ok(names) => say_all(found, names),
         Err(error) => say_refusal(found, error),
@@ -415,7 +411,7 @@ fn say_read(found: &mut Found, answer: &Result<Names, Error>) {
 /// Appends what was chosen: key exchange, host key, whether that is a `certificate` or a `key`, cipher, MACs and
 /// compressions to the server and to the client, whether a guess is `ignored` or `kept`, and whether the exchange is
 /// `strict` or `plain`. `dropped` where a guess is dropped already.
-fn say_all(found: &mut Found, names: &Names) {
+fn say_all(found: &Found, names: &Names) {
     found.say(names.kex.as_str());
     found.say(names.key.as_str());
     say_either(found, names.host_key_is_certificate, "certificate", "key");
@@ -432,13 +428,13 @@ fn say_all(found: &mut Found, names: &Names) {
 }
 
 /// Appends the first word where something is so, and else the second.
-fn say_either(found: &mut Found, is_so: bool, first: &str, second: &str) {
+fn say_either(found: &Found, is_so: bool, first: &str, second: &str) {
     found.say(if is_so { first } else { second });
 }
 
 /// `read_kex SIDE CAUSE PREFERENCES KEYS CERTIFICATES PAYLOAD`: what a side reads in the other's KEXINIT, as
 /// `say_read`. `read_lists SIDE CAUSE PREFERENCES KEYS CERTIFICATES FIELDS`: the same of a KEXINIT with these fields.
-fn read_kex(are_fields: bool, row: &mut Row<'_>, found: &mut Found) -> Result<(), Fault> {
+fn read_kex(are_fields: bool, row: &Row<'_>, found: &Found) -> Result<(), Fault> {
     let side = side(row);
     let cause = cause_with(row, HashValue::empty());
     let preferred = preferred(row)?;
@@ -450,15 +446,15 @@ fn read_with(
     side: Side,
     cause: &KexCause,
     preferred: &Preferred,
-    row: &mut Row<'_>,
-    found: &mut Found,
+    row: &Row<'_>,
+    found: &Found,
 ) -> Result<(), Fault> {
     let keys = keys(row)?;
     let certificates = certificates(row)?;
     let payload = if are_fields {
         kexinit(row)?
     } else {
-        row.bytes()
+        row.owned_bytes()
     };
     let keys = keys.as_ref().map(|keys| keys.as_slice());
     let certificates = certificates.as_ref().map(|list| list.as_slice());
@@ -473,12 +469,12 @@ fn read_with(
 
 /// `negotiated CLIENT_PREFERENCES SERVER_PREFERENCES KEYS CERTIFICATES`: both sides write their KEXINITs and read the
 /// other's. What the client reads, and `server` with what the server reads where that is another, its lists aside.
-fn negotiated(row: &mut Row<'_>, found: &mut Found) -> Result<(), Fault> {
+fn negotiated(row: &Row<'_>, found: &Found) -> Result<(), Fault> {
     let client = preferred(row)?;
     negotiated_by(&client, row, found)
 }
 
-fn negotiated_by(client: &Preferred, row: &mut Row<'_>, found: &mut Found) -> Result<(), Fault> {
+fn negotiated_by(client: &Preferred, row: &Row<'_>, found: &Found) -> Result<(), Fault> {
     let server = preferred(row)?;
     say_negotiated(client, &server, &hosts(row)?, found)
 }
@@ -487,7 +483,7 @@ fn say_negotiated(
     client: &Preferred,
     server: &Preferred,
     hosts: &ServerKeys,
-    found: &mut Found,
+    found: &Found,
 ) -> Result<(), Fault> {
     let alloc = found.alloc();
     let mut writer = PacketWriter::clear(alloc);
@@ -511,7 +507,7 @@ fn say_both(
     hosts: &ServerKeys,
     heard: &[u8],
     sent: &[u8],
-    found: &mut Found,
+    found: &Found,
 ) {
     let (alloc, cause) = (found.alloc(), KexCause::Initial);
     let answer = Client::read_kex(alloc, heard, client, None, None, &cause);
@@ -520,7 +516,7 @@ fn say_both(
     let (keys, certificates) = (Some(keys), Some(certificates));
     let mut answer = Server::read_kex(alloc, sent, server, keys, certificates, &cause);
     exchange(&mut answer);
-    let mut other = Found::new(alloc);
-    say_read(&mut other, &answer);
-    say_otherwise(found, "server", &other);
+    let other = Found::new(alloc);
+    say_read(&other, &answer);
+    say_otherwise(found, "server", other);
 }

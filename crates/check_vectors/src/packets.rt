@@ -16,7 +16,7 @@ use vector_rows::{Fault, Found, Row, Words, words_of};
 const OTHER_PACKET: &[u8] = b"\0\0\0\x0c\x0a\x02\0\0\0\0\0\0\0\0\0\0";
 
 /// Answers a row of one of these kinds. False where the kind is another.
-pub(crate) fn answer(kind: &str, row: &mut Row<'_>, found: &mut Found) -> bool {
+pub(crate) fn answer(kind: &str, row: &Row<'_>, found: &Found) -> bool {
     match kind {
         "cipher_name" => cipher_name(row, found),
         "mac_name" => mac_name(row, found),
@@ -30,7 +30,7 @@ pub(crate) fn answer(kind: &str, row: &mut Row<'_>, found: &mut Found) -> bool {
 }
 
 /// The same of the kinds that write or seal.
-fn answer_written(kind: &str, row: &mut Row<'_>, found: &mut Found) -> bool {
+fn answer_written(kind: &str, row: &Row<'_>, found: &Found) -> bool {
     let outcome = match kind {
         "seal" => seal(row, found),
         "shows_length" => shows_length(row, found),
@@ -47,7 +47,7 @@ fn answer_written(kind: &str, row: &mut Row<'_>, found: &mut Found) -> bool {
 
 /// `cipher_name TEXT`: the place of the name in the table, its text, whether it wants a MAC, and the lengths of key
 /// and nonce; or `none`.
-fn cipher_name(row: &mut Row<'_>, found: &mut Found) {
+fn cipher_name(row: &Row<'_>, found: &Found) {
     let Some(name) = cipher::Name::from_str(row.text()) else {
         return found.say("none");
     };
@@ -59,7 +59,7 @@ fn cipher_name(row: &mut Row<'_>, found: &mut Found) {
 }
 
 /// `mac_name TEXT`: the place of the name in the table, its text, and the length of its key; or `none`.
-fn mac_name(row: &mut Row<'_>, found: &mut Found) {
+fn mac_name(row: &Row<'_>, found: &Found) {
     let Some(name) = mac::Name::from_str(row.text()) else {
         return found.say("none");
     };
@@ -73,7 +73,7 @@ fn mac_name(row: &mut Row<'_>, found: &mut Found) {
 }
 
 /// `compression_name TEXT`: its text, or `none at all`.
-fn compression_name(row: &mut Row<'_>, found: &mut Found) {
+fn compression_name(row: &Row<'_>, found: &Found) {
     match compression::Name::from_str(row.text()) {
         Some(name) => found.say(name.as_str()),
         None => found.say("none at all"),
@@ -82,11 +82,11 @@ fn compression_name(row: &mut Row<'_>, found: &mut Found) {
 
 /// `keys_like CIPHER MAC KEY NONCE MACKEY PAYLOAD`: the tag's length of both keys, the padding's behind the payload,
 /// how many bytes show a packet length, how many a packet has at least, and what `Debug` shows.
-fn keys_like(row: &mut Row<'_>, found: &mut Found) {
+fn keys_like(row: &Row<'_>, found: &Found) {
     say_keys(&Material::of(row).pair(), row, found);
 }
 
-fn say_keys(keys: &CipherPair, row: &mut Row<'_>, found: &mut Found) {
+fn say_keys(keys: &CipherPair, row: &Row<'_>, found: &Found) {
     let (sealing, opening) = (&keys.local_to_remote, &keys.remote_to_local);
     let payload = row.bytes();
     if payload.len() > 1000 {
@@ -94,7 +94,7 @@ fn say_keys(keys: &CipherPair, row: &mut Row<'_>, found: &mut Found) {
     }
     found.say_number(sealing.tag_len() as u64);
     found.say_number(opening.tag_len() as u64);
-    found.say_number(sealing.padding_length(payload.as_slice()) as u64);
+    found.say_number(sealing.padding_length(payload) as u64);
     found.say_number(opening.packet_length_to_read_for_block_length() as u64);
     found.say_number(opening.shortest_packet() as u64);
     found.say_shown(keys);
@@ -139,13 +139,13 @@ fn fill(out: &mut PacketBytesWriter, payload: &[u8]) -> Result<(), Error> {
 /// `seal CIPHER MAC KEY NONCE MACKEY NUMBER PADDING PAYLOAD`: the packet of this number and this drawn padding, and
 /// how many words of padding weren't drawn. `by` with what another of the four calls wrote where that is another,
 /// and what `open_again` says.
-fn seal(row: &mut Row<'_>, found: &mut Found) -> Result<(), Fault> {
+fn seal(row: &Row<'_>, found: &Found) -> Result<(), Fault> {
     seal_with(&Material::of(row), row, found)
 }
 
-fn seal_with(material: &Material, row: &mut Row<'_>, found: &mut Found) -> Result<(), Fault> {
+fn seal_with(material: &Material<'_>, row: &Row<'_>, found: &Found) -> Result<(), Fault> {
     let number = row.number32();
-    let words = words_of(row.alloc(), row.bytes().as_slice())?;
+    let words = words_of(row.alloc(), row.bytes())?;
     let payload = row.bytes();
     let mut sealed = Vec::new(row.alloc());
     for call in 0..4 {
@@ -153,7 +153,7 @@ fn seal_with(material: &Material, row: &mut Row<'_>, found: &mut Found) -> Resul
             call,
             &mut writer_at(row.alloc(), material, number),
             &mut Words::of(words.as_slice()),
-            payload.as_slice(),
+            payload,
             &mut sealed,
             found,
         );
@@ -163,14 +163,14 @@ fn seal_with(material: &Material, row: &mut Row<'_>, found: &mut Found) -> Resul
         &mut material.opening(),
         number,
         sealed.as_mut_slice(),
-        payload.as_slice(),
+        payload,
         found,
     );
     Ok(())
 }
 
 /// A writer whose next packet has the number.
-fn writer_at(alloc: Global, material: &Material, number: u32) -> PacketWriter {
+fn writer_at(alloc: Global, material: &Material<'_>, number: u32) -> PacketWriter {
     let mut writer = PacketWriter::new(alloc, material.sealing(), Compress::None);
     writer.buffer().seqn = number;
     writer
@@ -184,7 +184,7 @@ fn say_sealed(
     rng: &mut Words<'_>,
     payload: &[u8],
     sealed: &mut Vec<u8>,
-    found: &mut Found,
+    found: &Found,
 ) -> Result<(), Fault> {
     write_by(call, writer, rng, payload)?;
     if call == 0 {
@@ -203,7 +203,7 @@ fn open_again<K: OpeningKey>(
     number: u32,
     sealed: &mut [u8],
     payload: &[u8],
-    found: &mut Found,
+    found: &Found,
 ) {
     let tag_len = key.tag_len();
     let probe = key.packet_length_to_read_for_block_length();
@@ -228,26 +228,26 @@ fn open_again<K: OpeningKey>(
 /// `open CIPHER MAC KEY NONCE MACKEY NUMBER BYTES`: the packets that a reader finds in bytes behind so many clear
 /// packets, each by its number plus one and its payload, and then `more` with how many bytes wait, or the refusal
 /// and the next one. `cut` with what it finds byte by byte where that is another.
-fn open(row: &mut Row<'_>, found: &mut Found) {
+fn open(row: &Row<'_>, found: &Found) {
     let material = Material::of(row);
     let number = row.count();
     let bytes = row.bytes();
-    let mut cut = Found::new(row.alloc());
-    read(&material, number, bytes.as_slice(), bytes.len(), found);
-    read(&material, number, bytes.as_slice(), 1, &mut cut);
-    say_otherwise(found, "cut", &cut);
+    let cut = Found::new(row.alloc());
+    read(&material, number, bytes, bytes.len(), found);
+    read(&material, number, bytes, 1, &cut);
+    say_otherwise(found, "cut", cut);
 }
 
 /// `forged CIPHER MAC KEY NONCE MACKEY NUMBER BYTES`: what a key answers to a packet of a wrong tag, and the bytes as
 /// they stand then.
-fn forged(row: &mut Row<'_>, found: &mut Found) {
+fn forged(row: &Row<'_>, found: &Found) {
     let mut key = Material::of(row).opening();
     let number = row.number32();
-    let mut bytes = row.bytes();
+    let mut bytes = row.owned_bytes();
     say_forged(&mut key, number, bytes.as_mut_slice(), found);
 }
 
-fn say_forged(key: &mut OpenKey, number: u32, bytes: &mut [u8], found: &mut Found) {
+fn say_forged(key: &mut OpenKey, number: u32, bytes: &mut [u8], found: &Found) {
     if bytes.len() > 1 << 24 || bytes.len() < 4 + key.tag_len() {
         return found.fail(Fault::Refused);
     }
@@ -259,7 +259,7 @@ fn say_forged(key: &mut OpenKey, number: u32, bytes: &mut [u8], found: &mut Foun
 }
 
 /// What a reader behind so many clear packets finds in bytes that come in pieces of a size.
-fn read(material: &Material, number: usize, bytes: &[u8], size: usize, found: &mut Found) {
+fn read(material: &Material<'_>, number: usize, bytes: &[u8], size: usize, found: &Found) {
     let mut reader = PacketReader::new(found.alloc());
     let outcome = pass_others(&mut reader, number);
     found.note(outcome);
@@ -272,7 +272,7 @@ fn read_pieces(
     key: &mut OpenKey,
     bytes: &[u8],
     size: usize,
-    found: &mut Found,
+    found: &Found,
 ) -> Result<(), Fault> {
     for piece in bytes.chunks(size.max(1)) {
         reader.push(piece)?;
@@ -306,7 +306,7 @@ pub(crate) enum ReadStep {
 }
 
 /// Appends the packets that wait. Whether a refusal came behind them.
-fn read_packets(reader: &mut PacketReader, key: &mut OpenKey, found: &mut Found) -> bool {
+fn read_packets(reader: &mut PacketReader, key: &mut OpenKey, found: &Found) -> bool {
     for _ in 0..=reader.waiting() {
         match read_one(reader, key, found) {
             ReadStep::Packet => {}
@@ -318,11 +318,7 @@ fn read_packets(reader: &mut PacketReader, key: &mut OpenKey, found: &mut Found)
 }
 
 /// Appends the next packet, or the refusal.
-pub(crate) fn read_one(
-    reader: &mut PacketReader,
-    key: &mut OpenKey,
-    found: &mut Found,
-) -> ReadStep {
+pub(crate) fn read_one(reader: &mut PacketReader, key: &mut OpenKey, found: &Found) -> ReadStep {
     match reader.next(key) {
         Ok(Some(incoming)) => {
             found.say_number(u64::from(incoming.seqn));
@@ -339,7 +335,7 @@ pub(crate) fn read_one(
 
 /// `shows_length CIPHER MAC KEY NONCE MACKEY LENGTH`: what a reader answers to a first block that shows a packet
 /// length: `more`, or the refusal.
-fn shows_length(row: &mut Row<'_>, found: &mut Found) -> Result<(), Fault> {
+fn shows_length(row: &Row<'_>, found: &Found) -> Result<(), Fault> {
     let material = Material::of(row);
     let block = first_block(&mut material.sealing(), row.number32());
     read_block(&mut material.opening(), &block, found)
@@ -355,7 +351,7 @@ fn first_block(key: &mut SealKey, length: u32) -> [u8; 16] {
     block
 }
 
-fn read_block(key: &mut OpenKey, block: &[u8], found: &mut Found) -> Result<(), Fault> {
+fn read_block(key: &mut OpenKey, block: &[u8], found: &Found) -> Result<(), Fault> {
     let mut reader = PacketReader::new(found.alloc());
     reader.push(block)?;
     if read_one(&mut reader, key, found) == ReadStep::Waits {
@@ -367,7 +363,7 @@ fn read_block(key: &mut OpenKey, block: &[u8], found: &mut Found) -> Result<(), 
 /// `longest CALL CIPHER MAC KEY NONCE MACKEY LENGTH`: of a payload of so many bytes, written by this of the four calls,
 /// the first four bytes of its packet, the packet's length, and that of the payload that it opens to; or the refusal
 /// and the length of the output.
-fn longest(row: &mut Row<'_>, found: &mut Found) -> Result<(), Fault> {
+fn longest(row: &Row<'_>, found: &Found) -> Result<(), Fault> {
     let call = row.count();
     let material = Material::of(row);
     let payload = letters(row.alloc(), row.count())?;
@@ -383,7 +379,7 @@ fn longest(row: &mut Row<'_>, found: &mut Found) -> Result<(), Fault> {
 }
 
 /// Appends a packet's first bytes and its length, and that of its payload, or the refusal of it.
-fn say_longest(opening: &mut OpenKey, packet: &[u8], found: &mut Found) -> Result<(), Fault> {
+fn say_longest(opening: &mut OpenKey, packet: &[u8], found: &Found) -> Result<(), Fault> {
     found.say_bytes(packet.get(..4).unwrap_or(b""));
     found.say_number(packet.len() as u64);
     let mut reader = PacketReader::new(found.alloc());
@@ -400,7 +396,7 @@ fn say_longest(opening: &mut OpenKey, packet: &[u8], found: &mut Found) -> Resul
 
 /// `count NUMBER BYTES PAYLOAD..`: number and count of a clear writer behind these payloads, from a number and a
 /// count on, and the length of its output.
-fn count(row: &mut Row<'_>, found: &mut Found) -> Result<(), Fault> {
+fn count(row: &Row<'_>, found: &Found) -> Result<(), Fault> {
     let mut writer = PacketWriter::clear(row.alloc());
     writer.buffer().seqn = row.number32();
     writer.buffer().bytes = row.number() as usize;
@@ -409,9 +405,9 @@ fn count(row: &mut Row<'_>, found: &mut Found) -> Result<(), Fault> {
     Ok(())
 }
 
-fn write_each(writer: &mut PacketWriter, row: &mut Row<'_>) -> Result<(), Error> {
+fn write_each(writer: &mut PacketWriter, row: &Row<'_>) -> Result<(), Error> {
     for _ in 0..row.left() {
-        write_clear(writer, row.bytes().as_slice())?;
+        write_clear(writer, row.bytes())?;
     }
     Ok(())
 }
@@ -421,7 +417,7 @@ fn write_clear(writer: &mut PacketWriter, payload: &[u8]) -> Result<(), Error> {
     writer.packet_raw(&mut Words::of(&[]), payload)
 }
 
-fn say_state(writer: &mut PacketWriter, found: &mut Found) {
+fn say_state(writer: &mut PacketWriter, found: &Found) {
     let (number, bytes) = (writer.buffer().seqn, writer.buffer().bytes);
     found.say_number(u64::from(number));
     found.say_number(bytes as u64);
@@ -430,13 +426,13 @@ fn say_state(writer: &mut PacketWriter, found: &mut Found) {
 
 /// `given_up PAYLOAD BYTES`: behind a clear packet of the payload, what each of the three calls answers to a closure
 /// that appends the bytes and gives up; and number, count and the length of the output.
-fn given_up(row: &mut Row<'_>, found: &mut Found) -> Result<(), Fault> {
+fn given_up(row: &Row<'_>, found: &Found) -> Result<(), Fault> {
     let payload = row.bytes();
     let bytes = row.bytes();
     let mut writer = PacketWriter::clear(row.alloc());
-    write_clear(&mut writer, payload.as_slice())?;
+    write_clear(&mut writer, payload)?;
     for call in 0..3 {
-        found.say_shown(&fault_given_up(call, &mut writer, bytes.as_slice()));
+        found.say_shown(&fault_given_up(call, &mut writer, bytes));
     }
     say_state(&mut writer, found);
     Ok(())
@@ -469,7 +465,7 @@ fn fault_given_up(call: usize, writer: &mut PacketWriter, given: &[u8]) -> Optio
 
 /// `room LENGTH COUNT`: whether a clear writer with room for so many payloads of a length takes no memory for them,
 /// and the length of its output.
-fn room(row: &mut Row<'_>, found: &mut Found) -> Result<(), Fault> {
+fn room(row: &Row<'_>, found: &Found) -> Result<(), Fault> {
     let length = row.count();
     let turns = row.count();
     if length > 1 << 20 || turns > 1 << 10 {
@@ -484,7 +480,7 @@ fn fill_room(
     writer: &mut PacketWriter,
     length: usize,
     turns: usize,
-    found: &mut Found,
+    found: &Found,
 ) -> Result<(), Fault> {
     let payload = letters(found.alloc(), length)?;
     let capacity = writer.buffer().buffer.capacity();
@@ -497,7 +493,7 @@ fn fill_room(
 }
 
 /// `sent_id TEXT`: what a buffer holds behind a version line of this text, number and count.
-fn sent_id(row: &mut Row<'_>, found: &mut Found) -> Result<(), Fault> {
+fn sent_id(row: &Row<'_>, found: &Found) -> Result<(), Fault> {
     let text = String::from_str(row.alloc(), row.word())?;
     let mut buffer = SSHBuffer::new(row.alloc());
     buffer.send_ssh_id(&SshId::Standard(Text::new(text)))?;

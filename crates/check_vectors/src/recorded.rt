@@ -58,8 +58,8 @@ impl Connection {
 pub(crate) fn answer(
     kind: &str,
     connection: &mut Connection,
-    row: &mut Row<'_>,
-    found: &mut Found,
+    row: &Row<'_>,
+    found: &Found,
 ) -> bool {
     match kind {
         "connection" => begin(connection, row, found),
@@ -72,12 +72,7 @@ pub(crate) fn answer(
 }
 
 /// The same of the kinds that are of a direction: its name is the first word, `c2s` or `s2c`.
-fn answer_of_direction(
-    kind: &str,
-    connection: &mut Connection,
-    row: &mut Row<'_>,
-    found: &mut Found,
-) {
+fn answer_of_direction(kind: &str, connection: &mut Connection, row: &Row<'_>, found: &Found) {
     let is_strict = connection.is_strict;
     let direction = if is_first_of(row, "c2s", "s2c") {
         &mut connection.client_to_server
@@ -95,7 +90,7 @@ fn answer_of_direction(
 }
 
 /// `connection ORDER`: what follows is of another connection, with `strict` key exchange or a `plain` one.
-fn begin(connection: &mut Connection, row: &mut Row<'_>, found: &mut Found) {
+fn begin(connection: &mut Connection, row: &Row<'_>, found: &Found) {
     *connection = Connection::new(row.alloc());
     connection.is_strict = is_first_of(row, "strict", "plain");
     found.say("begun");
@@ -103,19 +98,19 @@ fn begin(connection: &mut Connection, row: &mut Row<'_>, found: &mut Found) {
 
 /// `wire DIRECTION BYTES`: all bytes of a direction. How many the version line has, and its text; `cut` with the same
 /// byte by byte where that is another.
-fn wire(direction: &mut Direction, row: &mut Row<'_>, found: &mut Found) -> Result<(), Fault> {
+fn wire(direction: &mut Direction, row: &Row<'_>, found: &Found) -> Result<(), Fault> {
     let bytes = row.bytes();
-    hear(bytes.as_slice(), true, found);
-    if let Ok(IdProgress::Id { used }) = ReadSshIdBuffer::new().feed(bytes.as_slice(), true) {
+    hear(bytes, true, found);
+    if let Ok(IdProgress::Id { used }) = ReadSshIdBuffer::new().feed(bytes, true) {
         direction.whole.push(bytes.get(used..).unwrap_or(b""))?;
         direction.place = used;
     }
-    direction.wire = bytes;
+    direction.wire = Vec::from_slice(row.alloc(), bytes)?;
     Ok(())
 }
 
 /// `keys DIRECTION CIPHER MAC KEY NONCE MACKEY`: the keys of what follows.
-fn keys(direction: &mut Direction, is_strict: bool, row: &mut Row<'_>, found: &mut Found) {
+fn keys(direction: &mut Direction, is_strict: bool, row: &Row<'_>, found: &Found) {
     let material = Material::of(row);
     direction.whole_key = material.opening();
     direction.cut_key = material.opening();
@@ -137,10 +132,10 @@ fn keys(direction: &mut Direction, is_strict: bool, row: &mut Row<'_>, found: &m
 fn packet(
     direction: &mut Direction,
     is_sealed_again: bool,
-    row: &mut Row<'_>,
-    found: &mut Found,
+    row: &Row<'_>,
+    found: &Found,
 ) -> Result<(), Fault> {
-    let words = words_of(row.alloc(), row.bytes().as_slice())?;
+    let words = words_of(row.alloc(), row.bytes())?;
     let waiting = direction.whole.waiting();
     let Some(payload) = next_payload(direction, found)? else {
         return Ok(());
@@ -164,7 +159,7 @@ fn packet(
 }
 
 /// The next packet's payload. Appends its number plus one and its payload, or why there is none.
-fn next_payload(direction: &mut Direction, found: &mut Found) -> Result<Option<Vec<u8>>, Fault> {
+fn next_payload(direction: &mut Direction, found: &Found) -> Result<Option<Vec<u8>>, Fault> {
     match direction.whole.next(&mut direction.whole_key) {
         Ok(Some(incoming)) => {
             found.say_number(u64::from(incoming.seqn));
@@ -211,7 +206,7 @@ fn seal_again(direction: &mut Direction, words: &[u32], payload: &[u8]) -> Resul
     direction.writer.packet_raw(&mut Words::of(words), payload)
 }
 
-fn say_counts(direction: &Direction, found: &mut Found) {
+fn say_counts(direction: &Direction, found: &Found) {
     let sent = direction.writer.bytes_written();
     if direction.whole.bytes() != sent || direction.cut.bytes() != sent {
         found.say("counts");
@@ -219,6 +214,6 @@ fn say_counts(direction: &Direction, found: &mut Found) {
 }
 
 /// `left DIRECTION`: how many bytes wait behind the last packet.
-fn left(direction: &Direction, found: &mut Found) {
+fn left(direction: &Direction, found: &Found) {
     found.say_number(direction.whole.waiting() as u64);
 }

@@ -5,7 +5,7 @@ use std::fmt;
 use vector_rows::{Fault, Found, Row};
 
 /// Whether the next word is the first of two, of which it is one.
-pub(crate) fn is_first_of(row: &mut Row<'_>, first: &str, second: &str) -> bool {
+pub(crate) fn is_first_of(row: &Row<'_>, first: &str, second: &str) -> bool {
     let word = row.word();
     if word != first && word != second {
         row.reject();
@@ -14,7 +14,7 @@ pub(crate) fn is_first_of(row: &mut Row<'_>, first: &str, second: &str) -> bool 
 }
 
 /// The next word as a number below 256.
-pub(crate) fn byte(row: &mut Row<'_>) -> u8 {
+pub(crate) fn byte(row: &Row<'_>) -> u8 {
     let word = row.word();
     row.expect(word.parse::<u8>().ok(), 0)
 }
@@ -27,7 +27,7 @@ pub(crate) fn letters(alloc: Global, count: usize) -> Result<Vec<u8>, Fault> {
 }
 
 /// Appends the text of a value.
-pub(crate) fn say_text<T: fmt::Display>(found: &mut Found, value: &T) {
+pub(crate) fn say_text<T: fmt::Display>(found: &Found, value: &T) {
     match format!(in found.alloc(); "{value}") {
         Ok(text) => found.say(text.as_str()),
         Err(_) => found.fail(Fault::Memory),
@@ -35,7 +35,7 @@ pub(crate) fn say_text<T: fmt::Display>(found: &mut Found, value: &T) {
 }
 
 /// Appends a word and bytes where they aren't the wanted ones.
-pub(crate) fn say_other(found: &mut Found, word: &str, bytes: &[u8], wanted: &[u8]) {
+pub(crate) fn say_other(found: &Found, word: &str, bytes: &[u8], wanted: &[u8]) {
     if bytes != wanted {
         found.say(word);
         found.say_bytes(bytes);
@@ -43,11 +43,12 @@ pub(crate) fn say_other(found: &mut Found, word: &str, bytes: &[u8], wanted: &[u
 }
 
 /// Appends a word and what else was found, where that isn't what was found already.
-pub(crate) fn say_otherwise(found: &mut Found, word: &str, other: &Found) {
+pub(crate) fn say_otherwise(found: &Found, word: &str, other: Found) {
     if let Some(fault) = other.fault() {
         found.fail(fault);
     }
-    if other.as_str() != found.as_str() {
+    let other = other.into_text();
+    if !found.is(other.as_str()) {
         found.say(word);
         found.say(other.as_str());
     }

@@ -12,7 +12,7 @@ use std::fmt;
 use vector_rows::{Fault, Found, Row};
 
 /// Answers a row of one of these kinds. False where the kind is another.
-pub(crate) fn answer(kind: &str, row: &mut Row<'_>, found: &mut Found) -> bool {
+pub(crate) fn answer(kind: &str, row: &Row<'_>, found: &Found) -> bool {
     match kind {
         "kex_message" => found.say_shown(&is_kex_msg(byte(row))),
         "strict" => strict(row, found),
@@ -29,7 +29,7 @@ pub(crate) fn answer(kind: &str, row: &mut Row<'_>, found: &mut Found) -> bool {
 }
 
 /// The same of the kinds whose values are copied or joined.
-fn answer_copied(kind: &str, row: &mut Row<'_>, found: &mut Found) -> bool {
+fn answer_copied(kind: &str, row: &Row<'_>, found: &Found) -> bool {
     let outcome = match kind {
         "signal" => signal(row, found),
         "failure" => failure(row, found),
@@ -43,7 +43,7 @@ fn answer_copied(kind: &str, row: &mut Row<'_>, found: &mut Found) -> bool {
 }
 
 /// `strict SENDER MESSAGE PLACE`: whether a message may stand at a place of the strict key exchange.
-fn strict(row: &mut Row<'_>, found: &mut Found) {
+fn strict(row: &Row<'_>, found: &Found) {
     let is_client = is_first_of(row, "client", "server");
     let message = byte(row);
     let place = row.count();
@@ -59,7 +59,7 @@ fn strict(row: &mut Row<'_>, found: &mut Found) {
 }
 
 /// `limits` and `limits WRITE READ TIME`: limits that hold without a configuration, or these.
-fn limits(row: &mut Row<'_>, found: &mut Found) {
+fn limits(row: &Row<'_>, found: &Found) {
     if row.left() == 0 {
         return say_limits(found, &Limits::default());
     }
@@ -70,14 +70,14 @@ fn limits(row: &mut Row<'_>, found: &mut Found) {
     say_limits(found, &Limits::new(write, read, time));
 }
 
-fn say_limits(found: &mut Found, limits: &Limits) {
+fn say_limits(found: &Found, limits: &Limits) {
     found.say_number(limits.rekey_write_limit as u64);
     found.say_number(limits.rekey_read_limit as u64);
     found.say_number(limits.rekey_time_limit);
 }
 
 /// `reason CODE`: the reason of a disconnection, and its code.
-fn reason(row: &mut Row<'_>, found: &mut Found) {
+fn reason(row: &Row<'_>, found: &Found) {
     match Disconnect::try_from(row.number32()) {
         Ok(reason) => {
             found.say_shown(&reason);
@@ -88,7 +88,7 @@ fn reason(row: &mut Row<'_>, found: &mut Found) {
 }
 
 /// `signal NAME`: a signal as `Debug` shows it, its name, and that of its copy.
-fn signal(row: &mut Row<'_>, found: &mut Found) -> Result<(), Fault> {
+fn signal(row: &Row<'_>, found: &Found) -> Result<(), Fault> {
     let signal = Sig::from_name(row.alloc(), row.text())?;
     found.say_shown(&signal);
     found.say(signal.name());
@@ -97,7 +97,7 @@ fn signal(row: &mut Row<'_>, found: &mut Found) -> Result<(), Fault> {
 }
 
 /// `failure CODE`: the code again, whether a copy is equal, and the text.
-fn failure(row: &mut Row<'_>, found: &mut Found) -> Result<(), Fault> {
+fn failure(row: &Row<'_>, found: &Found) -> Result<(), Fault> {
     let failure = ChannelOpenFailure::from_u32(row.alloc(), row.number32())?;
     found.say_number(u64::from(failure.code()));
     let copy = failure.try_clone(row.alloc())?;
@@ -107,7 +107,7 @@ fn failure(row: &mut Row<'_>, found: &mut Found) -> Result<(), Fault> {
 }
 
 /// `handle NUMBER HOW`: what a channel that is opened or refused keeps, and the answer.
-fn handle(row: &mut Row<'_>, found: &mut Found) {
+fn handle(row: &Row<'_>, found: &Found) {
     let number = row.number();
     let is_accepted = is_first_of(row, "accept", "reject");
     let handle = ChannelOpenHandleInner::new(number);
@@ -122,7 +122,7 @@ fn handle(row: &mut Row<'_>, found: &mut Found) {
 
 /// Of `algorithm NAME` and `certificate NAME`, the algorithm of a name or of a certificate's: its name, the name of its
 /// certificates and its hash, or `none`.
-fn say_algorithm(found: &mut Found, algorithm: Option<Algorithm>) {
+fn say_algorithm(found: &Found, algorithm: Option<Algorithm>) {
     match algorithm {
         Some(algorithm) => {
             found.say(algorithm.as_str());
@@ -134,7 +134,7 @@ fn say_algorithm(found: &mut Found, algorithm: Option<Algorithm>) {
 }
 
 /// `hashed_by NAME HASH`: the algorithm of a name with another hash.
-fn hashed_by(row: &mut Row<'_>, found: &mut Found) {
+fn hashed_by(row: &Row<'_>, found: &Found) {
     let algorithm = Algorithm::from_str(row.text());
     let hash = match row.word() {
         "none" => None,
@@ -149,8 +149,8 @@ fn hashed_by(row: &mut Row<'_>, found: &mut Found) {
 }
 
 /// `blob BYTES`: the bytes of a blob, of a payload, and of a list of that payload.
-fn blob(row: &mut Row<'_>, found: &mut Found) -> Result<(), Fault> {
-    let blob = Blob::new(row.bytes());
+fn blob(row: &Row<'_>, found: &Found) -> Result<(), Fault> {
+    let blob = Blob::new(row.owned_bytes());
     found.say_bytes(blob.as_slice());
     let payload = Payload::new(blob.into_vec());
     found.say_bytes(payload.as_slice());
@@ -160,7 +160,7 @@ fn blob(row: &mut Row<'_>, found: &mut Found) -> Result<(), Fault> {
     Ok(())
 }
 
-fn say_payloads(found: &mut Found, list: PayloadList) {
+fn say_payloads(found: &Found, list: PayloadList) {
     for payload in list.as_slice() {
         found.say_bytes(payload.as_slice());
     }
@@ -168,7 +168,7 @@ fn say_payloads(found: &mut Found, list: PayloadList) {
 }
 
 /// `error NAME`: the text of an error.
-fn error(row: &mut Row<'_>, found: &mut Found) {
+fn error(row: &Row<'_>, found: &Found) {
     let name = row.word();
     if name == "SendError" {
         return say_text(found, &SendError);
@@ -222,7 +222,7 @@ fn refusal(name: &str) -> Option<Error> {
 
 /// `open_error NAME`: the error that a reader's refusal is, its text, and `itself` with the refusal's own text where
 /// that is another.
-fn open_error(row: &mut Row<'_>, found: &mut Found) -> Result<(), Fault> {
+fn open_error(row: &Row<'_>, found: &Found) -> Result<(), Fault> {
     let refusal = match row.word() {
         "PacketSize(7)" => OpenError::PacketSize(7),
         "IndexOutOfBounds" => OpenError::IndexOutOfBounds,
@@ -235,7 +235,7 @@ fn open_error(row: &mut Row<'_>, found: &mut Found) -> Result<(), Fault> {
 }
 
 /// `id_error NAME`: the same of the refusal of a version line.
-fn id_error(row: &mut Row<'_>, found: &mut Found) -> Result<(), Fault> {
+fn id_error(row: &Row<'_>, found: &Found) -> Result<(), Fault> {
     let refusal = match row.word() {
         "Version" => IdError::Version,
         "Disconnect" => IdError::Disconnect,
@@ -245,7 +245,7 @@ fn id_error(row: &mut Row<'_>, found: &mut Found) -> Result<(), Fault> {
     say_error(found, &Error::from(refusal), &refusal)
 }
 
-fn say_error<E: fmt::Display>(found: &mut Found, error: &Error, refusal: &E) -> Result<(), Fault> {
+fn say_error<E: fmt::Display>(found: &Found, error: &Error, refusal: &E) -> Result<(), Fault> {
     let own = format!(in found.alloc(); "{refusal}")?;
     let text = format!(in found.alloc(); "{error}")?;
     found.say_shown(error);

@@ -7,7 +7,7 @@ use ssh_wire::Error;
 use vector_rows::{Fault, Found, Row};
 
 /// Answers a row of one of these kinds. False where the kind is another.
-pub(crate) fn answer(kind: &str, row: &mut Row<'_>, found: &mut Found) -> bool {
+pub(crate) fn answer(kind: &str, row: &Row<'_>, found: &Found) -> bool {
     let outcome = match kind {
         "window" => window(row, found),
         "reads" => reads(row, found),
@@ -18,7 +18,7 @@ pub(crate) fn answer(kind: &str, row: &mut Row<'_>, found: &mut Found) -> bool {
 }
 
 /// The next word as an empty reader: `with` a window, or `without`.
-fn reader_by(row: &mut Row<'_>) -> Result<PacketReader, Error> {
+fn reader_by(row: &Row<'_>) -> Result<PacketReader, Error> {
     if is_first_of(row, "with", "without") {
         PacketReader::with_window(row.alloc())
     } else {
@@ -28,11 +28,11 @@ fn reader_by(row: &mut Row<'_>) -> Result<PacketReader, Error> {
 
 /// `window HOW LENGTH..`: of a reader with a window or without, how long that is; how many bytes it takes of pieces of
 /// these lengths, one after the other; and how many wait then.
-fn window(row: &mut Row<'_>, found: &mut Found) -> Result<(), Fault> {
+fn window(row: &Row<'_>, found: &Found) -> Result<(), Fault> {
     take_each(&mut reader_by(row)?, row, found)
 }
 
-fn take_each(reader: &mut PacketReader, row: &mut Row<'_>, found: &mut Found) -> Result<(), Fault> {
+fn take_each(reader: &mut PacketReader, row: &Row<'_>, found: &Found) -> Result<(), Fault> {
     found.say_number(reader.window() as u64);
     for _ in 0..row.left() {
         let piece = letters(row.alloc(), row.count())?;
@@ -44,12 +44,12 @@ fn take_each(reader: &mut PacketReader, row: &mut Row<'_>, found: &mut Found) ->
 
 /// `reads HOW CALL..`: what a reader of clear packets, with a window or without, answers to `push:BYTES`, `take:BYTES`,
 /// `skip:NUMBER`, `next`, `handed`, `unread`, `reset_seqn` and `reset_bytes`, one after the other.
-fn reads(row: &mut Row<'_>, found: &mut Found) -> Result<(), Fault> {
+fn reads(row: &Row<'_>, found: &Found) -> Result<(), Fault> {
     call_each(&mut reader_by(row)?, row, found);
     Ok(())
 }
 
-fn call_each(reader: &mut PacketReader, row: &mut Row<'_>, found: &mut Found) {
+fn call_each(reader: &mut PacketReader, row: &Row<'_>, found: &Found) {
     for _ in 0..row.left() {
         let call = row.word();
         match call.split_once(':') {
@@ -60,7 +60,7 @@ fn call_each(reader: &mut PacketReader, row: &mut Row<'_>, found: &mut Found) {
 }
 
 /// Appends what a call answers that is given nothing.
-fn say_call(reader: &mut PacketReader, call: &str, row: &mut Row<'_>, found: &mut Found) {
+fn say_call(reader: &mut PacketReader, call: &str, row: &Row<'_>, found: &Found) {
     match call {
         "next" => return say_next(reader, found),
         "handed" => return found.say_bytes(reader.handed()),
@@ -72,22 +72,16 @@ fn say_call(reader: &mut PacketReader, call: &str, row: &mut Row<'_>, found: &mu
     found.say("ok");
 }
 
-fn say_next(reader: &mut PacketReader, found: &mut Found) {
+fn say_next(reader: &mut PacketReader, found: &Found) {
     if read_one(reader, &mut OpenKey::Clear(clear::Key), found) == ReadStep::Waits {
         found.say("none");
     }
 }
 
 /// Appends what a call answers that is given bytes or a number.
-fn say_given(
-    reader: &mut PacketReader,
-    call: &str,
-    given: &str,
-    row: &mut Row<'_>,
-    found: &mut Found,
-) {
+fn say_given(reader: &mut PacketReader, call: &str, given: &str, row: &Row<'_>, found: &Found) {
     let outcome = match Row::of(row.alloc(), given) {
-        Ok(mut word) => say_word(reader, call, &mut word, found),
+        Ok(word) => say_word(reader, call, &word, found),
         Err(fault) => Err(fault),
     };
     found.note(outcome);
@@ -97,13 +91,13 @@ fn say_given(
 fn say_word(
     reader: &mut PacketReader,
     call: &str,
-    given: &mut Row<'_>,
-    found: &mut Found,
+    given: &Row<'_>,
+    found: &Found,
 ) -> Result<(), Fault> {
     match call {
-        "take" => found.say_number(reader.take(given.bytes().as_slice()) as u64),
+        "take" => found.say_number(reader.take(given.bytes()) as u64),
         "push" => {
-            reader.push(given.bytes().as_slice())?;
+            reader.push(given.bytes())?;
             found.say("ok");
         }
         "skip" => skip(reader, given, found),
@@ -116,7 +110,7 @@ fn say_word(
 }
 
 /// Drops as many of the bytes that wait as the next word says.
-fn skip(reader: &mut PacketReader, given: &mut Row<'_>, found: &mut Found) {
+fn skip(reader: &mut PacketReader, given: &Row<'_>, found: &Found) {
     let count = given.count();
     if count > reader.waiting() {
         return given.reject();

@@ -8,7 +8,7 @@ use std::alloc::Global;
 use vector_rows::{Fault, Row};
 
 /// The next word as a side.
-pub fn side_of(row: &mut Row<'_>) -> Side {
+pub fn side_of(row: &Row<'_>) -> Side {
     let side = match row.word() {
         "client" => Some(Side::Client),
         "server" => Some(Side::Server),

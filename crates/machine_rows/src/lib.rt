@@ -3,11 +3,9 @@
 #![tactic(auto)]
 
 mod config;
-mod lending;
 mod machine;
 mod transport;
 
 pub use crate::config::{config_of, key_of, keys_of, side_of, times, trusted_by};
-pub use crate::lending::lent;
 pub use crate::machine::{Machine, Progress};
 pub use crate::transport::{feed, poll_payload, rekey, submit, take_input};

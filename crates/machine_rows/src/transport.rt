@@ -43,7 +43,7 @@ pub fn take_input(transport: &mut Transport<'_>, piece: &[u8]) -> Result<usize, 
 pub fn poll_payload<A: Agreement, H: HostKeys, G: GroupLookup, R: Rng>(
     transport: &mut Transport<'_>,
     parts: &mut Parts<A, H, G, R>,
-    found: &mut Found,
+    found: &Found,
 ) -> Result<Option<Vec<u8>>, Fault> {
     let alloc = found.alloc();
     match transport.poll_payload(parts) {

@@ -103,7 +103,7 @@ pub fn named_all<N: Named>(alloc: Global, texts: &NameList) -> Result<Vec<N>, Fa
 }
 
 /// The next word as settings: `default` for none, or `NAME=VALUE` with `;` between them.
-pub fn settings<'a>(row: &mut Row<'a>) -> Result<Vec<(&'a str, &'a str)>, Fault> {
+pub fn settings<'a>(row: &Row<'a>) -> Result<Vec<(&'a str, &'a str)>, Fault> {
     let mut settings = Vec::new(row.alloc());
     let word = row.word();
     if word == "default" {
@@ -119,7 +119,7 @@ pub fn settings<'a>(row: &mut Row<'a>) -> Result<Vec<(&'a str, &'a str)>, Fault>
 }
 
 /// The next word as preferences: the defaults, with `kex`, `key`, `cert`, `cipher`, `mac` or `compression` set.
-pub fn preferred(row: &mut Row<'_>) -> Result<Preferred, Fault> {
+pub fn preferred(row: &Row<'_>) -> Result<Preferred, Fault> {
     let mut preferred = Preferred::default(row.alloc())?;
     for (name, value) in settings(row)? {
         prefer(row.alloc(), &mut preferred, name, value)?;
@@ -161,7 +161,7 @@ fn marked(entry: &str) -> Result<(Algorithm, &str), Fault> {
 
 /// The next word as host keys `ALGORITHM:BLOB` with commas between them, `-` for an empty list, or `none` where no list
 /// is given.
-pub fn keys(row: &mut Row<'_>) -> Result<Option<Vec<HostKey>>, Fault> {
+pub fn keys(row: &Row<'_>) -> Result<Option<Vec<HostKey>>, Fault> {
     let word = row.word();
     if word == "none" {
         return Ok(None);
@@ -181,7 +181,7 @@ fn key_of(alloc: Global, entry: &str) -> Result<HostKey, Fault> {
 }
 
 /// The next word as host certificates `ALGORITHM:BLOB:BLOB_OF_THE_KEY`, as `keys`.
-pub fn certificates(row: &mut Row<'_>) -> Result<Option<Vec<HostCertificate>>, Fault> {
+pub fn certificates(row: &Row<'_>) -> Result<Option<Vec<HostCertificate>>, Fault> {
     let word = row.word();
     if word == "none" {
         return Ok(None);
@@ -306,7 +306,7 @@ impl<'a> Fields<'a> {
 
 /// The next word as a KEXINIT's payload: the fields of `Fields::new`, with those set that are given by `places`'
 /// names, `follows` or `reserved`; `keep` cuts it to so many bytes, `behind` appends bytes.
-pub fn kexinit(row: &mut Row<'_>) -> Result<Vec<u8>, Fault> {
+pub fn kexinit(row: &Row<'_>) -> Result<Vec<u8>, Fault> {
     let mut fields = Fields::new();
     let mut kept = usize::MAX;
     let mut behind = Vec::new(row.alloc());

@@ -9,10 +9,10 @@ use std::io::{BufRead, BufReader};
 pub trait Answers {
     /// Whether a row is for other readers, and is passed over. What it says may be learned, for rows behind it. Its
     /// kind was taken of its words.
-    fn passes_over(&mut self, kind: &str, row: &mut Row<'_>, wanted: &str) -> Result<bool, Fault>;
+    fn passes_over(&mut self, kind: &str, row: &Row<'_>, wanted: &str) -> Result<bool, Fault>;
 
     /// Appends what is found by a row's words, of which its kind was taken. False where the kind is none of its own.
-    fn answer(&mut self, kind: &str, row: &mut Row<'_>, found: &mut Found) -> Result<bool, Fault>;
+    fn answer(&mut self, kind: &str, row: &Row<'_>, found: &Found) -> Result<bool, Fault>;
 }
 
 /// What became of a line.
@@ -21,7 +21,7 @@ enum Outcome {
     Skipped,
     Passed,
     /// What was found in place of what is wanted.
-    Found(Found),
+    Found(String),
     /// Why nothing was found.
     Fault(Fault),
 }
@@ -35,28 +35,24 @@ fn outcome_of<A: Answers>(alloc: Global, answers: &mut A, line: &str) -> Result<
     let Some((asked, wanted)) = line.split_once(" = ") else {
         return Err(Fault::Malformed);
     };
-    outcome_by(answers, &mut Row::of(alloc, asked)?, wanted)
+    outcome_by(answers, &Row::of(alloc, asked)?, wanted)
 }
 
 /// The outcome of a row.
-fn outcome_by<A: Answers>(
-    answers: &mut A,
-    row: &mut Row<'_>,
-    wanted: &str,
-) -> Result<Outcome, Fault> {
+fn outcome_by<A: Answers>(answers: &mut A, row: &Row<'_>, wanted: &str) -> Result<Outcome, Fault> {
     let kind = row.word();
     if answers.passes_over(kind, row, wanted)? {
         return Ok(Outcome::Skipped);
     }
-    let mut found = Found::new(row.alloc());
-    let is_of_a_kind = answers.answer(kind, row, &mut found)?;
+    let found = Found::new(row.alloc());
+    let is_of_a_kind = answers.answer(kind, row, &found)?;
     if !is_of_a_kind || row.is_malformed() || row.left() > 0 {
         return Err(Fault::Malformed);
     }
     match found.fault() {
         Some(fault) => Err(fault),
-        None if found.as_str() == wanted => Ok(Outcome::Passed),
-        None => Ok(Outcome::Found(found)),
+        None if found.is(wanted) => Ok(Outcome::Passed),
+        None => Ok(Outcome::Found(found.into_text())),
     }
 }
 

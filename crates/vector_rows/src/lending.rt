@@ -7,3 +7,16 @@ pub fn lent<T: Drop, X, F: FnOnce(&mut T) -> X>(mut value: T, call: F) -> X
 {
     call(&mut value)
 }
+
+/// The same of a value that could be made; else why it couldn't.
+pub fn lent_ok<T: Drop, E, X, F: Drop + FnOnce(&mut T) -> X>(
+    made: Result<T, E>,
+    call: F,
+) -> Result<X, E>
+    requires { F.IsAlwaysCallable call }
+{
+    match made {
+        Ok(value) => Ok(lent(value, call)),
+        Err(error) => Err(error),
+    }
+}
