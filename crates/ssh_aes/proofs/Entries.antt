@@ -1,8 +1,9 @@
 -- The tables and the small products against the field, computed for all bytes.
-use Rattle.std.proofs.Common.{◌≡◌, ℕ, ◌+◌, ◌*◌, ◌-◌, ◌<◌, true, ◌&&◌, eqb, ltb, cond, refl}
+use Rattle.std.proofs.Common.{◌≡◌, ℕ, ◌+◌, ◌<◌, true, ◌&&◌, eqb, ltb, refl}
 use Rattle.std.specs.Prelude.{bit_xor, slice_index}
 use Rattle.std.proofs.lemmas.Bool.{eqb-true, ltb-true, and_parts}
-use Rattle.ssh_aes.specs.declared.tables.TheConstants.{SUBSTITUTION, INVERSE_SUBSTITUTION, ROUND_CONSTANTS}
+use Rattle.ssh_aes.specs.declared.tables.TheConstants.{ROUND_CONSTANTS}
+use Rattle.ssh_aes.proofs.Substitutions.{SUBSTITUTION, INVERSE_SUBSTITUTION}
 use Rattle.ssh_aes.specs.Field.{byte_product, product_modulo, polynomial_product, remainder}
 use Rattle.ssh_aes.specs.Aes.{substitute, inverse_substitute, round_constant, inverse, times_squares, mixed_byte}
 use Rattle.ssh_aes.proofs.Below.{all_below, all_below-at}
@@ -65,13 +66,6 @@ constants_is n h = eqb-true _ _ (all_below-at 10 (λ n. eqb (slice_index ROUND_C
 
 -- ---- small products
 
-doubling_test : all_below 256 (λ b. eqb (cond (ltb b 128) (2 * b) (bit_xor (2 * (b - 128)) 0x1b)) (byte_product 2 b)) ≡ true
-unfolding product_modulo polynomial_product remainder
-doubling_test = refl
-
-pub doubling_is : (b : ℕ) → b < 256 → cond (ltb b 128) (2 * b) (bit_xor (2 * (b - 128)) 0x1b) ≡ byte_product 2 b
-doubling_is b h = eqb-true _ _ (all_below-at 256 (λ b. eqb (cond (ltb b 128) (2 * b) (bit_xor (2 * (b - 128)) 0x1b)) (byte_product 2 b)) doubling_test b h)
-
 one_test : all_below 256 (λ b. eqb (byte_product 1 b) b) ≡ true
 unfolding product_modulo polynomial_product remainder
 one_test = refl
@@ -85,40 +79,6 @@ three_test = refl
 
 pub three_is : (b : ℕ) → b < 256 → bit_xor (byte_product 2 b) b ≡ byte_product 3 b
 three_is b h = eqb-true _ _ (all_below-at 256 (λ b. eqb (bit_xor (byte_product 2 b) b) (byte_product 3 b)) three_test b h)
-
-abbrev pub times_four : ℕ → ℕ
-times_four b = byte_product 2 (byte_product 2 b)
-
-abbrev pub times_eight : ℕ → ℕ
-times_eight b = byte_product 2 (byte_product 2 (byte_product 2 b))
-
-nine_test : all_below 256 (λ b. eqb (bit_xor (times_eight b) b) (byte_product 9 b)) ≡ true
-unfolding product_modulo polynomial_product remainder
-nine_test = refl
-
-pub nine_is : (b : ℕ) → b < 256 → bit_xor (times_eight b) b ≡ byte_product 9 b
-nine_is b h = eqb-true _ _ (all_below-at 256 (λ b. eqb (bit_xor (times_eight b) b) (byte_product 9 b)) nine_test b h)
-
-eleven_test : all_below 256 (λ b. eqb (bit_xor (bit_xor (times_eight b) (byte_product 2 b)) b) (byte_product 11 b)) ≡ true
-unfolding product_modulo polynomial_product remainder
-eleven_test = refl
-
-pub eleven_is : (b : ℕ) → b < 256 → bit_xor (bit_xor (times_eight b) (byte_product 2 b)) b ≡ byte_product 11 b
-eleven_is b h = eqb-true _ _ (all_below-at 256 (λ b. eqb (bit_xor (bit_xor (times_eight b) (byte_product 2 b)) b) (byte_product 11 b)) eleven_test b h)
-
-thirteen_test : all_below 256 (λ b. eqb (bit_xor (bit_xor (times_eight b) (times_four b)) b) (byte_product 13 b)) ≡ true
-unfolding product_modulo polynomial_product remainder
-thirteen_test = refl
-
-pub thirteen_is : (b : ℕ) → b < 256 → bit_xor (bit_xor (times_eight b) (times_four b)) b ≡ byte_product 13 b
-thirteen_is b h = eqb-true _ _ (all_below-at 256 (λ b. eqb (bit_xor (bit_xor (times_eight b) (times_four b)) b) (byte_product 13 b)) thirteen_test b h)
-
-fourteen_test : all_below 256 (λ b. eqb (bit_xor (bit_xor (times_eight b) (times_four b)) (byte_product 2 b)) (byte_product 14 b)) ≡ true
-unfolding product_modulo polynomial_product remainder
-fourteen_test = refl
-
-pub fourteen_is : (b : ℕ) → b < 256 → bit_xor (bit_xor (times_eight b) (times_four b)) (byte_product 2 b) ≡ byte_product 14 b
-fourteen_is b h = eqb-true _ _ (all_below-at 256 (λ b. eqb (bit_xor (bit_xor (times_eight b) (times_four b)) (byte_product 2 b)) (byte_product 14 b)) fourteen_test b h)
 
 small_test : all_below 256 (λ b. ltb (byte_product 2 b) 256 && ltb (byte_product 3 b) 256) ≡ true
 unfolding product_modulo polynomial_product remainder

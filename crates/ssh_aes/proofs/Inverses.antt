@@ -7,7 +7,7 @@ use Rattle.std.proofs.lemmas.Nat.{xor_comm, xor_of_8}
 use Rattle.std.proofs.lemmas.List.{get_or_past, length-append}
 use Rattle.ssh_aes.specs.Field.{byte_product}
 use Rattle.ssh_aes.specs.Aes.{bytes_by, substitute, inverse_substitute, sub_bytes, inverse_sub_bytes, shift_rows, inverse_shift_rows, mixed_byte, mixed_column, unmixed_column, mix_columns, inverse_mix_columns, add_round_key, rounds, inverse_rounds, cipher, inverse_cipher, aes, inverse_aes, expanded_key, schedule, next_word, plus_word, word_byte, block, bytes_of, key_words, round_constant}
-use Rattle.ssh_aes.specs.declared.tables.TheConstants.{INVERSE_SUBSTITUTION}
+use Rattle.ssh_aes.proofs.Substitutions.{INVERSE_SUBSTITUTION}
 use Rattle.ssh_aes.specs.Laws.{AreOctets, BlocksUndone}
 use Rattle.ssh_aes.proofs.Polynomials.{xor_across, xor_cancel, product_modulo-sum}
 use Rattle.ssh_aes.proofs.Entries.{substitution_is, inverse_substitution_is, substitution-lt, restored_is, one_is, two-lt, three-lt, UndoesRow, crossed, unmixed_undoes, mixed_undoes}

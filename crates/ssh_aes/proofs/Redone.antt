@@ -2,7 +2,7 @@
 use Rattle.std.proofs.Common.{◌≡◌, ℕ, zero, suc, ◌+◌, ◌*◌, ◌%◌, ◌<◌, List, length, slice_index, refl, sym, ap, ◌∙◌, subst}
 use Rattle.std.proofs.lemmas.List.{length-append}
 use Rattle.ssh_aes.specs.Aes.{substitute, inverse_substitute, sub_bytes, inverse_sub_bytes, shift_rows, inverse_shift_rows, unmixed_column, mix_columns, inverse_mix_columns, add_round_key, rounds, inverse_rounds, cipher, inverse_cipher, aes, inverse_aes, expanded_key, block, key_words}
-use Rattle.ssh_aes.specs.declared.tables.TheConstants.{SUBSTITUTION}
+use Rattle.ssh_aes.proofs.Substitutions.{SUBSTITUTION}
 use Rattle.ssh_aes.specs.Laws.{AreOctets, BlocksRedone}
 use Rattle.ssh_aes.proofs.Entries.{substitution_is, inverse_substitution_is, inverse_substitution-lt, replaced_is, nine-lt, eleven-lt, thirteen-lt, fourteen-lt}
 use Rattle.ssh_aes.proofs.Inverses.{IsBlock, IsBlock-bytes_by, AreOctets-append, AreOctets-four, mixed_byte-lt, column-again, add_round_key-block, add_round_key-twice, expanded_key-bytes, block-block}

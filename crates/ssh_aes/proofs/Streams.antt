@@ -1,5 +1,5 @@
 -- A text at a place of the key stream, in parts.
-use Rattle.std.proofs.Common.{[], ◌∷◌, ◌++◌, ◌≡◌, ℕ, ◌+◌, ◌-◌, ◌*◌, ◌/◌, ◌%◌, ◌^◌, ◌<◌, ◌≤◌, inl, inr, List, length, take, drop, slice_index, arith, refl, sym, ap, ◌∙◌}
+use Rattle.std.proofs.Common.{[], ◌∷◌, ◌++◌, ◌≡◌, ℕ, ◌+◌, ◌-◌, ◌*◌, ◌/◌, ◌%◌, ◌^◌, ◌<◌, ◌≤◌, inl, inr, List, length, take, drop, slice_index, arith, refl, sym, subst, ap, ◌∙◌}
 use Rattle.std.specs.Prelude.{bit_xor}
 use Rattle.std.specs.Int.{bytes_high_first}
 use Rattle.std.proofs.lemmas.Bool.{cases_lt}
@@ -12,6 +12,7 @@ use Rattle.ssh_aes.specs.Modes.{block_sum, counter_block, stream_block, stream_b
 use Rattle.ssh_aes.proofs.Numbers.{from_high, high_bytes, AreOctets-sixteen}
 use Rattle.ssh_aes.proofs.Running.{length-counter_text, counter_text-at}
 use Rattle.ssh_aes.proofs.Schedules.{bytes_by-at, bytes_by-same}
+use Rattle.ssh_aes.proofs.Written.{IsWritten, IsWritten-block}
 
 -- byte i of a text at a place, combined
 abbrev pub masked_byte : (key iv : List ℕ) (place : ℕ) (text : List ℕ) → ℕ → ℕ
@@ -55,6 +56,15 @@ masked_block key iv place k now old s j h a e f =
     ∙ ap (λ u. bit_xor u (slice_index s j)) (get_or-take 16 (drop (16 * k) now) j 0 h ∙ get_or-drop (16 * k) now j 0 ∙ f)
     ∙ ap (λ u. bit_xor (slice_index old (16 * k + j)) (slice_index u j)) (e ∙ ap (stream_block key iv) n)
     ∙ ap (λ (i : ℕ). bit_xor (slice_index old (16 * k + j)) (slice_index (stream_block key iv ((place + (16 * k + j)) % 2 ^ 64 / 16)) i)) m
+
+-- one block more
+pub block_masked : (key iv : List ℕ) (place k : ℕ) (now old s new : List ℕ) → 16 * k + 16 ≤ length old → place % 16 ≡ 0 → s ≡ stream_block key iv ((place + 16 * k) % 2 ^ 64 / 16)
+    → new ≡ take (16 * k) now ++ block_sum (take 16 (drop (16 * k) now)) s ++ drop (16 * k + 16) now → IsWritten (masked_byte key iv place old) now old (16 * k) → IsWritten (masked_byte key iv place old) new old (16 * (k + 1))
+block_masked key iv place k now old s new h a e f w =
+    let m = block_sum (take 16 (drop (16 * k) now)) s in
+    let l : 16 * k + 16 ≡ 16 * (k + 1) = omega arith in
+    subst (λ i. IsWritten (masked_byte key iv place old) new old i) l (subst (λ x. IsWritten (masked_byte key iv place old) x old (16 * k + 16)) (sym f)
+    (IsWritten-block (masked_byte key iv place old) now old m (16 * k) h refl (λ j g. masked_block key iv place k now old s j g a e (w.rest (16 * k + j) (omega arith))) w))
 
 -- a byte of a part of a block
 pub masked_byte-is : (key iv : List ℕ) (place i : ℕ) (now old s : List ℕ) → place < 2 ^ 64 → place % 16 + i < 16 → s ≡ stream_block key iv (place / 16) → slice_index now i ≡ slice_index old i

@@ -1,6 +1,8 @@
 pub mod Field
 pub mod Aes
 pub mod Columns
+pub mod Reads
+pub mod Held
 pub mod Keys
 pub mod Modes
 pub mod States

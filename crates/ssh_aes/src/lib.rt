@@ -5,16 +5,17 @@
 mod aes;
 mod blocks;
 mod cbc;
-mod columns;
 mod ctr;
 mod gcm;
 mod hash;
+mod keys;
 mod laws;
-mod round_tables;
+mod rounds;
 mod runs;
-mod steps;
 mod stream;
 mod tables;
+mod vector_tables;
+mod vectors;
 
 pub use crate::aes::Aes;
 pub use crate::cbc::CbcWrapper;

@@ -4,4 +4,4 @@ use Rattle.ssh_aes.proofs.stream.stream_at.Goals as goal
 
 pub returns : goal.returns
 unfolding stream_block
-returns c = rw (c.encrypt_block.ensures, c.to_be_bytes-block.ensures, c.from_be_bytes.ensures, c.from.ensures) refl
+returns c = rw (c.encrypt_block.ensures, c.counter_at-block.ensures) refl
