@@ -1,12 +1,11 @@
 -- Numbers put together of bytes from either end, and their bits in the other order.
-use Rattle.std.proofs.Common.{[], ◌∷◌, ◌≡◌, ℕ, zero, suc, ◌+◌, ◌-◌, ◌*◌, ◌/◌, ◌%◌, ◌^◌, ◌<◌, List, length, map, arith, true, eqb, ltb, refl, sym, ap, ◌∙◌}
+use Rattle.std.proofs.Common.{[], ◌∷◌, ◌≡◌, ℕ, suc, ◌+◌, ◌*◌, ◌/◌, ◌%◌, ◌^◌, ◌<◌, List, length, map, arith, true, ltb, refl, sym, ap, ◌∙◌}
 use Rattle.std.proofs.Math.Nat.{div-div-eq-div-mul, pow-suc}
-use Rattle.std.specs.Int.{w128, byte_at, bytes_low_first, bytes_high_first, from_le_bytes, to_le_bytes, reverse_bits_onto}
+use Rattle.std.specs.Int.{w128, byte_at, bytes_high_first, from_le_bytes, to_le_bytes, reverse_bits_onto}
 use Rattle.std.specs.Prelude.{slice_index}
-use Rattle.std.proofs.lemmas.Bool.{eqb-true, ltb-true}
+use Rattle.std.proofs.lemmas.Bool.{ltb-true}
 use Rattle.ssh_aes.specs.Aes.{bytes_by}
 use Rattle.ssh_aes.specs.Gcm.{element, element_block}
-use Rattle.ssh_aes.specs.declared.tables.TheConstants.{REVERSED}
 use Rattle.ssh_aes.proofs.Below.{all_below, all_below-at}
 use Rattle.ssh_aes.proofs.Inverses.{AreOctets-append, AreOctets-cons, AreOctets-four}
 use Rattle.ssh_aes.proofs.Spelling.{number_spelled}
@@ -84,13 +83,6 @@ pub AreOctets-sixteen : (s0 s1 s2 s3 s4 s5 s6 s7 s8 s9 s10 s11 s12 s13 s14 s15 :
 AreOctets-sixteen s0 s1 s2 s3 s4 s5 s6 s7 s8 s9 s10 s11 s12 s13 s14 s15 h0 h1 h2 h3 h4 h5 h6 h7 h8 h9 h10 h11 h12 h13 h14 h15 =
     AreOctets-append (s0 ∷ s1 ∷ s2 ∷ s3 ∷ s4 ∷ s5 ∷ s6 ∷ s7 ∷ s8 ∷ s9 ∷ s10 ∷ s11 ∷ []) (s12 ∷ s13 ∷ s14 ∷ s15 ∷ []) (AreOctets-append (s0 ∷ s1 ∷ s2 ∷ s3 ∷ s4 ∷ s5 ∷ s6 ∷ s7 ∷ []) (s8 ∷ s9 ∷ s10 ∷ s11 ∷ []) (AreOctets-append (s0 ∷ s1 ∷ s2 ∷ s3 ∷ []) (s4 ∷ s5 ∷ s6 ∷ s7 ∷ []) (AreOctets-four s0 s1 s2 s3 h0 h1 h2 h3) (AreOctets-four s4 s5 s6 s7 h4 h5 h6 h7)) (AreOctets-four s8 s9 s10 s11 h8 h9 h10 h11)) (AreOctets-four s12 s13 s14 s15 h12 h13 h14 h15)
 
-reversed_test : all_below 256 (λ b. eqb (slice_index REVERSED b) (reversed_byte b)) ≡ true
-unfolding reverse_bits_onto
-reversed_test = refl
-
-pub reversed_is : (b : ℕ) → b < 256 → slice_index REVERSED b ≡ reversed_byte b
-reversed_is b h = eqb-true _ _ (all_below-at 256 (λ b. eqb (slice_index REVERSED b) (reversed_byte b)) reversed_test b h)
-
 -- the sum of bytes by their worth
 from_high-sum : (s0 s1 s2 s3 s4 s5 s6 s7 s8 s9 s10 s11 s12 s13 s14 s15 : ℕ) → s0 * 1329227995784915872903807060280344576 + s1 * 5192296858534827628530496329220096 + s2 * 20282409603651670423947251286016 + s3 * 79228162514264337593543950336 + s4 * 309485009821345068724781056 + s5 * 1208925819614629174706176 + s6 * 4722366482869645213696 + s7 * 18446744073709551616 + s8 * 72057594037927936 + s9 * 281474976710656 + s10 * 1099511627776 + s11 * 4294967296 + s12 * 16777216 + s13 * 65536 + s14 * 256 + s15 ≡ from_low (s15 ∷ s14 ∷ s13 ∷ s12 ∷ s11 ∷ s10 ∷ s9 ∷ s8 ∷ s7 ∷ s6 ∷ s5 ∷ s4 ∷ s3 ∷ s2 ∷ s1 ∷ s0 ∷ [])
 from_high-sum s0 s1 s2 s3 s4 s5 s6 s7 s8 s9 s10 s11 s12 s13 s14 s15 = omega arith
@@ -135,22 +127,3 @@ element-written e s h f =
     let n : from_low l ≡ e = sym (from_high-sum (byte_at 15 e) (byte_at 14 e) (byte_at 13 e) (byte_at 12 e) (byte_at 11 e) (byte_at 10 e) (byte_at 9 e) (byte_at 8 e) (byte_at 7 e) (byte_at 6 e) (byte_at 5 e) (byte_at 4 e) (byte_at 3 e) (byte_at 2 e) (byte_at 1 e) (byte_at 0 e)) ∙ number_spelled e h in
     let r : reverse_bits_onto 128 e 0 ≡ from_high 0 (map reversed_byte l) = ap (λ (x : ℕ). reverse_bits_onto 128 x 0) (sym n) ∙ bytes-reversed 0 l (AreOctets-low e) in
     f ∙ sym (ap (bytes_high_first 16) r ∙ high_bytes 0 (map reversed_byte l) (AreOctets-reversed l (AreOctets-low e)))
-
--- ---- the bytes of a number from the highest on
-
-low-byte_from : (i k n j : ℕ) → j < k → slice_index (bytes_low_first i k n) j ≡ byte_at (i + j) n
-low-byte_from i zero n j h = absurd (omega arith)
-low-byte_from i (suc k) n zero h = let e : i ≡ i + 0 = omega arith in ap (λ (m : ℕ). byte_at m n) e
-low-byte_from i (suc k) n (suc j) h = let e : suc i + j ≡ i + suc j = omega arith in low-byte_from (suc i) k n j (omega arith) ∙ ap (λ (m : ℕ). byte_at m n) e
-
-byte_at-is : (i n : ℕ) → byte_at i n ≡ n / 256 ^ i % 256
-byte_at-is zero n = omega arith
-byte_at-is (suc i) n = refl
-
-pub low-byte : (n j : ℕ) → j < 16 → slice_index (to_le_bytes w128 n) j ≡ n / 256 ^ j % 256
-low-byte n j h = let e : 0 + j ≡ j = omega arith in low-byte_from 0 16 n j h ∙ ap (λ (m : ℕ). byte_at m n) e ∙ byte_at-is j n
-
-pub low-rest : (n i : ℕ) → i < 16 → n / 256 ^ (16 - i) ≡ n / 256 ^ (15 - i) / 256
-low-rest n i h =
-    let e : 16 - i ≡ suc (15 - i) = omega arith in
-    ap (λ (m : ℕ). n / 256 ^ m) e ∙ ap (λ (p : ℕ). n / p) (pow-suc 256 (15 - i)) ∙ sym (div-div-eq-div-mul n (256 ^ (15 - i)) 256)

@@ -22,14 +22,6 @@ product_modulo n m a b = remainder n m n (polynomial_product n a b)
 abbrev pub times_x : ℕ → ℕ → ℕ → ℕ
 times_x n m z = bit_xor (2 * z) (bit_at (2 * z) n * m)
 
--- x^4 * z modulo m of degree n, for z of degree below n
-abbrev pub times_x4 : ℕ → ℕ → ℕ → ℕ
-times_x4 n m z = times_x n m (times_x n m (times_x n m (times_x n m z)))
-
--- x^8 * z modulo m of degree n, for z of degree below n
-abbrev pub times_x8 : ℕ → ℕ → ℕ → ℕ
-times_x8 n m z = times_x4 n m (times_x4 n m z)
-
 -- the product of two bytes, modulo x^8 + x^4 + x^3 + x + 1 (FIPS 197 section 4.2)
 abbrev pub byte_product : ℕ → ℕ → ℕ
 byte_product a b = product_modulo 8 0x11b a b

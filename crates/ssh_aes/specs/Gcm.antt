@@ -1,7 +1,7 @@
 -- Galois counter mode (SP 800-38D) over AES, with a nonce of 12 bytes and a tag of 16.
-use Rattle.std.specs.Prelude.{◌≡◌, ◌<◌, ℕ, zero, suc, ◌+◌, ◌*◌, ◌/◌, ◌%◌, ◌^◌, List, [], ◌∷◌, ◌++◌, length, take, drop, replicate, fold, bit_xor, slice_index}
+use Rattle.std.specs.Prelude.{ℕ, zero, suc, ◌+◌, ◌*◌, ◌/◌, ◌%◌, ◌^◌, List, [], ◌∷◌, ◌++◌, length, take, drop, replicate, fold, bit_xor, slice_index}
 use Rattle.std.specs.Int.{w32, w64, w128, from_be_bytes, to_be_bytes, reverse_bits}
-use Rattle.ssh_aes.specs.Field.{times_x4, block_modulus, block_product}
+use Rattle.ssh_aes.specs.Field.{block_product}
 use Rattle.ssh_aes.specs.Aes.{bytes_by, aes}
 use Rattle.ssh_aes.specs.Modes.{block_sum}
 
@@ -16,11 +16,6 @@ element_block e = to_be_bytes w128 (reverse_bits w128 e)
 -- the hash key: the encryption of the zero block (section 7.1)
 unfoldable pub hash_key : List ℕ → ℕ
 hash_key key = element (aes key (replicate 16 0))
-
--- the products of h with the sixteen polynomials of degree below 4, and with x^4 times these
-pub record ArePrepared (h : ℕ) (products higher : List ℕ) : Type 0 where
-  pub low : (i : ℕ) → i < 16 → slice_index products i ≡ block_product i h
-  pub high : (i : ℕ) → i < 16 → slice_index higher i ≡ times_x4 128 block_modulus (block_product i h)
 
 -- the first n blocks of s; what is missing from the last counts as zeros
 unfoldable pub blocks : ℕ → List ℕ → List (List ℕ)

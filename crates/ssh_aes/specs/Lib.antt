@@ -7,5 +7,6 @@ pub mod Keys
 pub mod Modes
 pub mod States
 pub mod Gcm
+pub mod Halves
 pub mod Laws
 pub mod Examples

@@ -4,10 +4,9 @@ ghost use Rattle.std.specs.Prelude.{◌≡◌, length};
 ghost use Rattle.ssh_aes.specs.Aes.{aes, inverse_aes};
 ghost use Rattle.ssh_aes.specs.Keys.{IsKeyLength};
 
+use crate::encryption::encrypt;
 use crate::keys::{held, inverse_keys_of, schedule_of};
-use crate::rounds::{
-    inverse_round_of, last_inverse_round_of, last_round_of, round_of, with_key, with_last_key,
-};
+use crate::rounds::{inverse_round_of, last_inverse_round_of, with_last_key};
 use std::marker::Model;
 
 /// The block cipher under one key, which is expanded once. A contract sees the key.
@@ -48,32 +47,7 @@ impl Aes {
     pub fn encrypt_block(&self, block: &mut [u8; 16])
         ensures { block.new ≡ aes self.now block.old }
     {
-        let mut state = *block;
-        with_key(&mut state, &self.keys, 0);
-        for round in 1..self.words + 6 {
-            round_of(&mut state, &self.keys, round);
-        }
-        last_round_of(&mut state, &self.keys, self.words + 6);
-        *block = state;
-    }
-
-    /// Encrypts two blocks in place, in less time than one after the other.
-    pub(crate) fn encrypt_two(&self, first: &mut [u8; 16], second: &mut [u8; 16])
-        ensures first { first.new ≡ aes self.now first.old }
-        ensures second { second.new ≡ aes self.now second.old }
-    {
-        let mut one = *first;
-        let mut two = *second;
-        with_key(&mut one, &self.keys, 0);
-        with_key(&mut two, &self.keys, 0);
-        for round in 1..self.words + 6 {
-            round_of(&mut one, &self.keys, round);
-            round_of(&mut two, &self.keys, round);
-        }
-        last_round_of(&mut one, &self.keys, self.words + 6);
-        last_round_of(&mut two, &self.keys, self.words + 6);
-        *first = one;
-        *second = two;
+        encrypt(&self.keys, self.words, block);
     }
 
     /// Decrypts a block in place (FIPS 197 section 5.3).

@@ -1,6 +1,6 @@
 //! Blocks of 16 bytes in a text.
 
-ghost use Rattle.std.specs.Prelude.{◌≡◌, ◌≤◌, ◌+◌, ◌++◌, length, take, drop};
+ghost use Rattle.std.specs.Prelude.{◌≡◌, ◌↔◌, ◌≤◌, ◌+◌, ◌++◌, IsTrue, length, take, drop};
 ghost use Rattle.ssh_aes.specs.Aes.{block};
 ghost use Rattle.ssh_aes.specs.Modes.{block_sum};
 
@@ -30,4 +30,15 @@ pub(crate) fn add_block(sum: &mut [u8; 16], other: &[u8; 16])
     for i in 0..16 {
         sum[i] ^= other[i];
     }
+}
+
+/// Whether two blocks are equal. Every byte of both is looked at, whatever the bytes are.
+pub(crate) fn is_same(one: &[u8; 16], other: &[u8; 16]) -> bool
+    ensures { IsTrue result ↔ other.now ≡ one.now }
+{
+    let mut difference = 0;
+    for i in 0..16 {
+        difference |= one[i] ^ other[i];
+    }
+    difference == 0
 }

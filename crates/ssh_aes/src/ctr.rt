@@ -5,7 +5,7 @@ ghost use Rattle.ssh_aes.specs.Keys.{IsKeyLength};
 ghost use Rattle.ssh_aes.specs.Modes.{counter_text};
 ghost use Rattle.ssh_aes.specs.States.{ctr_running};
 
-use crate::aes::Aes;
+use crate::encryption::Encryption;
 use crate::runs::{BlockStreamCipher, PacketLengthProbe};
 use crate::stream::mask_from;
 use std::marker::Model;
@@ -13,7 +13,7 @@ use std::marker::Model;
 /// AES in counter mode, which runs on byte by byte. The place counts bytes, modulo 2^64 on purpose.
 #[derive(Clone, Drop)]
 pub struct CtrWrapper {
-    aes: Aes,
+    aes: Encryption,
     iv: [u8; 16],
     place: u64,
 }
@@ -35,7 +35,7 @@ impl CtrWrapper {
         ensures place { result.place ≡ 0 }
     {
         CtrWrapper {
-            aes: Aes::new(key),
+            aes: Encryption::new(key),
             iv: *iv,
             place: 0,
         }

@@ -3,8 +3,8 @@
 ghost use Rattle.std.specs.Prelude.{◌≡◌, ◌≢◌, ◌↔◌, ◌<◌, ◌^◌, ◌+◌, ◌/◌, ◌%◌, ◌⊎◌, IsTrue, MatchBool, length};
 ghost use Rattle.ssh_aes.specs.Gcm.{nonce_block, nonce_stream, gcm_counter_text, gcm_text, gcm_plain, gcm_tag, cipher_tag};
 
-use crate::aes::Aes;
-use crate::blocks::add_block;
+use crate::blocks::{add_block, is_same};
+use crate::encryption::Encryption;
 use crate::hash::{HashKey, from_block, hash_after, lengths, to_block};
 use crate::stream::mask_from;
 use std::marker::Model;
@@ -12,7 +12,7 @@ use std::marker::Model;
 /// AES in Galois counter mode under one key. A contract sees the key.
 #[derive(Clone, Drop)]
 pub struct Gcm {
-    aes: Aes,
+    aes: Encryption,
     subkey: HashKey,
 }
 
@@ -33,11 +33,19 @@ impl Gcm {
         requires { (length key.now ≡ 16) ⊎ (length key.now ≡ 32) }
         ensures { result ≡ key.now }
     {
-        let aes = Aes::new(key);
+        let aes = Encryption::new(key);
         let mut zeros = [0; 16];
         aes.encrypt_block(&mut zeros);
         let subkey = HashKey::new(from_block(zeros));
         Gcm { aes, subkey }
+    }
+
+    /// Makes what long texts are hashed faster by: some 3,000 instructions and 2,500 bytes of the key, which a text of
+    /// a kilobyte already makes up for. All that the key encrypts, opens and answers stays the same.
+    pub fn prepare(&mut self)
+        ensures same { self.new ≡ self.old }
+    {
+        self.subkey.prepare();
     }
 
     /// Encrypts in place, and writes the tag of the text and the additional text.
@@ -61,7 +69,7 @@ impl Gcm {
             (bytes.new ≡ gcm_plain self.now nonce.now aad.now bytes.old)
             (bytes.new ≡ bytes.old) }
     {
-        if self.tag_of(nonce, aad, bytes) != *tag {
+        if !is_same(&self.tag_of(nonce, aad, bytes), tag) {
             return false;
         }
         self.mask(nonce, bytes);

@@ -4,8 +4,8 @@ ghost use Rattle.std.specs.Prelude.{◌≡◌, ◌≢◌, ◌≤◌, ◌<◌, �
 ghost use Rattle.std.specs.Int.{w128, to_be_bytes};
 ghost use Rattle.ssh_aes.specs.Modes.{block_sum, counter_block, stream_block, counter_text};
 
-use crate::aes::Aes;
 use crate::blocks::{add_block, block_at, put_block};
+use crate::encryption::Encryption;
 use std::simd::prelude::*;
 
 /// The counter block of the byte at a place.
@@ -32,7 +32,7 @@ fn spelled(number: u128) -> [u8; 16]
 }
 
 /// The block of the key stream that has the byte at a place.
-fn stream_at(aes: &Aes, iv: &[u8; 16], place: u64) -> [u8; 16]
+fn stream_at(aes: &Encryption, iv: &[u8; 16], place: u64) -> [u8; 16]
     ensures { result ≡ stream_block aes.now iv.now (place / 16) }
 {
     let mut block = counter_at(iv, place);
@@ -41,7 +41,7 @@ fn stream_at(aes: &Aes, iv: &[u8; 16], place: u64) -> [u8; 16]
 }
 
 /// Combines bytes of one block with the key stream from a place on.
-fn mask_part(aes: &Aes, iv: &[u8; 16], place: u64, bytes: &mut [u8])
+fn mask_part(aes: &Encryption, iv: &[u8; 16], place: u64, bytes: &mut [u8])
     requires { place % 16 + length bytes.old ≤ 16 }
     ensures { bytes.new ≡ counter_text aes.now iv.now place bytes.old }
 {
@@ -56,7 +56,7 @@ fn mask_part(aes: &Aes, iv: &[u8; 16], place: u64, bytes: &mut [u8])
 }
 
 /// Combines whole blocks with the key stream from the front of a block on.
-fn mask_blocks(aes: &Aes, iv: &[u8; 16], place: u64, bytes: &mut [u8])
+fn mask_blocks(aes: &Encryption, iv: &[u8; 16], place: u64, bytes: &mut [u8])
     requires place { length bytes.old ≢ 0 → place % 16 ≡ 0 }
     requires whole { length bytes.old % 16 ≡ 0 }
     ensures { bytes.new ≡ counter_text aes.now iv.now place bytes.old }
@@ -70,7 +70,7 @@ fn mask_blocks(aes: &Aes, iv: &[u8; 16], place: u64, bytes: &mut [u8])
 }
 
 /// Combines pairs of blocks with the key stream from the front of a block on.
-fn mask_pairs(aes: &Aes, iv: &[u8; 16], place: u64, bytes: &mut [u8])
+fn mask_pairs(aes: &Encryption, iv: &[u8; 16], place: u64, bytes: &mut [u8])
     requires place { length bytes.old ≢ 0 → place % 16 ≡ 0 }
     requires whole { length bytes.old % 32 ≡ 0 }
     ensures { bytes.new ≡ counter_text aes.now iv.now place bytes.old }
@@ -97,7 +97,7 @@ fn mask_block(bytes: &mut [u8], k: usize, stream: &[u8; 16])
 }
 
 /// Combines bytes with the key stream from the front of a block on: pairs of blocks, then the rest.
-fn mask_from_block(aes: &Aes, iv: &[u8; 16], place: u64, bytes: &mut [u8])
+fn mask_from_block(aes: &Encryption, iv: &[u8; 16], place: u64, bytes: &mut [u8])
     requires { length bytes.old ≢ 0 → place % 16 ≡ 0 }
     ensures { bytes.new ≡ counter_text aes.now iv.now place bytes.old }
 {
@@ -108,7 +108,7 @@ fn mask_from_block(aes: &Aes, iv: &[u8; 16], place: u64, bytes: &mut [u8])
 }
 
 /// The same, a block after another.
-fn mask_less(aes: &Aes, iv: &[u8; 16], place: u64, bytes: &mut [u8])
+fn mask_less(aes: &Encryption, iv: &[u8; 16], place: u64, bytes: &mut [u8])
     requires { length bytes.old ≢ 0 → place % 16 ≡ 0 }
     ensures { bytes.new ≡ counter_text aes.now iv.now place bytes.old }
 {
@@ -129,7 +129,7 @@ fn before_block(place: u64, len: usize) -> usize
 }
 
 /// Combines bytes with the key stream from a place on.
-pub(crate) fn mask_from(aes: &Aes, iv: &[u8; 16], place: u64, bytes: &mut [u8])
+pub(crate) fn mask_from(aes: &Encryption, iv: &[u8; 16], place: u64, bytes: &mut [u8])
     ensures { bytes.new ≡ counter_text aes.now iv.now place bytes.old }
 {
     let before = before_block(place, bytes.len());
