@@ -37,7 +37,11 @@ fn main(rt: HostRuntime) -> io::Result<()> {
         "cbc" => {
             let _cipher = run(CbcWrapper::new(&key, &[0; 16]), &mut message, count);
         },
-        _ => seal(&Gcm::new(&key), &mut message, count),
+        _ => {
+            let mut gcm = Gcm::new(&key);
+            gcm.prepare();
+            seal(&gcm, &mut message, count);
+        },
     }
     println!(rt; "{}", message[0])?;
     Ok(())

@@ -21,6 +21,19 @@ fn step(nonce: &mut [u8; 12])
     nonce.copy_from_slice(&next.to_be_bytes()[4..]);
 }
 
+/// The shortest text that a key is prepared for. A preparation takes about as many instructions as it saves in
+/// 700 bytes of text, so from here on one or two texts make up for it; keys that see short texts alone stay small in cost.
+const LONG_TEXT: usize = 512;
+
+/// Prepares a key before its first long text.
+fn prepare_for(cipher: &mut Gcm, text: &[u8])
+    ensures same { cipher.new ≡ cipher.old }
+{
+    if text.len() >= LONG_TEXT {
+        cipher.prepare();
+    }
+}
+
 /// Seals under the packet length as additional text.
 #[derive(Drop)]
 pub struct SealingKey {
@@ -59,6 +72,7 @@ impl cipher::SealingKey for SealingKey {
     fn seal(&mut self, _seqn: u32, plaintext_in_ciphertext_out: &mut [u8], tag_out: &mut [u8]) {
         let (head, body) = plaintext_in_ciphertext_out.split_at_mut(4);
         let mut tag = [0; 16];
+        prepare_for(&mut self.cipher, body);
         self.cipher.seal(&self.nonce, head, body, &mut tag);
         tag_out.copy_from_slice(&tag);
         step(&mut self.nonce);
@@ -113,6 +127,7 @@ impl cipher::OpeningKey for OpeningKey {
         let mut given = [0; 16];
         given.copy_from_slice(tag);
         let (head, body) = packet.split_at_mut(4);
+        prepare_for(&mut self.cipher, body);
         if !self.cipher.open(&self.nonce, head, body, &given) {
             return Err(OpenError::DecryptionError);
         }
