@@ -32,7 +32,9 @@ pub(crate) fn add_block(sum: &mut [u8; 16], other: &[u8; 16])
     }
 }
 
-/// Whether two blocks are equal. Every byte of both is looked at, whatever the bytes are.
+/// Whether two blocks are equal. Every byte of both is looked at, whatever the bytes are. It stays a function of its
+/// own, so that its machine code can be looked at.
+#[inline(never)]
 pub(crate) fn is_same(one: &[u8; 16], other: &[u8; 16]) -> bool
     ensures { IsTrue result ↔ other.now ≡ one.now }
 {
