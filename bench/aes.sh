@@ -3,11 +3,13 @@
 # Encrypts messages of 32 KiB under a key of 32 bytes by each mode of ssh_aes for about two seconds, and by
 # OpenSSL with its AES and carry-less product instructions switched off, and prints bytes per second of both.
 # Where valgrind is installed, it also prints how many instructions ssh_aes runs for each byte of 1 MiB, less
-# what a run of no message takes. Needs rt (once, to build crates/speed_aes), openssl and python3.
+# what a run of no message takes. Then it lists the conditional jumps and the indexed loads of each function of
+# ssh_aes in the machine code, as bench/machine_code.py says, and fails where one depends on something loaded that
+# isn't allowed there. Needs rt (once, to build crates/speed_aes and crates/speed_packets), openssl, objdump and python3.
 set -eu
 # shellcheck source=bench/begin.sh
 . "$(dirname "$0")/begin.sh"
-build speed_aes
+build speed_aes speed_packets
 python3 - crates/speed_aes/out/speed_aes <<'PYTHON'
 import os, re, subprocess, sys, time
 
@@ -47,3 +49,5 @@ print(f"{'mode':6}{'ssh_aes':>16}{'openssl':>16}   bytes per second{'':6}instruc
 for mode in ("ctr", "cbc", "gcm"):
     print(f"{mode:6}{speed(mode):16,.0f}{openssl(mode):16,.0f}{shown(each(mode)):>44}")
 PYTHON
+echo
+python3 bench/machine_code.py crates/speed_aes/out/speed_aes crates/speed_packets/out/speed_packets
