@@ -123,13 +123,14 @@ fn galois_counter_mode(row: &Row<'_>, found: &Found) -> Result<(), Fault> {
     if !is_gcm_key(key) {
         return Err(Fault::Malformed);
     }
-    run_gcm(&Gcm::new(key), &nonce, aad, text, found)
+    run_gcm(&mut Gcm::new(key), &nonce, aad, text, found)
 }
 
-/// The encrypted text and the tag. `taken` where a changed tag is accepted, `changed` where the text isn't then as it
+/// The encrypted text and the tag. `prepared` where a key that is prepared for long texts makes another of these. The
+/// rest is by such a key: `taken` where a changed tag is accepted, `changed` where the text isn't then as it
 /// came, `refused` where the tag isn't accepted, and `back` with what the text decrypts to where that is another.
 fn run_gcm(
-    gcm: &Gcm,
+    gcm: &mut Gcm,
     nonce: &[u8; 12],
     aad: &[u8],
     text: &[u8],
@@ -144,6 +145,12 @@ fn run_gcm(
     let sealed = Vec::from_slice(found.alloc(), bytes.as_slice())?;
     found.say_bytes(sealed.as_slice());
     found.say_bytes(&tag);
+    let mut again = Vec::from_slice(found.alloc(), text)?;
+    let mut same = [0; 16];
+    gcm.prepare();
+    gcm.seal(nonce, aad, again.as_mut_slice(), &mut same);
+    say_other(found, "prepared", again.as_slice(), sealed.as_slice());
+    say_other(found, "prepared", &same, &tag);
     tag[15] ^= 1;
     if gcm.open(nonce, aad, bytes.as_mut_slice(), &tag) {
         found.say("taken");
