@@ -1,28 +1,27 @@
 #!/usr/bin/env bash
 # Usage: bench/aes.sh
-# Encrypts messages of 32 KiB under a key of 32 bytes by each mode of ssh_aes for about two seconds, and by
-# OpenSSL with its AES and carry-less product instructions switched off, and prints bytes per second of both.
-# Where valgrind is installed, it also prints how many instructions ssh_aes runs for each byte of 1 MiB, less
-# what a run of no message takes. Then it lists the conditional jumps and the indexed loads of each function of
-# ssh_aes in the machine code, as bench/machine_code.py says, and fails where one depends on something loaded that
-# isn't allowed there. Needs rt (once, to build crates/speed_aes and crates/speed_packets), openssl, objdump and python3.
+# Encrypts messages of 32 KiB under a key of 32 bytes by each mode of ssh_aes for about two seconds, and by OpenSSL with
+# its AES and carry-less product instructions switched off, and prints bytes per second of processor time of both. If
+# valgrind is installed, it also prints how many instructions ssh_aes runs for each byte of 1 MiB, less what a run of no
+# message takes. Then it lists the conditional jumps and the indexed loads of each function of ssh_aes in the machine
+# code, as bench/machine_code.py says, and fails if one depends on something loaded and has no reason there. Needs rt
+# (once, to build crates/speed_aes and crates/speed_packets), openssl, objdump and python3.
 set -eu
 # shellcheck source=bench/begin.sh
 . "$(dirname "$0")/begin.sh"
 build speed_aes speed_packets
 python3 - crates/speed_aes/out/speed_aes <<'PYTHON'
-import os, re, subprocess, sys, time
+import os, re, subprocess, sys
 
-from measuring import instructions, shown
+from measuring import instructions, least, shown
 
 program = sys.argv[1]
 plain = dict(os.environ, OPENSSL_ia32cap="~0x200000200000000")
 
 
 def seconds(mode, count):
-    start = time.perf_counter()
-    subprocess.run([program, mode, str(count)], check=True, stdout=subprocess.DEVNULL)
-    return time.perf_counter() - start
+    """Seconds of processor time."""
+    return least([program, mode, count], times=1)[1]
 
 
 def speed(mode):
@@ -34,7 +33,7 @@ def speed(mode):
 
 
 def openssl(mode):
-    words = ["openssl", "speed", "-elapsed", "-seconds", "2", "-bytes", "32768", "-evp", "aes-256-" + mode]
+    words = ["openssl", "speed", "-seconds", "2", "-bytes", "32768", "-evp", "aes-256-" + mode]
     written = subprocess.run(words, env=plain, capture_output=True, text=True, check=True).stdout
     return 1000 * float(re.search(r"([0-9.]+)k\s*$", written).group(1))
 

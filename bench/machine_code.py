@@ -171,7 +171,7 @@ def listed(code):
 
 def main(programs):
     status = 0
-    print(f"{'function':52}{'jumps':>6}{'indexes':>8}{'loaded':>8}")
+    print(f"{'function':56}{'jumps':>6}{'indexes':>8}{'loaded':>8}")
     seen = {}
     for program in programs:
         for name, code in functions_of(program).items():
@@ -181,7 +181,7 @@ def main(programs):
         print(f"{name}: not in the programs, so this looked at too little")
     for name, (jumps, indexes, depends) in sorted(seen.items()):
         allowed, reason = REASONS.get(name, (0, ""))
-        print(f"{name:52}{jumps:6}{indexes:8}{len(depends):8}  {reason}")
+        print(f"{name:56}{jumps:6}{indexes:8}{len(depends):8}  {reason}")
         if len(depends) > allowed:
             status = 1
             for place, word, operands in depends:

@@ -1,7 +1,8 @@
 #!/usr/bin/env bash
 # Usage: bench/packets.sh
-# Seals payloads of 64 bytes and of 32 KiB under each kind of key for about a second, and opens them, and prints
-# the payload bytes per second of both. Opening is what a run that seals and opens takes longer than one that seals.
+# Seals payloads of 64 bytes and of 32 KiB under each kind of key for about a second, and opens them, and prints the
+# payload bytes per second of processor time of both. Opening is what a run that seals and opens takes longer than one
+# that seals.
 # Beside them it prints the bytes per second of OpenSSL's cipher and then its HMAC over as many bytes, with its AES
 # and carry-less product instructions switched off; and, where valgrind is installed, how many instructions sealing
 # and opening run for each byte of 1 MiB, less what a run of no packet takes. Needs rt (once, to build
@@ -11,9 +12,9 @@ set -eu
 . "$(dirname "$0")/begin.sh"
 build speed_packets
 python3 - crates/speed_packets/out/speed_packets <<'PYTHON'
-import functools, os, re, subprocess, sys, time
+import functools, os, re, subprocess, sys
 
-from measuring import instructions, shown
+from measuring import instructions, least, shown
 
 program = sys.argv[1]
 plain = dict(os.environ, OPENSSL_ia32cap="~0x200000200000000")
@@ -28,12 +29,12 @@ kinds = [
 
 
 def seconds(kind, how, length, count):
-    start = time.perf_counter()
+    """Seconds of processor time."""
     words = [program, *kind, how, str(length), str(count)]
-    written = subprocess.run(words, check=True, capture_output=True, text=True).stdout
-    if written.strip() != str(length * count):
+    written, spent, _ = least(words, times=1)
+    if written.decode().strip() != str(length * count):
         sys.exit(f"{' '.join(words)}: {written}")
-    return time.perf_counter() - start
+    return spent
 
 
 def speeds(kind, length):
@@ -49,7 +50,7 @@ def speeds(kind, length):
 
 @functools.cache
 def openssl_time(length, *words):
-    words = ["openssl", "speed", "-elapsed", "-seconds", "1", "-bytes", str(length), *words]
+    words = ["openssl", "speed", "-seconds", "1", "-bytes", str(length), *words]
     written = subprocess.run(words, env=plain, capture_output=True, text=True, check=True).stdout
     return 0.001 / float(re.search(r"([0-9.]+)k\s*$", written).group(1))
 
