@@ -1,10 +1,12 @@
-"""What jumps and where loads go in the machine code of AES and GHASH.
+"""Usage: bench/machine_code.py PROGRAM..
+Lists what the machine code of AES and GHASH jumps and loads by, in programs that are built over ssh_aes.
 
-A function is followed instruction by instruction, along every jump. Loaded is what was read from memory, or moved out of
-a vector, and all that is computed of it; what a caller passed in a register, and what is kept on the stack of these, isn't.
-Listed are the conditional jumps, the loads and stores at an index, and those of both that depend on something loaded.
-These are allowed by `REASONS` alone. This reads what the compiler made, and proves nothing: what a function that was
-inlined into another crate's became isn't looked at, and an instruction may take more or less time by what it works on."""
+A function is followed instruction by instruction, along every jump. Loaded is what was read from memory, moved out of a
+vector, or passed as a polynomial, and all that is computed of it. Pointers and lengths that a caller passed aren't, nor
+is what the stack keeps of these. Listed are the conditional jumps, the loads and stores at an index, and those of both
+that depend on something loaded. These are allowed by `REASONS` alone. This reads what the compiler made, and proves
+nothing: what a function became that was inlined into another crate's isn't looked at, and an instruction may take more
+or less time by what it works on."""
 
 import re
 import subprocess
@@ -19,8 +21,16 @@ REASONS = {
     "ssh_aes::stream::mask_from": (3, "the number of rounds, which the key's length gives"),
 }
 
+# The registers in which a function is passed a polynomial.
+PASSED = {
+    "ssh_aes::factors::Factor::new": ["rsi", "rdx"],
+    "ssh_aes::factors::Factor::product": ["rsi", "rdx"],
+    "ssh_aes::hash::hash_after": ["rsi", "rdx"],
+    "ssh_aes::hash::ones_after": ["rsi", "rdx"],
+}
+
 NAMES = {}
-for number, names in enumerate(
+for names in (
     ["rax eax ax al ah", "rbx ebx bx bl bh", "rcx ecx cx cl ch", "rdx edx dx dl dh", "rsi esi si sil", "rdi edi di dil",
      "rbp ebp bp bpl", "rsp esp sp spl"] + [f"r{i} r{i}d r{i}w r{i}b" for i in range(8, 16)]):
     for name in names.split():
@@ -134,10 +144,10 @@ class State:
         (self.loaded.add if depends else self.loaded.discard)("flags")
 
 
-def listed(code):
+def listed(name, code):
     """How many conditional jumps and indexes a function has, and which of them depend on something loaded."""
     at = {place: index for index, (place, _, _) in enumerate(code)}
-    states, waiting = {0: State()}, [0]
+    states, waiting = {0: State(PASSED.get(name, ()))}, [0]
     while waiting:
         index = waiting.pop()
         _, word, operands = code[index]
@@ -170,13 +180,16 @@ def listed(code):
 
 
 def main(programs):
+    if programs in ([], ["--help"]):
+        print(__doc__)
+        return 0 if programs else 2
     status = 0
     print(f"{'function':56}{'jumps':>6}{'indexes':>8}{'loaded':>8}")
     seen = {}
     for program in programs:
         for name, code in functions_of(program).items():
-            seen.setdefault(name, listed(code))
-    for name in REASONS.keys() - seen.keys():
+            seen.setdefault(name, listed(name, code))
+    for name in (REASONS.keys() | PASSED.keys()) - seen.keys():
         status = 1
         print(f"{name}: not in the programs, so this looked at too little")
     for name, (jumps, indexes, depends) in sorted(seen.items()):

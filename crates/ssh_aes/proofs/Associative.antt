@@ -8,7 +8,6 @@ use Rattle.std.proofs.lemmas.Nat.{xor_lt, pow_pos}
 use Rattle.std.proofs.lemmas.Bool.{cases_lt}
 use Rattle.ssh_aes.specs.Field.{polynomial_product, product_modulo, remainder, times_x, block_modulus, block_product}
 use Rattle.ssh_aes.proofs.Polynomials.{product_sum, remainder-sum, remainder-small, times_x-low, times_x-high, reduced-times_x}
-use Rattle.ssh_aes.specs.Halves.{sum4}
 use Rattle.ssh_aes.proofs.Additive.{IsAdditive, additive-after, agree}
 use Rattle.ssh_aes.proofs.Products.{product_sum_left, product-doubled, product-doubled_left, product-none}
 
@@ -117,25 +116,12 @@ associates s a b h l m n =
     (additive-after (λ u. block_product u b) (λ u. block_product u a) (additive-factor b) (additive-factor a)) (additive-factor (block_product a b))
     (λ i k. power_associates i a b k l m n) s h
 
--- ---- four blocks at once
+-- ---- two blocks at once
 
--- four steps of the hash by four powers of the key
-pub four_steps : (s e1 e2 e3 h h2 h3 h4 : ℕ) → s < 2 ^ 128 → e1 < 2 ^ 128 → e2 < 2 ^ 128 → h < 2 ^ 128 → h2 < 2 ^ 128 → h3 < 2 ^ 128 → h4 < 2 ^ 128
-    → h2 ≡ block_product h h → h3 ≡ block_product h2 h → h4 ≡ block_product h3 h
-    → block_product (bit_xor (block_product (bit_xor (block_product (bit_xor (block_product s h) e1) h) e2) h) e3) h
-    ≡ sum4 (block_product s h4) (block_product e1 h3) (block_product e2 h2) (block_product e3 h)
-four_steps s e1 e2 e3 h h2 h3 h4 l0 l1 l2 k k2 k3 k4 p2 p3 p4 =
+-- two steps of the hash by the key and its square
+pub two_steps : (s e h h2 : ℕ) → s < 2 ^ 128 → h < 2 ^ 128 → h2 < 2 ^ 128 → h2 ≡ block_product h h
+    → block_product (bit_xor (block_product s h) e) h ≡ bit_xor (block_product s h2) (block_product e h)
+two_steps s e h h2 l k k2 p2 =
     let f = λ (u : ℕ). block_product u h in
-    let add = λ (a b : ℕ). (additive-factor h).sums a b in
-    let to2 = λ (u : ℕ) (l : u < 2 ^ 128). associates u h h l k k (subst (λ n. n < 2 ^ 128) p2 k2) ∙ ap (block_product u) (sym p2) in
-    let to3 = λ (u : ℕ) (l : u < 2 ^ 128). associates u h2 h l k2 k (subst (λ n. n < 2 ^ 128) p3 k3) ∙ ap (block_product u) (sym p3) in
-    let to4 = λ (u : ℕ) (l : u < 2 ^ 128). associates u h3 h l k3 k (subst (λ n. n < 2 ^ 128) p4 k4) ∙ ap (block_product u) (sym p4) in
-    let one : f (bit_xor (f s) e1) ≡ bit_xor (block_product s h2) (f e1) = add (f s) e1 ∙ ap (λ n. bit_xor n (f e1)) (to2 s l0) in
-    let two : f (bit_xor (bit_xor (block_product s h2) (f e1)) e2) ≡ bit_xor (bit_xor (block_product s h3) (block_product e1 h2)) (f e2) =
-    add (bit_xor (block_product s h2) (f e1)) e2 ∙ ap (λ n. bit_xor n (f e2)) (add (block_product s h2) (f e1) ∙ ap (λ n. bit_xor n (f (f e1))) (to3 s l0) ∙ ap (bit_xor (block_product s h3)) (to2 e1 l1)) in
-    let a = block_product s h3 in
-    let b = block_product e1 h2 in
-    let three : f (bit_xor (bit_xor (bit_xor a b) (f e2)) e3) ≡ sum4 (block_product s h4) (block_product e1 h3) (block_product e2 h2) (f e3) =
-    add (bit_xor (bit_xor a b) (f e2)) e3
-    ∙ ap (λ n. bit_xor n (f e3)) (add (bit_xor a b) (f e2) ∙ ap (λ n. bit_xor n (f (f e2))) (add a b ∙ ap (λ n. bit_xor n (f b)) (to4 s l0) ∙ ap (bit_xor (block_product s h4)) (to3 e1 l1)) ∙ ap (bit_xor (bit_xor (block_product s h4) (block_product e1 h3))) (to2 e2 l2)) in
-    ap (λ n. f (bit_xor (f (bit_xor n e2)) e3)) one ∙ ap (λ n. f (bit_xor n e3)) two ∙ three
+    (additive-factor h).sums (f s) e
+    ∙ ap (λ n. bit_xor n (f e)) (associates s h h l k k (subst (λ n. n < 2 ^ 128) p2 k2) ∙ ap (block_product s) (sym p2))

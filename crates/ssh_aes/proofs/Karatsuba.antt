@@ -5,7 +5,7 @@ use Rattle.std.specs.Int.Bits.{xor_self, xor_zero_l, xor_zero_r, xor_assoc}
 use Rattle.std.proofs.lemmas.Nat.{xor_block, xor_comm, xor_lt}
 use Rattle.ssh_aes.specs.Field.{polynomial_product}
 use Rattle.ssh_aes.proofs.Polynomials.{product_sum, xor_across}
-use Rattle.ssh_aes.specs.Halves.{sum4, put_together}
+use Rattle.ssh_aes.specs.Halves.{put_together}
 use Rattle.ssh_aes.proofs.Additive.{xor_parts, xor_shl}
 use Rattle.ssh_aes.proofs.Products.{product_sum_left, product-short, product-by_16, product-by_16_left}
 
@@ -120,7 +120,7 @@ by_256 a b =
     let y : b * 2 ^ 8 ≡ 256 * b = omega arith in
     e ∙ xor_shl 8 a b ∙ ap (λ u. bit_xor u (b * 2 ^ 8)) x ∙ ap (bit_xor (256 * a)) y
 
-put_together-sum : (l h b l2 h2 b2 : ℕ) → put_together (bit_xor l l2) (bit_xor h h2) (bit_xor b b2) ≡ bit_xor (put_together l h b) (put_together l2 h2 b2)
+pub put_together-sum : (l h b l2 h2 b2 : ℕ) → put_together (bit_xor l l2) (bit_xor h h2) (bit_xor b b2) ≡ bit_xor (put_together l h b) (put_together l2 h2 b2)
 put_together-sum l h b l2 h2 b2 =
     let m = bit_xor (bit_xor b l) h in
     let n = bit_xor (bit_xor b2 l2) h2 in
@@ -131,8 +131,3 @@ put_together-sum l h b l2 h2 b2 =
     ∙ ap (λ u. bit_xor (bit_xor (bit_xor l l2) (bit_xor (16 * m) (16 * n))) u) (by_256 h h2)
     ∙ ap (λ u. bit_xor u (bit_xor (256 * h) (256 * h2))) (xor_across l l2 (16 * m) (16 * n))
     ∙ xor_across (bit_xor l (16 * m)) (bit_xor l2 (16 * n)) (256 * h) (256 * h2)
-
-pub put_together-four : (l0 l1 l2 l3 h0 h1 h2 h3 b0 b1 b2 b3 : ℕ) → put_together (sum4 l0 l1 l2 l3) (sum4 h0 h1 h2 h3) (sum4 b0 b1 b2 b3) ≡ sum4 (put_together l0 h0 b0) (put_together l1 h1 b1) (put_together l2 h2 b2) (put_together l3 h3 b3)
-put_together-four l0 l1 l2 l3 h0 h1 h2 h3 b0 b1 b2 b3 =
-    put_together-sum (bit_xor (bit_xor l0 l1) l2) (bit_xor (bit_xor h0 h1) h2) (bit_xor (bit_xor b0 b1) b2) l3 h3 b3
-    ∙ ap (λ u. bit_xor u (put_together l3 h3 b3)) (put_together-sum (bit_xor l0 l1) (bit_xor h0 h1) (bit_xor b0 b1) l2 h2 b2 ∙ ap (λ u. bit_xor u (put_together l2 h2 b2)) (put_together-sum l0 h0 b0 l1 h1 b1))

@@ -40,6 +40,6 @@ pub mod Divided
 pub mod Reversed
 pub mod RowsWritten
 pub mod Associative
-pub mod Fours
-pub mod Powers
+pub mod Pairs
+pub mod Squares
 pub mod Lemmas

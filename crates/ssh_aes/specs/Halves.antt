@@ -20,7 +20,8 @@ row_of h = bytes_by 16 (λ j. polynomial_product 8 j h)
 -- the rows of sixteen halves
 pub record AreRows (halves rows : List ℕ) : Type 0 where
   pub fit : AreHalves halves
-  pub entries : (i j : ℕ) → i < 16 → j < 16 → slice_index rows (16 * i + j) ≡ polynomial_product 8 j (slice_index halves i)
+  pub entries : (i j : ℕ) → i < 16 → j < 16
+      → slice_index rows (16 * i + j) ≡ polynomial_product 8 j (slice_index halves i)
 
 -- a key in its low halves, its high halves, and their sum
 pub record AreParts (key low high both : ℕ) : Type 0 where
@@ -29,25 +30,11 @@ pub record AreParts (key low high both : ℕ) : Type 0 where
   pub low_short : low < 2 ^ 124
   pub high_short : high < 2 ^ 124
 
--- the sum of four
-abbrev pub sum4 : (a b c d : ℕ) → ℕ
-sum4 a b c d = bit_xor (bit_xor (bit_xor a b) c) d
-
 -- the product of a number low + x^4 high with another of that form, from the products of the low parts, of the high
 -- parts, and of the sums of both (Karatsuba)
 abbrev pub put_together : (low high both : ℕ) → ℕ
 put_together low high both = bit_xor (bit_xor low (16 * bit_xor (bit_xor both low) high)) (256 * high)
 
--- four steps of the hash (SP 800-38D section 6.4), the first from the sum a
-abbrev pub four_products : (h a b c d : ℕ) → ℕ
-four_products h a b c d = block_product (bit_xor (block_product (bit_xor (block_product (bit_xor (block_product a h) b) h) c) h) d) h
-
--- the second, the third and the fourth power of a key
-pub record ArePowers (key second third fourth : ℕ) : Type 0 where
-  pub second_is : second ≡ block_product key key
-  pub third_is : third ≡ block_product second key
-  pub fourth_is : fourth ≡ block_product third key
-  pub key_short : key < 2 ^ 128
-  pub second_short : second < 2 ^ 128
-  pub third_short : third < 2 ^ 128
-  pub fourth_short : fourth < 2 ^ 128
+-- two steps of the hash (SP 800-38D section 6.4), the first from the sum a
+abbrev pub two_products : (h a b : ℕ) → ℕ
+two_products h a b = block_product (bit_xor (block_product a h) b) h

@@ -26,11 +26,15 @@ read_parts first second i j = bit_xor (read_at first i) (read_at second j)
 -- the two places of a byte's inverse
 unfoldable pub first_place : ℕ → ℕ
 first_place b =
-    bit_xor (read_at INVERSES (bit_xor (read_at INVERSES (b / 16)) (read_at RATIOS (b % 16)))) (bit_xor (b % 16) (b / 16))
+    bit_xor
+    (read_at INVERSES (bit_xor (read_at INVERSES (b / 16)) (read_at RATIOS (b % 16))))
+    (bit_xor (b % 16) (b / 16))
 
 unfoldable pub second_place : ℕ → ℕ
 second_place b =
-    bit_xor (read_at INVERSES (bit_xor (read_at INVERSES (bit_xor (b % 16) (b / 16))) (read_at RATIOS (b % 16)))) (b / 16)
+    bit_xor
+    (read_at INVERSES (bit_xor (read_at INVERSES (bit_xor (b % 16) (b / 16))) (read_at RATIOS (b % 16))))
+    (b / 16)
 
 -- what two tables give at the places of a byte's inverse
 abbrev pub by_places : List ℕ → List ℕ → ℕ → ℕ

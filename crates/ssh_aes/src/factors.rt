@@ -1,9 +1,9 @@
 //! Products of polynomials in the field of GHASH (SP 800-38D section 6.3), and what is held of a factor that many
 //! others are multiplied by. No place in memory and no branch depends on a polynomial.
 
-ghost use Rattle.std.specs.Prelude.{◌≡◌, ◌<◌, ◌^◌, ◌+◌, ◌*◌};
+ghost use Rattle.std.specs.Prelude.{◌≡◌, ◌<◌, ◌^◌, ◌+◌, ◌*◌, bit_xor};
 ghost use Rattle.ssh_aes.specs.Field.{block_modulus, block_product, remainder};
-ghost use Rattle.ssh_aes.specs.Halves.{put_together, sum4, four_products};
+ghost use Rattle.ssh_aes.specs.Halves.{put_together, two_products};
 
 use crate::multiples::{Multiples, halves, sum_of_products};
 use std::marker::Model;
@@ -70,6 +70,13 @@ impl Factor {
         }
     }
 
+    /// The product with itself.
+    pub(crate) fn square(&self) -> Factor
+        ensures { result ≡ block_product self.now self.now }
+    {
+        Factor::new(self.product(self.whole))
+    }
+
     /// The product with another polynomial.
     pub(crate) fn product(&self, a: u128) -> u128
         ensures { result ≡ block_product a self.now }
@@ -83,75 +90,25 @@ impl Factor {
     }
 }
 
-/// The sum of four products, which share the shifts and the reduction.
-fn sum_of_four(
-    w: &Factor,
-    x: &Factor,
-    y: &Factor,
-    z: &Factor,
-    terms: (u128, u128, u128, u128),
-) -> u128
-    ensures { result
-        ≡ sum4 (block_product terms.0 w.now) (block_product terms.1 x.now) (block_product terms.2 y.now) (block_product terms.3 z.now) }
+/// The sum of two products, which share the shifts and the reduction.
+fn sum_of_two(w: &Factor, x: &Factor, a: u128, b: u128) -> u128
+    ensures sum { result ≡ bit_xor (block_product a w.now) (block_product b x.now) }
+    ensures first_short { w.now < 2 ^ 128 }
+    ensures second_short { x.now < 2 ^ 128 }
 {
-    let (a, b, c, d) = terms;
     let (l0, h0) = halves(a);
     let (l1, h1) = halves(b);
-    let (l2, h2) = halves(c);
-    let (l3, h3) = halves(d);
     joined(
-        sum_of_products(&w.low, &x.low, &y.low, &z.low, (l0, l1, l2, l3)),
-        sum_of_products(&w.high, &x.high, &y.high, &z.high, (h0, h1, h2, h3)),
-        sum_of_products(
-            &w.both,
-            &x.both,
-            &y.both,
-            &z.both,
-            (l0 ^ h0, l1 ^ h1, l2 ^ h2, l3 ^ h3),
-        ),
+        sum_of_products(&w.low, &x.low, (l0, l1)),
+        sum_of_products(&w.high, &x.high, (h0, h1)),
+        sum_of_products(&w.both, &x.both, (l0 ^ h0, l1 ^ h1)),
     )
 }
 
-/// The second, the third and the fourth power of a key. A contract sees the key.
-#[derive(Clone, Drop)]
-pub(crate) struct Powers {
-    key: u128,
-    second: Factor,
-    third: Factor,
-    fourth: Factor,
-}
-
-impl Model for Powers {
-    ghost use Rattle.std.specs.Prelude.{ℕ};
-    ghost use Rattle.ssh_aes.specs.Halves.{ArePowers};
-
-    ghost Value = { ℕ };
-
-    ghost view = { λ p. p.key };
-
-    ghost invariant = { λ p. ArePowers p.key p.second p.third p.fourth };
-}
-
-impl Powers {
-    pub(crate) fn new(key: &Factor) -> Powers
-        ensures { result ≡ key.now }
-    {
-        let square = key.product(key.whole);
-        let cube = key.product(square);
-        let fourth = key.product(cube);
-        Powers {
-            key: key.whole,
-            second: Factor::new(square),
-            third: Factor::new(cube),
-            fourth: Factor::new(fourth),
-        }
-    }
-
-    /// Four steps of the hash under the key, the first from the sum `a`.
-    pub(crate) fn four_steps(&self, key: &Factor, a: u128, b: u128, c: u128, d: u128) -> u128
-        requires { self.now ≡ key.now }
-        ensures { result ≡ four_products key.now a b c d }
-    {
-        sum_of_four(&self.fourth, &self.third, &self.second, key, (a, b, c, d))
-    }
+/// Two steps of the hash under a key by its square, the first from the sum `a`.
+pub(crate) fn two_steps(key: &Factor, square: &Factor, a: u128, b: u128) -> u128
+    requires { square.now ≡ block_product key.now key.now }
+    ensures { result ≡ two_products key.now a b }
+{
+    sum_of_two(square, key, a, b)
 }

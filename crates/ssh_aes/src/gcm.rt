@@ -40,8 +40,8 @@ impl Gcm {
         Gcm { aes, subkey }
     }
 
-    /// Makes what long texts are hashed faster by: some 3,000 instructions and 2,500 bytes of the key, which a text of
-    /// a kilobyte already makes up for. All that the key encrypts, opens and answers stays the same.
+    /// Makes the square of the hash key, once: by it two blocks of a text are hashed at once. It takes about as many
+    /// instructions as it saves in 240 bytes of text. What the key encrypts, opens and answers stays the same.
     pub fn prepare(&mut self)
         ensures same { self.new ≡ self.old }
     {

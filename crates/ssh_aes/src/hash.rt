@@ -4,11 +4,11 @@
 ghost use Rattle.std.specs.Prelude.{◌≡◌, ◌<◌, ◌≤◌, ◌^◌, ◌+◌, ◌*◌, ◌/◌, ℕ, length, take, drop, bit_xor, slice_index};
 ghost use Rattle.ssh_aes.specs.Field.{block_product};
 ghost use Rattle.ssh_aes.specs.Aes.{bytes_by};
-ghost use Rattle.ssh_aes.specs.Halves.{four_products};
+ghost use Rattle.ssh_aes.specs.Halves.{two_products};
 ghost use Rattle.ssh_aes.specs.Gcm.{element, element_block, hash_of_blocks, padded_blocks, blocks, length_block};
 
 use crate::blocks::block_at;
-use crate::factors::{Factor, Powers};
+use crate::factors::{Factor, two_steps};
 use crate::multiples::reversed;
 use std::marker::Model;
 
@@ -26,21 +26,22 @@ pub(crate) fn to_block(polynomial: u128) -> [u8; 16]
     reversed(polynomial.to_le_bytes())
 }
 
-/// A hash key as a factor, and with its powers once it is prepared. A contract sees the key.
+/// A hash key as a factor, and with its square once it is prepared. A contract sees the key.
 #[derive(Clone, Drop)]
 pub(crate) struct HashKey {
     key: Factor,
-    powers: Option<Powers>,
+    square: Option<Factor>,
 }
 
 impl Model for HashKey {
     ghost use Rattle.std.specs.Prelude.{◌≡◌, ℕ, IfSome};
+    ghost use Rattle.ssh_aes.specs.Field.{block_product};
 
     ghost Value = { ℕ };
 
     ghost view = { λ h. h.key };
 
-    ghost invariant = { λ h. IfSome h.powers (λ p. p ≡ h.key) };
+    ghost invariant = { λ h. IfSome h.square (λ s. s ≡ block_product h.key h.key) };
 }
 
 impl HashKey {
@@ -49,16 +50,16 @@ impl HashKey {
     {
         HashKey {
             key: Factor::new(key),
-            powers: None,
+            square: None,
         }
     }
 
-    /// Makes the powers for long texts, once.
+    /// Makes the square for long texts, once.
     pub(crate) fn prepare(&mut self)
         ensures { self.new ≡ self.old }
     {
-        if self.powers.is_none() {
-            self.powers = Some(Powers::new(&self.key));
+        if self.square.is_none() {
+            self.square = Some(self.key.square());
         }
     }
 
@@ -92,35 +93,32 @@ fn zero_filled_block(bytes: &[u8], at: usize) -> [u8; 16]
     cut
 }
 
-/// The hash with four blocks taken in.
-fn four_after(key: &Factor, powers: &Powers, state: u128, bytes: &[u8], at: usize) -> u128
-    requires powers { powers.now ≡ key.now }
-    requires bytes { at + 64 ≤ length bytes.now }
-    ensures { result ≡ four_products
+/// The hash with two blocks taken in.
+fn two_after(key: &Factor, square: &Factor, state: u128, bytes: &[u8], at: usize) -> u128
+    requires square { square.now ≡ block_product key.now key.now }
+    requires bytes { at + 32 ≤ length bytes.now }
+    ensures { result ≡ two_products
         key.now
         (bit_xor state (element (take 16 (drop at bytes.now))))
-        (element (take 16 (drop (at + 16) bytes.now)))
-        (element (take 16 (drop (at + 32) bytes.now)))
-        (element (take 16 (drop (at + 48) bytes.now))) }
+        (element (take 16 (drop (at + 16) bytes.now))) }
 {
-    powers.four_steps(
+    two_steps(
         key,
+        square,
         state ^ from_block(block_at(bytes, at)),
         from_block(block_at(bytes, at + 16)),
-        from_block(block_at(bytes, at + 32)),
-        from_block(block_at(bytes, at + 48)),
     )
 }
 
-/// The hash with the blocks of fours taken in.
-fn fours_after(key: &Factor, powers: &Powers, state: u128, bytes: &[u8]) -> u128
-    requires powers { powers.now ≡ key.now }
+/// The hash with the blocks of pairs taken in.
+fn pairs_after(key: &Factor, square: &Factor, state: u128, bytes: &[u8]) -> u128
+    requires square { square.now ≡ block_product key.now key.now }
     requires bytes { length bytes.now < 2 ^ 32 }
-    ensures { result ≡ hash_of_blocks key.now state (blocks (4 * (length bytes.now / 64)) bytes.now) }
+    ensures { result ≡ hash_of_blocks key.now state (blocks (2 * (length bytes.now / 32)) bytes.now) }
 {
     let mut hash = state;
-    for k in 0..bytes.len() / 64 {
-        hash = four_after(key, powers, hash, bytes, 64 * k);
+    for k in 0..bytes.len() / 32 {
+        hash = two_after(key, square, hash, bytes, 32 * k);
     }
     hash
 }
@@ -137,23 +135,23 @@ fn ones_after(key: &Factor, state: u128, bytes: &[u8]) -> u128
     hash
 }
 
-/// The hash with the blocks of some bytes taken in, by the powers of the key.
-fn all_after(key: &Factor, powers: &Powers, state: u128, bytes: &[u8]) -> u128
-    requires powers { powers.now ≡ key.now }
+/// The hash with the blocks of some bytes taken in, by the key and its square.
+fn all_after(key: &Factor, square: &Factor, state: u128, bytes: &[u8]) -> u128
+    requires square { square.now ≡ block_product key.now key.now }
     requires bytes { length bytes.now < 2 ^ 32 }
     ensures { result ≡ hash_of_blocks key.now state (padded_blocks bytes.now) }
 {
-    let hash = fours_after(key, powers, state, bytes);
-    ones_after(key, hash, &bytes[bytes.len() / 64 * 64..])
+    let hash = pairs_after(key, square, state, bytes);
+    ones_after(key, hash, &bytes[bytes.len() / 32 * 32..])
 }
 
-/// The hash with the blocks of some bytes taken in: four at once under a key that is prepared.
+/// The hash with the blocks of some bytes taken in: two at once under a key that is prepared.
 pub(crate) fn hash_after(key: &HashKey, state: u128, bytes: &[u8]) -> u128
     requires { length bytes.now < 2 ^ 32 }
     ensures { result ≡ hash_of_blocks key.now state (padded_blocks bytes.now) }
 {
-    match &key.powers {
-        Some(powers) => all_after(&key.key, powers, state, bytes),
+    match &key.square {
+        Some(square) => all_after(&key.key, square, state, bytes),
         None => ones_after(&key.key, state, bytes),
     }
 }

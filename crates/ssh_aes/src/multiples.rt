@@ -1,12 +1,12 @@
 //! Products of polynomials without reduction, half a byte of one at a time. A polynomial is a number: bit i is the
 //! coefficient of x^i. A half's row is read whole, by a permutation, so no place in memory depends on a polynomial.
 
-ghost use Rattle.std.specs.Prelude.{◌≡◌, ◌<◌, ◌≤◌, ◌*◌, ◌+◌, ◌/◌, ◌%◌, ◌^◌, ℕ, length, map, slice_index};
+ghost use Rattle.std.specs.Prelude.{◌≡◌, ◌<◌, ◌≤◌, ◌*◌, ◌+◌, ◌/◌, ◌%◌, ◌^◌, ℕ, length, map, bit_xor, slice_index};
 ghost use lib.Lanes.{chunk, put_chunk};
 ghost use Rattle.std.specs.Int.{w8, w128, to_le_bytes, reverse_bits};
 ghost use Rattle.ssh_aes.specs.Aes.{bytes_by};
 ghost use Rattle.ssh_aes.specs.Field.{polynomial_product};
-ghost use Rattle.ssh_aes.specs.Halves.{AreHalves, number_of, row_of, sum4};
+ghost use Rattle.ssh_aes.specs.Halves.{AreHalves, number_of, row_of};
 
 use std::marker::Model;
 use std::simd::prelude::*;
@@ -156,25 +156,14 @@ impl Multiples {
     }
 }
 
-/// The sum of four products, as its higher and its lower 128 coefficients.
-pub(crate) fn sum_of_products(
-    a: &Multiples,
-    b: &Multiples,
-    c: &Multiples,
-    d: &Multiples,
-    at: (u8x16, u8x16, u8x16, u8x16),
-) -> (u128, u128)
+/// The sum of two products, as its higher and its lower 128 coefficients.
+pub(crate) fn sum_of_products(a: &Multiples, b: &Multiples, at: (u8x16, u8x16)) -> (u128, u128)
     requires first { AreHalves at.0 }
     requires second { AreHalves at.1 }
-    requires third { AreHalves at.2 }
-    requires fourth { AreHalves at.3 }
-    ensures { result.0 * 2 ^ 128 + result.1 ≡ sum4
-        (polynomial_product 128 (number_of at.0) a.now)
-        (polynomial_product 128 (number_of at.1) b.now)
-        (polynomial_product 128 (number_of at.2) c.now)
-        (polynomial_product 128 (number_of at.3) d.now) }
+    ensures { result.0 * 2 ^ 128 + result.1
+        ≡ bit_xor (polynomial_product 128 (number_of at.0) a.now) (polynomial_product 128 (number_of at.1) b.now) }
 {
-    let (w, x, y, z) = at;
+    let (w, x) = at;
     let zero = u8x16::splat(0);
     let mut high = zero;
     let mut low = zero;
@@ -193,8 +182,6 @@ pub(crate) fn sum_of_products(
         );
         low ^= row_at(&a.rows, 240 - 16 * i).swizzle_dyn(w);
         low ^= row_at(&b.rows, 240 - 16 * i).swizzle_dyn(x);
-        low ^= row_at(&c.rows, 240 - 16 * i).swizzle_dyn(y);
-        low ^= row_at(&d.rows, 240 - 16 * i).swizzle_dyn(z);
     }
     (
         u128::from_le_bytes(high.to_array()),

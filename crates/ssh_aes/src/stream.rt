@@ -89,8 +89,9 @@ fn mask_pairs(aes: &Encryption, iv: &[u8; 16], place: u64, bytes: &mut [u8])
 fn mask_block(bytes: &mut [u8], k: usize, stream: &[u8; 16])
     requires { 16 * k + 16 ≤ length bytes.old }
     ensures long { length stream.now ≡ 16 }
-    ensures masked { bytes.new
-        ≡ take (16 * k) bytes.old ++ block_sum (take 16 (drop (16 * k) bytes.old)) stream.now ++ drop (16 * k + 16) bytes.old }
+    ensures masked { bytes.new ≡ take (16 * k) bytes.old
+        ++ block_sum (take 16 (drop (16 * k) bytes.old)) stream.now
+        ++ drop (16 * k + 16) bytes.old }
 {
     let sum = u8x16::from_slice(&bytes[16 * k..]) ^ u8x16::from_array(*stream);
     sum.copy_to_slice(&mut bytes[16 * k..]);
@@ -107,7 +108,7 @@ fn mask_from_block(aes: &Encryption, iv: &[u8; 16], place: u64, bytes: &mut [u8]
     mask_less(aes, iv, place.wrapping_add(whole as u64), rest);
 }
 
-/// The same, a block after another.
+/// Combines bytes with the key stream from the front of a block on, one block after another.
 fn mask_less(aes: &Encryption, iv: &[u8; 16], place: u64, bytes: &mut [u8])
     requires { length bytes.old ≢ 0 → place % 16 ≡ 0 }
     ensures { bytes.new ≡ counter_text aes.now iv.now place bytes.old }

@@ -59,8 +59,8 @@ pub(crate) fn places_of(bytes: &[u8; 16]) -> Places
 pub(crate) fn by_places(first: &[u8; 16], second: &[u8; 16], places: Places) -> u8x16
     requires first { ArePlaces places.first }
     requires second { ArePlaces places.second }
-    ensures { result
-        ≡ bytes_by 16 (λ i. read_parts first.now second.now (slice_index places.first i) (slice_index places.second i)) }
+    ensures { result ≡ bytes_by 16
+        (λ i. read_parts first.now second.now (slice_index places.first i) (slice_index places.second i)) }
 {
     entries(first, places.first) ^ entries(second, places.second)
 }

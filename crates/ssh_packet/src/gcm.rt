@@ -21,9 +21,9 @@ fn step(nonce: &mut [u8; 12])
     nonce.copy_from_slice(&next.to_be_bytes()[4..]);
 }
 
-/// The shortest text that a key is prepared for. A preparation takes about as many instructions as it saves in
-/// 700 bytes of text, so from here on one or two texts make up for it; keys that see short texts alone stay small in cost.
-const LONG_TEXT: usize = 512;
+/// The shortest text that a key is prepared for. A preparation takes about as many instructions as it saves in 240
+/// bytes, so one text makes up for it.
+const LONG_TEXT: usize = 256;
 
 /// Prepares a key before its first long text.
 fn prepare_for(cipher: &mut Gcm, text: &[u8])

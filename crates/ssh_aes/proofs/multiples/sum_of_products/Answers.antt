@@ -6,7 +6,7 @@ use Rattle.ssh_aes.specs.Halves.{AreHalves, number_of}
 use Rattle.ssh_aes.proofs.Products.{product-nothing}
 use Rattle.ssh_aes.proofs.Shifted.{halves_within, shifted_high-bytes, shifted_low-bytes}
 use Rattle.ssh_aes.proofs.Steps.{read, none_left, zeros_are, shifted_low, row_for}
-use Rattle.ssh_aes.proofs.Fours.{AreLanes, row-lanes, lanes-sum, four-value, sum4-same, loaded_row}
+use Rattle.ssh_aes.proofs.Pairs.{AreLanes, row-lanes, lanes-sum, two-value, sum-same, loaded_row}
 use Rattle.ssh_aes.proofs.multiples.sum_of_products.Goals as goal
 
 pub swizzle : goal.swizzle
@@ -15,18 +15,12 @@ swizzle c = halves_within c.args.at.0 c.requires.first
 pub swizzle-in-loop-i : goal.swizzle-in-loop-i
 swizzle-in-loop-i c = halves_within c.args.at.1 c.requires.second
 
-pub swizzle-in-loop-i-2 : goal.swizzle-in-loop-i-2
-swizzle-in-loop-i-2 c = halves_within c.args.at.2 c.requires.third
-
-pub swizzle-in-loop-i-3 : goal.swizzle-in-loop-i-3
-swizzle-in-loop-i-3 c = halves_within c.args.at.3 c.requires.fourth
-
 pub loop-i-init : goal.loop-i-init
 unfolding number_of
 loop-i-init c =
     let none = λ (hs ks : List ℕ) (fit : AreHalves ks). ap (polynomial_product 128 (number_of hs)) (none_left ks fit) ∙ product-nothing 128 (number_of hs) in
     record {
-      value = sym (sum4-same _ _ _ _ 0 0 0 0 (none c.args.at.0 c.a.inside.halves c.a.invariant.fit) (none c.args.at.1 c.b.inside.halves c.b.invariant.fit) (none c.args.at.2 c.c.inside.halves c.c.invariant.fit) (none c.args.at.3 c.d.inside.halves c.d.invariant.fit));
+      value = sym (sum-same _ _ 0 0 (none c.args.at.0 c.a.inside.halves c.a.invariant.fit) (none c.args.at.1 c.b.inside.halves c.b.invariant.fit));
       lanes_high = record { sixteen = refl; octets = zeros_are };
       lanes_low = record { sixteen = refl; octets = zeros_are };
     }
@@ -44,23 +38,13 @@ loop-i-preserved c =
     let rb = loaded_row c.b.inside.halves c.b.inside.rows c.row_at-in-loop-i.result i l c.b.invariant c.row_at-in-loop-i.ensures in
     let sb = row_for c.args.at.1 c.row_at-in-loop-i.result in
     let pb = row-lanes (slice_index c.b.inside.halves (15 - i)) c.row_at-in-loop-i.result c.args.at.1 (c.b.invariant.fit.small (15 - i)) rb c.requires.second in
-    let rc = loaded_row c.c.inside.halves c.c.inside.rows c.row_at-in-loop-i-2.result i l c.c.invariant c.row_at-in-loop-i-2.ensures in
-    let sc = row_for c.args.at.2 c.row_at-in-loop-i-2.result in
-    let pc = row-lanes (slice_index c.c.inside.halves (15 - i)) c.row_at-in-loop-i-2.result c.args.at.2 (c.c.invariant.fit.small (15 - i)) rc c.requires.third in
-    let rd = loaded_row c.d.inside.halves c.d.inside.rows c.row_at-in-loop-i-3.result i l c.d.invariant c.row_at-in-loop-i-3.ensures in
-    let sd = row_for c.args.at.3 c.row_at-in-loop-i-3.result in
-    let pd = row-lanes (slice_index c.d.inside.halves (15 - i)) c.row_at-in-loop-i-3.result c.args.at.3 (c.d.invariant.fit.small (15 - i)) rd c.requires.fourth in
     let p : AreLanes (shifted_low low) = record { sixteen = refl; octets = shifted_low-bytes low v.lanes_low.octets } in
     let p1 = lanes-sum (shifted_low low) sa p pa in
-    let p2 = lanes-sum (zip2 bit_xor (shifted_low low) sa) sb p1 pb in
-    let p3 = lanes-sum (zip2 bit_xor (zip2 bit_xor (shifted_low low) sa) sb) sc p2 pc in
-    let p4 = lanes-sum (zip2 bit_xor (zip2 bit_xor (zip2 bit_xor (shifted_low low) sa) sb) sc) sd p3 pd in
     record {
-      value = four-value low high c.args.at.0 c.args.at.1 c.args.at.2 c.args.at.3 c.a.inside.halves c.b.inside.halves c.c.inside.halves c.d.inside.halves
-          c.row_at.result c.row_at-in-loop-i.result c.row_at-in-loop-i-2.result c.row_at-in-loop-i-3.result i l ra rb rc rd
-          c.requires.first c.requires.second c.requires.third c.requires.fourth c.a.invariant.fit c.b.invariant.fit c.c.invariant.fit c.d.invariant.fit v.lanes_low v.lanes_high v.value;
+      value = two-value low high c.args.at.0 c.args.at.1 c.a.inside.halves c.b.inside.halves c.row_at.result c.row_at-in-loop-i.result i l ra rb
+          c.requires.first c.requires.second c.a.invariant.fit c.b.invariant.fit v.lanes_low v.lanes_high v.value;
       lanes_high = record { sixteen = refl; octets = shifted_high-bytes low high v.lanes_low.octets v.lanes_high.octets };
-      lanes_low = p4;
+      lanes_low = lanes-sum (zip2 bit_xor (shifted_low low) sa) sb p1 pb;
     }
 
 pub returns : goal.returns
@@ -70,8 +54,6 @@ returns c =
     ap (λ n. n * 2 ^ 128 + c.from_le_bytes-2.result) (c.from_le_bytes.ensures ∙ read c.loop-i.high c.loop-i.invariant.lanes_high.sixteen)
     ∙ ap (λ n. number_of c.loop-i.high * 2 ^ 128 + n) (c.from_le_bytes-2.ensures ∙ read c.loop-i.low c.loop-i.invariant.lanes_low.sixteen)
     ∙ c.loop-i.invariant.value
-    ∙ sum4-same _ _ _ _ _ _ _ _
+    ∙ sum-same _ _ _ _
     (all c.args.at.0 c.a.inside.halves ∙ ap (polynomial_product 128 (number_of c.args.at.0)) c.a.view_is)
     (all c.args.at.1 c.b.inside.halves ∙ ap (polynomial_product 128 (number_of c.args.at.1)) c.b.view_is)
-    (all c.args.at.2 c.c.inside.halves ∙ ap (polynomial_product 128 (number_of c.args.at.2)) c.c.view_is)
-    (all c.args.at.3 c.d.inside.halves ∙ ap (polynomial_product 128 (number_of c.args.at.3)) c.d.view_is)

@@ -1,5 +1,5 @@
 use Rattle.std.proofs.Common.{arith}
-use Rattle.ssh_aes.proofs.Powers.{split-is, parts-of}
+use Rattle.ssh_aes.proofs.Squares.{split-is, parts-of}
 use Rattle.ssh_aes.proofs.factors.Factor.new.Goals as goal
 
 pub new-requires-3 : goal.new-requires-3

@@ -2,7 +2,7 @@ use Rattle.std.proofs.Common.{arith, ap, ◌∙◌}
 use Rattle.ssh_aes.specs.Field.{block_modulus, product_modulo, remainder, block_product}
 use Rattle.ssh_aes.specs.Halves.{number_of}
 use Rattle.ssh_aes.proofs.Parts.{halves-short}
-use Rattle.ssh_aes.proofs.Powers.{split-is, product-top, product-top_high, both-short, part_product, put_together-same}
+use Rattle.ssh_aes.proofs.Squares.{split-is, product-top, product-top_high, both-short, part_product, put_together-same}
 use Rattle.ssh_aes.proofs.factors.Factor.product.Goals as goal
 
 pub product-requires-3 : goal.product-requires-3
