@@ -11,9 +11,10 @@ use Rattle.ssh_wire.specs.declared.error.Error.{Error}
 use Rattle.ssh_wire.specs.declared.error.Error.TheVariants.{Inconsistent}
 use Rattle.ssh_wire.specs.declared.disconnect.Disconnect.TheVariants.{ProtocolError, ServiceNotAvailable}
 use Rattle.ssh_wire.specs.declared.side.Side.TheVariants.{Server}
+use Rattle.ssh_wire.specs.Messages.{whole}
 use Rattle.ssh_service.specs.Answers.{ServiceState, StandsFor, answer_after, answer_read, asks_for, asks_in, is_for_above, tells_extensions}
 use Rattle.ssh_service.specs.Extensions.{info_at}
-use Rattle.ssh_service.specs.Messages.{made_message, message_of, spelling, whole}
+use Rattle.ssh_service.specs.Messages.{made_message, message_of, spelling}
 use Rattle.ssh_service.specs.ServiceNames.{name_at}
 use Rattle.ssh_service.specs.declared.info.Extension.{Extension}
 use Rattle.ssh_service.specs.declared.answer.ServiceAnswer.{ServiceAnswer}

@@ -5,10 +5,11 @@ use Rattle.std.specs.Str.{bytes_eq}
 use Rattle.std.proofs.lemmas.Slice.Eq.{bytes_eq-Decides}
 use Rattle.ssh_wire.specs.declared.error.Error.{Error}
 use Rattle.ssh_service.specs.Answers.{IsServiceAnswer, ServiceState, StandsFor, answer_after, answer_by, answer_read, asks_for, asks_in, has_name, is_for_above, tells_extensions, tells_in}
-use Rattle.ssh_service.specs.Messages.{made_message, message_of, spelling, whole}
+use Rattle.ssh_service.specs.Messages.{made_message, message_of, spelling}
 use Rattle.ssh_service.specs.ServiceNames.{name_at}
 use Rattle.ssh_service.specs.Extensions.{info_at}
 use Rattle.ssh_wire.specs.Forms.{string}
+use Rattle.ssh_wire.specs.Messages.{whole}
 use Rattle.std.proofs.lemmas.Bool.Decides.{nat_tests}
 use Rattle.ssh_service.specs.declared.info.Extension.{Extension}
 use Rattle.ssh_wire.specs.declared.disconnect.Disconnect.TheVariants.{ProtocolError, ServiceNotAvailable}

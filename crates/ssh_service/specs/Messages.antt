@@ -1,8 +1,9 @@
 -- Messages on services and on extensions (RFC 4253 section 10, RFC 8308 section 2.3).
 use Rattle.std.specs.Prelude.{◌≡◌, ℕ, ◌⊎◌, ◌==◌, if◌then◌else◌, List, [], ◌∷◌, ◌++◌, length, codes, Result, Ok, Err, refl}
 use Rattle.std.specs.List.{flat_map}
-use Rattle.ssh_wire.specs.Fields.{◌>>=◌, answer_of, string_at, u32_at}
+use Rattle.ssh_wire.specs.Fields.{string_at, u32_at}
 use Rattle.ssh_wire.specs.Forms.{string, u32be}
+use Rattle.ssh_wire.specs.Messages.{whole}
 use Rattle.ssh_wire.specs.declared.error.EncodingFault.{EncodingFault}
 use Rattle.ssh_wire.specs.declared.error.EncodingFault.TheVariants.{CharacterEncoding, Length, TrailingData}
 use Rattle.ssh_wire.specs.declared.error.Error.{Error}
@@ -26,15 +27,6 @@ IsMessage (Request name) = IsServiceName name
 IsMessage (Accept name) = IsServiceName name
 IsMessage (Info extensions) = AreExtensions extensions
 
--- a value, where no bytes stand behind it
-abbrev pub all_of : {A : Type 0} → A → List ℕ → Result A EncodingFault
-all_of x [] = Ok x
-all_of x (b ∷ rest) = Err TrailingData
-
--- a field that was read, with nothing behind it
-abbrev pub whole : {A : Type 0} → Result (A × List ℕ) EncodingFault → Result A EncodingFault
-whole read = read >>= λ x. all_of x.0 x.1
-
 -- a message that was made of a field, or its refusal
 abbrev pub made_message : {A : Type 0} → (A → ServiceMessage) → Result A EncodingFault → Result ServiceMessage Error
 made_message make (Ok x) = Ok (make x)
@@ -52,11 +44,6 @@ behind_type message_type fields =
 abbrev pub message_of : List ℕ → Result ServiceMessage Error
 message_of [] = Err Inconsistent
 message_of (message_type ∷ fields) = behind_type message_type fields
-
--- a read whose value is seen by `view`, unless memory is wanting
-abbrev pub ReadsWhole : {X Y : Type 0} → (X → Y) → Result Y EncodingFault → Result X Error → Type 0
-ReadsWhole view read (Ok x) = read ≡ Ok (view x)
-ReadsWhole view read (Err e) = (e ≡ Memory) ⊎ (answer_of read ≡ Err e)
 
 -- the answer to a payload, unless memory is wanting
 abbrev pub IsReadAs : Result ServiceMessage Error → Result ServiceMessage Error → Type 0

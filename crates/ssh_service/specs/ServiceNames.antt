@@ -1,6 +1,6 @@
 -- Names of services (RFC 4253 section 10) and of extensions (RFC 8308 section 2.3).
-use Rattle.std.specs.Prelude.{◌≡◌, ℕ, ◌⊎◌, nat_lt, not, if◌then◌else◌, List, [], ◌∷◌, ◌++◌, length, codes, Option, Some, None, Result, Ok, Err, refl}
-use Rattle.ssh_wire.specs.Fields.{◌>>=◌, answer_of, string_at}
+use Rattle.std.specs.Prelude.{◌≡◌, ℕ, nat_lt, not, if◌then◌else◌, List, [], ◌∷◌, length, codes, Option, Some, None, Result, Ok, Err, refl}
+use Rattle.ssh_wire.specs.Fields.{◌>>=◌, string_at}
 use Rattle.ssh_wire.specs.Names.{is_name}
 use Rattle.ssh_wire.specs.declared.error.EncodingFault.{EncodingFault}
 use Rattle.ssh_wire.specs.declared.error.EncodingFault.TheVariants.{CharacterEncoding, Length}
@@ -37,16 +37,6 @@ unless_fault (Some fault) x = Err fault
 -- a name at the front of bytes, as a string, and the bytes behind it
 unfoldable pub name_at : List ℕ → Result (List ℕ × List ℕ) EncodingFault
 name_at bytes = string_at bytes >>= λ s. unless_fault (name_fault s.0) s
-
--- A read at the front of bytes, its value seen by `view`, unless memory is wanting. After a refusal the reader isn't
--- used.
-abbrev pub ReadsFront : {X Y : Type 0} → (X → Y) → Result (Y × List ℕ) EncodingFault → Result X Error → List ℕ → Type 0
-ReadsFront view read (Ok x) new = read ≡ Ok (view x, new)
-ReadsFront view read (Err e) new = (e ≡ Memory) ⊎ (answer_of read ≡ Err e)
-
--- bytes that more bytes may have been appended to
-abbrev pub Grows : List ℕ → List ℕ → Type 0
-Grows old new = (more : List ℕ) × (new ≡ old ++ more)
 
 name-example : name_fault (codes "ssh-userauth") ≡ None
 name-example = refl

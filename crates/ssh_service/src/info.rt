@@ -2,7 +2,7 @@
 
 ghost use Rattle.std.specs.Prelude.{◌≡◌, ◌⊎◌, ◌≤◌, ◌<◌, Err, ◌++◌, ◌∷◌, [], List, ℕ, length, OnOk, OnErr, IfErr, IfOk};
 ghost use Rattle.std.specs.List.{flat_map};
-ghost use Rattle.ssh_service.specs.ServiceNames.{Grows, ReadsFront};
+ghost use Rattle.ssh_wire.specs.Messages.{Grows, ReadsFront};
 ghost use Rattle.std.specs.Option.{option_map};
 ghost use Rattle.ssh_service.specs.Extensions.{AreExtensions, CannotPush, IsExtension, TellsAlgorithms, extension, extension_at, extensions_at, info_at, longest_value, most_extensions, told_algorithms, value_at, value_of};
 ghost use Rattle.ssh_wire.specs.Forms.{u32be};

@@ -4,9 +4,10 @@
 ghost use Rattle.std.specs.Prelude.{◌≡◌, ◌++◌, ◌∷◌, List, ℕ, length, Ok, OnOk, OnErr, IfErr, IfOk};
 ghost use Rattle.ssh_wire.specs.declared.error.Error.TheVariants.{Memory};
 ghost use Rattle.ssh_service.specs.Extensions.{info_at};
-ghost use Rattle.ssh_service.specs.Messages.{IsMessage, IsReadAs, ReadsWhole, behind_type, message_of, spelling, whole};
-ghost use Rattle.ssh_service.specs.ServiceNames.{Grows, IsServiceName, name_at};
+ghost use Rattle.ssh_service.specs.Messages.{IsMessage, IsReadAs, behind_type, message_of, spelling};
+ghost use Rattle.ssh_service.specs.ServiceNames.{IsServiceName, name_at};
 ghost use Rattle.ssh_wire.specs.Forms.{string};
+ghost use Rattle.ssh_wire.specs.Messages.{Grows, ReadsWhole};
 ghost use Rattle.ssh_service.specs.declared.message.ServiceMessage.TheVariants.{Accept};
 
 use crate::info::{ExtInfo, put_info, read_info};
@@ -78,7 +79,7 @@ fn read_message(alloc: Global, message_type: u8, fields: &[u8]) -> Result<Servic
 
 /// A name, and nothing behind it.
 fn whole_name(alloc: Global, fields: &[u8]) -> Result<ServiceName, Error>
-    ensures { ReadsWhole (λ n. n) (whole (name_at fields.now)) result }
+    ensures { ReadsWhole (λ n. n) (name_at fields.now) result }
 {
     let mut r = Reader::new(fields);
     let name = read_name(alloc, &mut r)?;
@@ -88,7 +89,7 @@ fn whole_name(alloc: Global, fields: &[u8]) -> Result<ServiceName, Error>
 
 /// Extensions, and nothing behind them.
 fn whole_info(alloc: Global, fields: &[u8]) -> Result<ExtInfo, Error>
-    ensures { ReadsWhole (λ i. i) (whole (info_at fields.now)) result }
+    ensures { ReadsWhole (λ i. i) (info_at fields.now) result }
 {
     let mut r = Reader::new(fields);
     let info = read_info(alloc, &mut r)?;

@@ -4,7 +4,8 @@ ghost use Rattle.std.specs.Prelude.{◌≡◌, List, ℕ};
 ghost use Rattle.std.specs.List.{list_all};
 ghost use Rattle.std.specs.Prelude.{nat_lt};
 ghost use Rattle.std.specs.String.{string_bytes};
-ghost use Rattle.ssh_service.specs.ServiceNames.{IsServiceName, IsNamed, ReadsFront, name_at, name_fault};
+ghost use Rattle.ssh_service.specs.ServiceNames.{IsServiceName, IsNamed, name_at, name_fault};
+ghost use Rattle.ssh_wire.specs.Messages.{ReadsFront};
 
 use ssh_wire::{EncodingFault, Error, Reader};
 use std::alloc::Global;

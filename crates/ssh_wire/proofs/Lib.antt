@@ -8,6 +8,7 @@ pub mod Lemmas
 pub mod LineByLine
 pub mod LineLaws
 pub mod Magnitudes
+pub mod MessageLaws
 pub mod NameLaws
 pub mod Numbers
 pub mod Sources

@@ -1,5 +1,6 @@
 pub mod Forms
 pub mod Fields
+pub mod Messages
 pub mod Names
 pub mod Naming
 pub mod Lines

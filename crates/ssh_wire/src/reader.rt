@@ -41,8 +41,8 @@ impl<'a> Reader<'a> {
         self.rest.len()
     }
 
-    /// The bytes that are left.
-    pub(crate) fn rest(&self) -> &'a [u8]
+    /// What is left to read, lent from the bytes that the reader was made of. Nothing is read.
+    pub fn rest(&self) -> &'a [u8]
         ensures value { result.now ≡ self.now }
         ensures bytes { AreBytes self.now }
     {
