@@ -5,8 +5,9 @@
 # that seals.
 # Beside them it prints the bytes per second of OpenSSL's cipher and then its HMAC over as many bytes, with its AES
 # and carry-less product instructions switched off; and, where valgrind is installed, how many instructions sealing
-# and opening run for each byte of 1 MiB, less what a run of no packet takes. Needs rt (once, to build
-# crates/speed_packets), openssl and python3.
+# and opening run for each byte of 1 MiB, less what a run of no packet takes. Its last line has the instructions for each
+# byte of 1 MiB and of 2 MiB of output that is taken in pieces of 64 bytes: they are alike, as no piece is moved. Needs
+# rt (once, to build crates/speed_packets), openssl and python3.
 set -eu
 # shellcheck source=bench/begin.sh
 . "$(dirname "$0")/begin.sh"
@@ -85,4 +86,14 @@ for kind in kinds:
             f"{' '.join(kind):46}{length:6}{sealed:16,.0f}{opened:16,.0f}{openssl(kind, length):>14}"
             f"{shown(run[0]):>11}{shown(run[1]):>11}"
         )
+
+
+def taken(count):
+    """Instructions for each payload byte of so many packets of 32 KiB whose output is taken in pieces of 64 bytes."""
+    words = [program, "none", "none"]
+    sealing, taking = (instructions([*words, how, 32768, count]) for how in ("seal", "take"))
+    return None if sealing is None else (taking - sealing) / (32768 * count)
+
+
+print(f"output taken in pieces of 64 bytes: {shown(taken(32))} instructions a byte of 1 MiB, {shown(taken(64))} of 2 MiB")
 PYTHON

@@ -1,6 +1,6 @@
 //! Seals packets again and again, and opens them, for measuring: `speed_packets CIPHER MAC HOW LENGTH COUNT`
-//! with names of RFC 4253, HOW `seal` or `open`, and COUNT payloads of LENGTH bytes. `open` seals too.
-//! Writes how many payload bytes came out.
+//! with names of RFC 4253, HOW `seal`, `open` or `take`, and COUNT payloads of LENGTH bytes. `open` seals too, and
+//! `take` seals them all and then takes the output in pieces of 64 bytes. Writes how many payload bytes came out.
 #![tactic(auto)]
 
 ghost use Rattle.std.specs.Prelude.{◌≡◌, ◌≤◌, length};
@@ -12,10 +12,13 @@ use rand_chacha::ChaCha20Rng;
 use rand_core::SeedableRng;
 use ssh_mac::mac;
 use ssh_packet::compression::Compress;
-use ssh_packet::{CipherPair, PacketReader, PacketWriter, cipher};
+use ssh_packet::{CipherPair, PacketReader, PacketWriter, SealKey, cipher};
 use ssh_wire::Error;
 use std::alloc::Global;
 use std::{env, io};
+
+/// How many bytes of output are taken at once.
+const PIECE: usize = 64;
 
 /// Keys of both names, of bytes that don't matter.
 fn keys(cipher: cipher::Name, mac: mac::Name) -> CipherPair {
@@ -58,6 +61,22 @@ fn run(
     })
 }
 
+/// Seals so many payloads, and then takes all output in pieces. Answers how many payload bytes were sealed.
+fn take(alloc: Global, key: SealKey, length: usize, count: u32) -> Result<usize, Error> {
+    let mut rng = ChaCha20Rng::from_seed([1; 32]);
+    let mut payload = Vec::new(alloc);
+    payload.resize(length, 97)?;
+    let mut writer = PacketWriter::new(alloc, key, Compress::None);
+    for _turn in 0..count {
+        writer.packet_raw(&mut rng, &payload)?;
+    }
+    for _piece in 0..=writer.output().len() / PIECE {
+        let waiting = writer.output().len();
+        writer.consume_output(waiting.min(PIECE));
+    }
+    Ok(writer.bytes_written())
+}
+
 fn main(rt: HostRuntime) -> io::Result<()> {
     let mut words = env::args(&rt)?.skip(1);
     let (Some(cipher), Some(mac), Some(how), Some(length), Some(count)) = (
@@ -77,13 +96,13 @@ fn main(rt: HostRuntime) -> io::Result<()> {
     };
     let length = length.as_str().parse::<usize>().unwrap_or(0);
     let count = count.as_str().parse::<u32>().unwrap_or(0);
-    match run(
-        rt.alloc(),
-        keys(cipher, mac),
-        how.as_str() == "open",
-        length,
-        count,
-    ) {
+    let keys = keys(cipher, mac);
+    let done = if how.as_str() == "take" {
+        take(rt.alloc(), keys.local_to_remote, length, count)
+    } else {
+        run(rt.alloc(), keys, how.as_str() == "open", length, count)
+    };
+    match done {
         Ok(bytes) => println!(rt; "{bytes}")?,
         Err(error) => println!(rt; "{error}")?,
     }

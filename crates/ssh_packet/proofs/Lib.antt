@@ -6,5 +6,6 @@ pub mod Lent
 pub mod Padding
 pub mod Shapes
 pub mod Sound
+pub mod Starts
 pub mod Streams
 pub mod Written

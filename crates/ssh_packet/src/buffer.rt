@@ -1,7 +1,7 @@
 //! The buffer that a writer fills, and what a closure writes a payload into.
 
-ghost use Rattle.std.specs.Prelude.{◌≡◌, ◌==◌, ◌≤◌, ◌-◌, ◌++◌, ◌∷◌, [], length, drop};
-ghost use Rattle.std.specs.Prelude.{vec_len, vec_capacity, OnOk, OnErr, IfErr};
+ghost use Rattle.std.specs.Prelude.{◌≡◌, ◌==◌, ◌≤◌, ◌+◌, ◌-◌, ◌++◌, ◌∷◌, [], length, drop};
+ghost use Rattle.std.specs.Prelude.{vec_len, vec_capacity, IsOk, OnOk, OnErr, IfErr};
 ghost use Rattle.ssh_wire.specs.Lines.{id_line};
 ghost use Rattle.ssh_wire.specs.declared.error.Error.TheVariants.{Memory};
 
@@ -59,6 +59,44 @@ impl SSHBuffer {
         ensures err { IfErr result (λ e. e ≡ Memory) }
     {
         id.write(&mut self.buffer)
+    }
+}
+
+/// Makes room for `count` bytes at the end of `bytes`, whose first `start` bytes were taken. What follows those moves to
+/// the front if it is no longer than they are, or if there is no memory. So, while there is memory, no more bytes are
+/// moved in all than were taken. Fails with `Memory`, and what follows the first `start` bytes stays.
+pub(crate) fn make_room(bytes: &mut Vec<u8>, start: &mut usize, count: usize) -> Result<(), Error>
+    requires { start.old ≤ vec_len bytes.old }
+    ensures left { drop start.new bytes.new.items ≡ drop start.old bytes.old.items }
+    ensures within { start.new ≤ vec_len bytes.new }
+    ensures len { vec_len bytes.new - start.new ≡ vec_len bytes.old - start.old }
+    ensures room { OnOk result (vec_len bytes.new + count ≤ vec_capacity bytes.new) }
+    ensures capacity { vec_capacity bytes.old ≤ vec_capacity bytes.new }
+    ensures ready { vec_len bytes.old - start.old + count ≤ vec_capacity bytes.old → IsOk result }
+    ensures err { IfErr result (λ e. e ≡ Memory) }
+{
+    let len = bytes.len();
+    if bytes.capacity() - len < count && len - *start <= *start {
+        move_to_front(bytes, start);
+    }
+    if bytes.reserve(count).is_err() {
+        move_to_front(bytes, start);
+        bytes.reserve(count)?;
+    }
+    Ok(())
+}
+
+/// Moves what follows the first `start` bytes to the front.
+pub(crate) fn move_to_front(bytes: &mut Vec<u8>, start: &mut usize)
+    requires { start.old ≤ vec_len bytes.old }
+    ensures items { bytes.new.items ≡ drop start.old bytes.old.items }
+    ensures len { vec_len bytes.new ≡ vec_len bytes.old - start.old }
+    ensures capacity { vec_capacity bytes.new ≡ vec_capacity bytes.old }
+    ensures start { start.new ≡ 0 }
+{
+    if *start > 0 {
+        drop_front(bytes, *start);
+        *start = 0;
     }
 }
 

@@ -11,7 +11,7 @@ ghost use Rattle.ssh_packet.specs.Sealing.{stream_after, tag_size};
 ghost use Rattle.ssh_packet.specs.Writing.{AppendsPayload, Flushes, IsSizeOrMemory, LeavesPayload, OnlyAppends, SameButRoom};
 ghost use Rattle.ssh_packet.specs.Writing.{Seals, SealsInPlace, SealsWith, Sends, head_room, room_for};
 
-use crate::buffer::{PacketBytesWriter, SSHBuffer, drop_front};
+use crate::buffer::{PacketBytesWriter, SSHBuffer, make_room, move_to_front};
 use crate::cipher::SealingKey;
 use crate::clear;
 use crate::compression::Compress;
@@ -29,24 +29,29 @@ use std::marker::Model;
 #[derive(Debug, Drop)]
 pub struct PacketWriter {
     buffer: SSHBuffer,
+    /// How many bytes at the front of the buffer were taken: the output is what follows them.
+    start: usize,
     cipher: SealKey,
     compress: Compress,
 }
 
 impl Model for PacketWriter {
+    ghost use Rattle.std.specs.Prelude.{◌+◌, ◌≤◌, length, drop};
     ghost use Rattle.ssh_packet.specs.Keys.{sealing_of};
     ghost use Rattle.ssh_packet.specs.Writing.{Writer};
 
     ghost Value = { Writer };
 
     ghost view = { λ w. record {
-      output = w.buffer.output;
+      output = drop w.start w.buffer.output;
       len = w.buffer.len;
       count = w.buffer.count;
       number = w.buffer.number;
       sealing = sealing_of w.cipher;
-      room = w.buffer.room;
+      room = w.buffer.room + w.start;
     } };
+
+    ghost invariant = { λ w. w.start ≤ length w.buffer.output };
 }
 
 impl PacketWriter {
@@ -60,6 +65,7 @@ impl PacketWriter {
     {
         PacketWriter {
             buffer: SSHBuffer::new(alloc),
+            start: 0,
             cipher,
             compress,
         }
@@ -108,15 +114,16 @@ impl PacketWriter {
         ensures room { room_for self.old.sealing (length payload.now) 1 ≤ self.old.room → IsOk result }
         ensures spare { self.old.room + length self.old.output ≤ self.new.room + length self.new.output }
     {
-        let start = self.buffer.buffer.len();
+        let start = self.output().len();
         let tag_len = self.cipher.tag_len();
-        append_behind_room(&mut self.buffer.buffer, payload, tag_len)?;
+        append_behind_room(&mut self.buffer.buffer, &mut self.start, payload, tag_len)?;
         self.seal_payload(rng, start)
     }
 
     /// Appends one packet of what the closure appends to the vector that it is handed, the output itself:
-    /// nothing is copied. The closure's own error, and else as `packet_raw`: Memory too where there is none for
-    /// five bytes of room before the payload. A refusal leaves the writer as it was.
+    /// nothing is copied, but output that is left moves to the front, if some before it was taken. The closure's own
+    /// error, and else as `packet_raw`: Memory too where there is none for five bytes of room before the payload. A
+    /// refusal leaves the writer as it was.
     pub fn write_packet<R: Rng, F: FnOnce(&mut Vec<u8>) -> Result<(), Error>>(
         &mut self,
         rng: &mut R,
@@ -127,6 +134,7 @@ impl PacketWriter {
         ensures { SealsInPlace (FnOnceReturnsAtMut F.FnOnce f)
             self.old (R.stream rng.old) (R.stream rng.new) result self.new }
     {
+        move_to_front(&mut self.buffer.buffer, &mut self.start);
         let start = self.buffer.buffer.len();
         append_with(&mut self.buffer.buffer, f)?;
         let payload = self.buffer.buffer.len() - start - HEAD;
@@ -189,7 +197,7 @@ impl PacketWriter {
         Ok(bytes)
     }
 
-    /// Seals the payload that stands behind `start` and five bytes of room. Memory takes all from `start`
+    /// Seals the payload that stands behind `start` bytes of output and five bytes of room. Memory takes all from there
     /// on away.
     fn seal_payload<R: Rng>(&mut self, rng: &mut R, start: usize) -> Result<(), Error>
         requires room { start + head_length < length self.old.output }
@@ -200,7 +208,13 @@ impl PacketWriter {
         ensures ready { longest_padding + tag_size self.old.sealing ≤ self.old.room → IsOk result }
         ensures spare { self.old.room + length self.old.output ≤ self.new.room + length self.new.output }
     {
+        let tag_len = self.cipher.tag_len();
         let out = &mut self.buffer.buffer;
+        if let Err(error) = make_room(out, &mut self.start, LONGEST_PADDING + tag_len) {
+            out.truncate(self.start + start);
+            return Err(error);
+        }
+        let start = self.start + start;
         let payload = out.len() - start - HEAD;
         if let Err(error) = seal_behind(out, start, self.buffer.seqn, &mut self.cipher, rng) {
             out.truncate(start);
@@ -221,15 +235,14 @@ impl PacketWriter {
         ensures err { IfErr result (λ e. e ≡ Memory) }
     {
         let room = payload_bytes + packet_count * (ROOM_BESIDE + self.cipher.tag_len());
-        self.buffer.buffer.reserve(room)?;
-        Ok(())
+        make_room(&mut self.buffer.buffer, &mut self.start, room)
     }
 
     /// The output, from the front on.
     pub fn output(&self) -> &[u8]
         ensures { result.now ≡ self.now.output }
     {
-        self.buffer.buffer.as_slice()
+        &self.buffer.buffer[self.start..]
     }
 
     /// Drops the first n bytes of the output.
@@ -237,7 +250,11 @@ impl PacketWriter {
         requires { n ≤ length self.old.output }
         ensures { self.new ≡ record self.old { output = drop n self.old.output; room = self.old.room + n } }
     {
-        drop_front(&mut self.buffer.buffer, n);
+        self.start += n;
+        if self.start == self.buffer.buffer.len() {
+            self.buffer.buffer.clear();
+            self.start = 0;
+        }
     }
 
     /// Writes the output out, at least a byte a turn. IO where the sink failed, and has counted it: what
@@ -250,14 +267,14 @@ impl PacketWriter {
         ensures unfailed { OnOk result (W.faults w.new ≡ W.faults w.old) }
         ensures count { W.faults w.old ≤ W.faults w.new }
     {
-        let out = &mut self.buffer.buffer;
-        match write_all(w, out.as_slice()) {
+        match write_all(w, self.output()) {
             Ok(()) => {
-                out.clear();
+                let sent = self.output().len();
+                self.consume_output(sent);
                 Ok(())
             }
             Err(n) => {
-                drop_front(out, n);
+                self.consume_output(n);
                 Err(Error::IO)
             }
         }
@@ -292,7 +309,7 @@ impl PacketWriter {
         &mut self.compress
     }
 
-    /// The buffer, lent.
+    /// The buffer, lent. Output that is left moves to the front, if some before it was taken.
     pub fn buffer(&mut self) -> &mut SSHBuffer
         ensures* after_borrow { sem 𝓛 (LendsBuffer self.entry result) }
         ensures output { result.now.output ≡ self.old.output }
@@ -301,24 +318,33 @@ impl PacketWriter {
         ensures number { result.now.number ≡ self.old.number }
         ensures room { result.now.room ≡ self.old.room }
     {
+        move_to_front(&mut self.buffer.buffer, &mut self.start);
         &mut self.buffer
     }
 }
 
-/// Appends five bytes of room and a payload, and leaves room for padding and tag. Memory leaves `out` as
-/// it was.
-fn append_behind_room(out: &mut Vec<u8>, payload: &[u8], tag_len: usize) -> Result<(), Error>
+/// Appends five bytes of room and a payload to what follows the first `start` bytes, and leaves room for padding and
+/// tag. Memory leaves what follows them as it was.
+fn append_behind_room(
+    out: &mut Vec<u8>,
+    start: &mut usize,
+    payload: &[u8],
+    tag_len: usize,
+) -> Result<(), Error>
+    requires start { start.old ≤ vec_len out.old }
     requires short { length payload.now ≤ longest_payload }
     requires tag { tag_len ≤ longest_tag }
-    ensures ok { OnOk result (out.new.items ≡ (out.old.items ++ head_room) ++ payload.now) }
-    ensures unchanged { OnErr result (out.new.items ≡ out.old.items) }
+    ensures ok { OnOk result (drop start.new out.new.items
+        ≡ (drop start.old out.old.items ++ head_room) ++ payload.now) }
+    ensures unchanged { OnErr result (drop start.new out.new.items ≡ drop start.old out.old.items) }
+    ensures within { start.new ≤ vec_len out.new }
     ensures err { IfErr result (λ e. e ≡ Memory) }
-    ensures ready { vec_len out.old + head_length + length payload.now + longest_padding + tag_len ≤ vec_capacity
-        out.old → IsOk result }
+    ensures ready { vec_len out.old - start.old + head_length + length payload.now + longest_padding + tag_len
+        ≤ vec_capacity out.old → IsOk result }
     ensures room { OnOk result (vec_len out.new + longest_padding + tag_len ≤ vec_capacity out.new) }
     ensures capacity { vec_capacity out.old ≤ vec_capacity out.new }
 {
-    out.reserve(HEAD + payload.len() + LONGEST_PADDING + tag_len)?;
+    make_room(out, start, HEAD + payload.len() + LONGEST_PADDING + tag_len)?;
     out.extend_from_slice(&[0; HEAD])?;
     out.extend_from_slice(payload)?;
     Ok(())
