@@ -1,5 +1,5 @@
 -- How a side reads the other's KEXINIT: field by field, the first refusal deciding (RFC 4253 section 7.1).
-use Rattle.std.specs.Prelude.{◌≡◌, ℕ, Bool, false, not, ◌&&◌, ◌||◌, ◌==◌, nat_lt, if◌then◌else◌, List, [], ◌∷◌, length, drop, map, filter, find, Option, Some, None, Result, Ok, Err, ◌⊎◌}
+use Rattle.std.specs.Prelude.{◌≡◌, ℕ, Bool, false, not, ◌&&◌, ◌||◌, ◌==◌, nat_lt, if◌then◌else◌, List, [], ◌∷◌, length, codes, drop, map, filter, find, Option, Some, None, Result, Ok, Err, ◌⊎◌}
 use Rattle.std.specs.List.{list_any}
 use Rattle.std.specs.Str.{bytes_eq}
 use denote.Ref.{Bor}
@@ -122,6 +122,18 @@ read_fields side own still_strict bytes =
 -- connection. The number and the cookie are not looked at.
 unfoldable pub names_read : Side → Offers → Bool → List ℕ → Result Names KexinitFault
 names_read side own still_strict payload = if nat_lt (length payload) 17 then Err Inconsistent else read_fields side own still_strict (drop 17 payload)
+
+-- ---- extension info
+
+-- whether a list that was read holds a name; a list with a fault holds none
+abbrev pub is_held : List ℕ → Result (List (List ℕ) × List ℕ) EncodingFault → Bool
+is_held name (Ok x) = list_any (bytes_eq name) x.0
+is_held name (Err fault) = false
+
+-- whether the list of key exchanges of a KEXINIT holds `ext-info-c`, by which a client asks for extension info (RFC 8308
+-- section 2.1). It is false of a payload without such a list. Nothing else of the payload is looked at.
+unfoldable pub names_extension_info : List ℕ → Bool
+names_extension_info payload = is_held (codes "ext-info-c") (names_at (drop 17 payload))
 
 -- ---- answers
 

@@ -9,7 +9,7 @@ ghost use Rattle.ssh_wire.specs.declared.error.AlgorithmKind.TheVariants.{Kex};
 ghost use Rattle.ssh_negotiate.specs.Advertised.{is_foreign, mac_text, offers_with};
 ghost use Rattle.ssh_negotiate.specs.Chosen.{algorithm_of, asks, is_certificate, mac_under, names_with, without_extensions};
 ghost use Rattle.ssh_negotiate.specs.Parts.{GivesFront, ciphers_part, compressions_part, with_guess, hosts_part, macs_part, front_taken, with_lists, with_rest};
-ghost use Rattle.ssh_negotiate.specs.Reading.{AnswersReading, IsKindRefusal, compared_kex, is_extension_text, slice_list, names_read, read_fields, read_rest, select, select_mac, strict_name};
+ghost use Rattle.ssh_negotiate.specs.Reading.{AnswersReading, IsKindRefusal, compared_kex, is_extension_text, slice_list, names_extension_info, names_read, read_fields, read_rest, select, select_mac, strict_name};
 ghost use Rattle.ssh_negotiate.specs.Tables.{kex_text};
 
 use crate::kex;
@@ -20,11 +20,27 @@ use crate::select::{begin_alike, choice_of, holds, texts_of};
 use ssh_mac::mac;
 use ssh_packet::cipher;
 use ssh_packet::compression::Compression;
-use ssh_wire::{Algorithm, AlgorithmKind, Error, NameList, Reader, Side, Text};
+use ssh_wire::{Algorithm, AlgorithmKind, BorrowedNames, Error, NameList, Reader, Side, Text};
 use std::alloc::Global;
 
 /// How many bytes stand before the first list: the number and the cookie.
 const FRONT_LEN: usize = 17;
+
+/// Whether the list of key exchanges of a KEXINIT holds `ext-info-c`. A server may send SSH_MSG_EXT_INFO only to a client
+/// that named it (RFC 8308 section 2.2). False if the payload has no such list, or one that reading would reject. It takes
+/// no memory.
+pub fn names_extension_info(payload: &[u8]) -> bool
+    ensures { result ≡ names_extension_info payload.now }
+{
+    if payload.len() < FRONT_LEN {
+        return false;
+    }
+    let mut reader = Reader::new(&payload[FRONT_LEN..]);
+    match BorrowedNames::decode(&mut reader) {
+        Ok(names) => names.holds(kex::EXTENSION_SUPPORT_AS_CLIENT.as_str()),
+        Err(_error) => false,
+    }
+}
 
 /// The names that a side takes from the other's KEXINIT.
 pub(crate) fn names_of_kexinit(

@@ -3,6 +3,7 @@
 #![tactic(auto)]
 
 mod algorithm;
+mod borrowed_names;
 mod bytes;
 mod channel_id;
 mod disconnect;
@@ -30,6 +31,7 @@ mod ssh_read;
 mod strict_order;
 
 pub use crate::algorithm::{Algorithm, EcdsaCurve, HashAlg};
+pub use crate::borrowed_names::BorrowedNames;
 pub use crate::bytes::{Blob, Payload, PayloadList, Text};
 pub use crate::channel_id::ChannelId;
 pub use crate::disconnect::Disconnect;

@@ -17,10 +17,10 @@ use crate::reader::Reader;
 use std::alloc::Global;
 
 /// How many names a list may have.
-const NAME_LIMIT: usize = 1024;
+pub(crate) const NAME_LIMIT: usize = 1024;
 
 /// How many bytes a list may have as text.
-const NAME_LIST_LIMIT: usize = 16384;
+pub(crate) const NAME_LIST_LIMIT: usize = 16384;
 
 /// Names of algorithms in order of preference (RFC 4251 section 5, name-list).
 #[derive(Debug, PartialEq, Eq, Drop)]
@@ -107,7 +107,7 @@ fn names_of_text(alloc: Global, value: &str) -> Result<NameList, Error>
 }
 
 /// The text without one comma at its end, where something stands before it.
-fn without_comma(text: &[u8]) -> &[u8]
+pub(crate) fn without_comma(text: &[u8]) -> &[u8]
     ensures { result.now ≡ without_last_comma text.now }
 {
     let len = text.len();
@@ -134,7 +134,7 @@ fn names_in(alloc: Global, whole: &[u8]) -> Result<NameList, Error>
 }
 
 /// What stands before the first comma, and what stands behind it, where there is one.
-fn first_name(text: &[u8]) -> (&[u8], Option<&[u8]>)
+pub(crate) fn first_name(text: &[u8]) -> (&[u8], Option<&[u8]>)
     ensures parts { slice_split is_comma text.now ≡ result.0.now ∷ parts_behind result.1 }
     ensures shorter { IfSome result.1 (λ behind. length behind.now < length text.now) }
 {
@@ -169,7 +169,7 @@ fn admit(alloc: Global, before: usize, name: &[u8]) -> Result<Text, Error>
 }
 
 /// Whether there is a character, and each is ASCII.
-fn is_ascii_name(name: &[u8]) -> bool
+pub(crate) fn is_ascii_name(name: &[u8]) -> bool
     ensures { result ≡ is_name name.now }
 {
     !name.is_empty() && is_ascii_text(name)
