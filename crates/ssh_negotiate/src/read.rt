@@ -12,6 +12,7 @@ ghost use Rattle.ssh_negotiate.specs.Parts.{GivesFront, ciphers_part, compressio
 ghost use Rattle.ssh_negotiate.specs.Reading.{AnswersReading, IsKindRefusal, compared_kex, is_extension_text, slice_list, names_extension_info, names_read, read_fields, read_rest, select, select_mac, strict_name};
 ghost use Rattle.ssh_negotiate.specs.Tables.{kex_text};
 
+use crate::borrowed::{begins_alike, choice_of_read, refusal_of_read};
 use crate::kex;
 use crate::negotiation::{AsName, HostName, Names};
 use crate::offers::{advertised_hosts, asks_for, comparable_kex};
@@ -26,9 +27,9 @@ use std::alloc::Global;
 /// How many bytes stand before the first list: the number and the cookie.
 const FRONT_LEN: usize = 17;
 
-/// Whether the list of key exchanges of a KEXINIT holds `ext-info-c`. A server may send SSH_MSG_EXT_INFO only to a client
-/// that named it (RFC 8308 section 2.2). False if the payload has no such list, or one that reading would reject. It takes
-/// no memory.
+/// Whether the list of key exchanges of a KEXINIT holds `ext-info-c`. A server may send SSH_MSG_EXT_INFO only to a
+/// client that named it (RFC 8308 section 2.2). False if the payload has no such list, or one that reading would
+/// reject. It takes no memory.
 pub fn names_extension_info(payload: &[u8]) -> bool
     ensures { result ≡ names_extension_info payload.now }
 {
@@ -311,8 +312,24 @@ fn choice_at<A: AsName + Copy>(
 ) -> Result<(bool, A), Error>
     ensures { GivesFront (front_taken (names_at r.old) (select A.text side kind own.now) with_rest) result r.new }
 {
-    let peer = NameList::decode(alloc, r)?;
-    choice_with(alloc, side, kind, own, peer)
+    let peer = BorrowedNames::decode(r)?;
+    choice_with_read(alloc, side, kind, own, &peer)
+}
+
+/// A choice of the own list and the peer's as it was read.
+fn choice_with_read<A: AsName + Copy>(
+    alloc: Global,
+    side: Side,
+    kind: AlgorithmKind,
+    own: &[A],
+    peer: &BorrowedNames<'_>,
+) -> Result<(bool, A), Error>
+    ensures { AnswersReading (select A.text side kind own.now peer.now) result }
+{
+    match choice_of_read(side, own, peer) {
+        Some(name) => Ok((begins_alike(own, peer), name)),
+        None => Err(refusal_of_read(alloc, kind, own, peer)),
+    }
 }
 
 /// A choice of the own list and the peer's, which is answered where there is none.
@@ -355,8 +372,8 @@ fn mac_at(
 ) -> Result<mac::Name, Error>
     ensures { GivesFront (front_taken (names_at r.old) (select_mac side cipher own.now) with_rest) result r.new }
 {
-    let peer = NameList::decode(alloc, r)?;
-    mac_of(alloc, side, cipher, own, peer)
+    let peer = BorrowedNames::decode(r)?;
+    mac_of(alloc, side, cipher, own, &peer)
 }
 
 /// A MAC of two lists. A cipher that needs one refuses where there is no common name, and where it is `none`.
@@ -365,13 +382,13 @@ fn mac_of(
     side: Side,
     cipher: cipher::Name,
     own: &[mac::Name],
-    peer: NameList,
+    peer: &BorrowedNames<'_>,
 ) -> Result<mac::Name, Error>
-    ensures { AnswersReading (select_mac side cipher own.now peer.0.items) result }
+    ensures { AnswersReading (select_mac side cipher own.now peer.now) result }
 {
-    match mac_under(cipher, choice_of(side, own, peer.0.as_slice())) {
+    match mac_under(cipher, choice_of_read(side, own, peer)) {
         Some(mac) => Ok(mac),
-        None => Err(refusal_with(alloc, AlgorithmKind::Mac, own, peer)),
+        None => Err(refusal_of_read(alloc, AlgorithmKind::Mac, own, peer)),
     }
 }
 

@@ -16,11 +16,10 @@ use crate::kex;
 use crate::negotiation::{AsName, HostName};
 use crate::offers::{hosts_to_write, kex_to_write};
 use crate::preferred::{Preferred, ServerKeys};
-use crate::select::texts_of;
 use bytes::Bytes;
 use rand_core::Rng;
 use ssh_packet::PacketWriter;
-use ssh_wire::{Error, msg, put_u8, put_u32};
+use ssh_wire::{Error, msg, name_len, put_name, put_u8, put_u32};
 use std::alloc::Global;
 
 /// How many bytes are drawn for a KEXINIT.
@@ -102,34 +101,57 @@ fn kexinit_payload(
     let mut out = Vec::new(alloc);
     put_u8(&mut out, msg::KEXINIT)?;
     out.extend_from_slice(cookie)?;
-    put_list(alloc, &mut out, kex)?;
-    put_list(alloc, &mut out, hosts)?;
-    put_twice(alloc, &mut out, prefs.cipher.as_slice())?;
-    put_twice(alloc, &mut out, prefs.mac.as_slice())?;
-    put_twice(alloc, &mut out, prefs.compression.as_slice())?;
+    put_list(&mut out, kex)?;
+    put_list(&mut out, hosts)?;
+    put_twice(&mut out, prefs.cipher.as_slice())?;
+    put_twice(&mut out, prefs.mac.as_slice())?;
+    put_twice(&mut out, prefs.compression.as_slice())?;
     put_end(&mut out)?;
     Ok(out)
 }
 
 /// Appends a list of names once for each direction. After an error the bytes may have grown.
-fn put_twice<A: AsName>(alloc: Global, out: &mut Vec<u8>, names: &[A]) -> Result<(), Error>
+fn put_twice<A: AsName>(out: &mut Vec<u8>, names: &[A]) -> Result<(), Error>
     requires { length (joined_names (map A.text names.now)) ≤ name_list_limit }
     ensures ok { OnOk result (out.new.items ≡ (out.old.items ++ name_list (map A.text names.now)) ++ name_list
         (map A.text names.now)) }
     ensures err { IfErr result (λ e. e ≡ Memory) }
 {
-    put_list(alloc, out, names)?;
-    put_list(alloc, out, names)
+    put_list(out, names)?;
+    put_list(out, names)
 }
 
-/// Appends a list of names. Memory leaves the bytes as they were.
-fn put_list<A: AsName>(alloc: Global, out: &mut Vec<u8>, names: &[A]) -> Result<(), Error>
+/// Appends a list of names. After an error the bytes may have grown.
+fn put_list<A: AsName>(out: &mut Vec<u8>, names: &[A]) -> Result<(), Error>
     requires { length (joined_names (map A.text names.now)) ≤ name_list_limit }
     ensures ok { OnOk result (out.new.items ≡ out.old.items ++ name_list (map A.text names.now)) }
     ensures err { IfErr result (λ e. e ≡ Memory) }
 {
-    let list = texts_of(alloc, names)?;
-    list.encode(out)
+    put_u32(out, joined_len(names) as u32)?;
+    put_names(out, names)
+}
+
+/// How many bytes the names have with the commas between them.
+fn joined_len<A: AsName>(names: &[A]) -> usize
+    requires { length (joined_names (map A.text names.now)) ≤ name_list_limit }
+    ensures { result ≡ length (joined_names (map A.text names.now)) }
+{
+    let mut size = 0;
+    for (i, name) in names.iter().enumerate() {
+        size += name_len(i > 0, name.as_name());
+    }
+    size
+}
+
+/// Appends the names with commas between them. After an error the bytes may have grown.
+fn put_names<A: AsName>(out: &mut Vec<u8>, names: &[A]) -> Result<(), Error>
+    ensures ok { OnOk result (out.new.items ≡ out.old.items ++ joined_names (map A.text names.now)) }
+    ensures err { IfErr result (λ e. e ≡ Memory) }
+{
+    for (i, name) in names.iter().enumerate() {
+        put_name(out, i > 0, name.as_name())?;
+    }
+    Ok(())
 }
 
 /// Appends two empty lists of languages, that no guess follows, and a uint32 of nothing.

@@ -62,9 +62,9 @@ impl SSHBuffer {
     }
 }
 
-/// Makes room for `count` bytes at the end of `bytes`, whose first `start` bytes were taken. What follows those moves to
-/// the front if it is no longer than they are, or if there is no memory. So, while there is memory, no more bytes are
-/// moved in all than were taken. Fails with `Memory`, and what follows the first `start` bytes stays.
+/// Makes room for `count` bytes at the end of `bytes`, whose first `start` bytes were taken. What follows those moves
+/// to the front if it is no longer than they are, or if there is no memory. So, while there is memory, no more bytes
+/// are moved in all than were taken. Fails with `Memory`, and what follows the first `start` bytes stays.
 pub(crate) fn make_room(bytes: &mut Vec<u8>, start: &mut usize, count: usize) -> Result<(), Error>
     requires { start.old ≤ vec_len bytes.old }
     ensures left { drop start.new bytes.new.items ≡ drop start.old bytes.old.items }

@@ -7,8 +7,8 @@ use Rattle.ssh_wire.specs.declared.error.EncodingFault.TheVariants.{TrailingData
 use Rattle.ssh_wire.specs.declared.error.Error.{Error}
 use Rattle.ssh_wire.specs.declared.error.Error.TheVariants.{Memory}
 
--- A read at the front of bytes, its value seen by `view`, and the bytes after it, unless there was no memory. Nothing is
--- said of the reader after an error, as its caller doesn't use it again.
+-- A read at the front of bytes, its value seen by `view`, and the bytes after it, unless there was no memory. Nothing
+-- is said of the reader after an error, as its caller doesn't use it again.
 abbrev pub ReadsFront : {X Y : Type 0} → (X → Y) → Result (Y × List ℕ) EncodingFault → Result X Error → List ℕ → Type 0
 ReadsFront view read (Ok x) new = read ≡ Ok (view x, new)
 ReadsFront view read (Err e) new = (e ≡ Memory) ⊎ (answer_of read ≡ Err e)

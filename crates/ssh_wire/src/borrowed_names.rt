@@ -1,6 +1,7 @@
 //! Lists of names that stay where they were read (RFC 4251 section 5, name-list).
 
-ghost use Rattle.std.specs.Prelude.{◌≡◌, ◌∷◌, [], None};
+ghost use Rattle.std.specs.Prelude.{◌≡◌, IfErr, IfOk};
+ghost use Rattle.ssh_wire.specs.declared.error.Error.TheVariants.{Memory};
 ghost use Rattle.std.specs.List.{list_any};
 ghost use Rattle.std.specs.Str.{bytes_eq};
 ghost use Rattle.ssh_wire.specs.Fields.{FindsForm, TakesForm};
@@ -9,8 +10,11 @@ ghost use Rattle.ssh_wire.specs.Naming.{parts_behind};
 
 use crate::error::{EncodingFault, Error};
 use crate::fields::limited_of;
-use crate::name_list::{NAME_LIMIT, NAME_LIST_LIMIT, first_name, is_ascii_name, without_comma};
+use crate::name_list::{
+    NAME_LIMIT, NAME_LIST_LIMIT, NameList, first_name, is_ascii_name, names_in, without_comma,
+};
 use crate::reader::Reader;
+use std::alloc::Global;
 use std::marker::Model;
 
 /// The names of a list, in order, borrowed from the bytes that they were read from. It takes no memory.
@@ -40,6 +44,24 @@ impl<'a> BorrowedNames<'a> {
         let (names, rest) = names_front(r.rest())?;
         *r = Reader::new(rest);
         Ok(names)
+    }
+
+    /// The text of the names, with a comma between two of them; None if there are none. `first_name` takes it apart.
+    pub fn text(&self) -> Option<&'a [u8]>
+        ensures { self.now ≡ parts_behind result }
+    {
+        self.text
+    }
+
+    /// A list of its own with these names. Fails with `Memory`.
+    pub fn to_list(&self, alloc: Global) -> Result<NameList, Error>
+        ensures ok { IfOk result (λ l. l.0.items ≡ self.now) }
+        ensures err { IfErr result (λ e. e ≡ Memory) }
+    {
+        match self.text {
+            Some(text) => names_in(alloc, text),
+            None => Ok(NameList(Vec::new(alloc))),
+        }
     }
 
     /// Whether the list holds a name.

@@ -45,7 +45,7 @@ pub use crate::limited::LimitedString;
 pub use crate::limits::Limits;
 pub use crate::line::without_last_cr;
 pub use crate::message_numbers::{authentication_numbers, connection_numbers, transport_numbers};
-pub use crate::name_list::NameList;
+pub use crate::name_list::{NameList, first_name, name_len, put_name};
 pub use crate::open_failure::ChannelOpenFailure;
 pub use crate::open_handle::ChannelOpenHandleInner;
 pub use crate::outside::{Failed, Sink, Source, write_all};

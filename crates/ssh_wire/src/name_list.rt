@@ -119,7 +119,7 @@ pub(crate) fn without_comma(text: &[u8]) -> &[u8]
 }
 
 /// The names of a text, cut at each comma.
-fn names_in(alloc: Global, whole: &[u8]) -> Result<NameList, Error>
+pub(crate) fn names_in(alloc: Global, whole: &[u8]) -> Result<NameList, Error>
     ensures { Gives (λ l. l.0.items) (names_or_fault (slice_split is_comma whole.now)) result }
 {
     let mut names = Vec::new(alloc);
@@ -134,7 +134,7 @@ fn names_in(alloc: Global, whole: &[u8]) -> Result<NameList, Error>
 }
 
 /// What stands before the first comma, and what stands behind it, where there is one.
-pub(crate) fn first_name(text: &[u8]) -> (&[u8], Option<&[u8]>)
+pub fn first_name(text: &[u8]) -> (&[u8], Option<&[u8]>)
     ensures parts { slice_split is_comma text.now ≡ result.0.now ∷ parts_behind result.1 }
     ensures shorter { IfSome result.1 (λ behind. length behind.now < length text.now) }
 {
@@ -194,7 +194,7 @@ fn joined_len(names: &[Text]) -> usize
 }
 
 /// How many bytes a name has, with the comma before it where one is due.
-fn name_len(is_behind: bool, name: &str) -> usize
+pub fn name_len(is_behind: bool, name: &str) -> usize
     ensures { result ≡ length (behind_comma is_behind name.now) }
 {
     if is_behind {
@@ -232,7 +232,7 @@ fn put_names(out: &mut Vec<u8>, names: &[Text]) -> Result<(), Error>
 }
 
 /// Appends a name, behind a comma where one is due. Memory leaves `out` as it was.
-fn put_name(out: &mut Vec<u8>, is_behind: bool, name: &str) -> Result<(), Error>
+pub fn put_name(out: &mut Vec<u8>, is_behind: bool, name: &str) -> Result<(), Error>
     ensures ok { OnOk result (out.new.items ≡ out.old.items ++ behind_comma is_behind name.now) }
     ensures unchanged { OnErr result (out.new.items ≡ out.old.items) }
     ensures err { IfErr result (λ e. e ≡ Memory) }
