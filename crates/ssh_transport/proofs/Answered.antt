@@ -24,8 +24,8 @@ use Rattle.ssh_rules.proofs.Lemmas.{StageAnswers, answers_at, answers_same, answ
 use Rattle.ssh_transport.specs.Asking.{MoveAnswers, hosts_answer, stage_in, state_of}
 use Rattle.ssh_transport.specs.Handling.{IsFor, IsOpen, Moves}
 use Rattle.ssh_transport.specs.States.{after_exchanges, stands_of}
-use Rattle.ssh_transport.specs.declared.session.Handled.{Handled}
-use Rattle.ssh_transport.specs.declared.session.Handled.TheVariants.{Delivers, Done, Rekeys}
+use Rattle.ssh_transport.specs.declared.session.Disposition.{Disposition}
+use Rattle.ssh_transport.specs.declared.session.Disposition.TheVariants.{Delivers, Done, Rekeys}
 use Rattle.ssh_transport.specs.declared.session.Session.{Session}
 use Rattle.ssh_transport.proofs.Handling.{finish_stage, skips_read}
 use Rattle.ssh_transport.proofs.Kexinits.{between_config, between_side}
@@ -94,7 +94,7 @@ raised_end Server x made None records kept q f e =
 raised_end Server x made (Some host) records kept q f e = cc
 
 -- a message that was handed to the machine
-raised_moved : (says : Says) (s1 s' : Session) (m : Machine) (i : Incoming) (answer : Handled) → config_fault m.setting.side m.setting.config ≡ None → IsStageOf m.setting.side m.stage → Moves says s1 m i answer s' → RaisedTo m.setting.side s1.finished.items m.stage s'.finished.items (stands_of s'.finished.items s'.kex)
+raised_moved : (says : Says) (s1 s' : Session) (m : Machine) (i : Incoming) (answer : Disposition) → config_fault m.setting.side m.setting.config ≡ None → IsStageOf m.setting.side m.stage → Moves says s1 m i answer s' → RaisedTo m.setting.side s1.finished.items m.stage s'.finished.items (stands_of s'.finished.items s'.kex)
 raised_moved says s1 s' m i Delivers v f h = absurd h
 raised_moved says s1 s' m i Done v f h =
     let records : s'.finished.items ≡ s1.finished.items = ap (λ (x : Session). x.finished.items) h.becomes in
@@ -126,7 +126,7 @@ raised_moved says s1 s' m i (Rekeys opening again) v f h = by (h.done).ends
         (raised_end m.setting.side (h.done).exchange (h.done).made h.host s1.finished.items kept s'.finished.items (subst (λ (x : Stage). IsStageOf m.setting.side x) e f) ((h.done).newkeys).names_is)))
 
 -- What was answered for a message that is taken.
-pub message_answers : (says : Says) (s s1 s' : Session) (m : Machine) (i : Incoming) (answer : Handled) (t t' : PartTests) → config_fault s.side s.config.now ≡ None → IsOpen s → IsFor s m s1 → Moves says s1 m i answer s' → MoveAnswers m.setting.side m.stage (stands_of s'.finished.items s'.kex) t t' → AnswersAll s.side (state_of s) (state_of s') t t'
+pub message_answers : (says : Says) (s s1 s' : Session) (m : Machine) (i : Incoming) (answer : Disposition) (t t' : PartTests) → config_fault s.side s.config.now ≡ None → IsOpen s → IsFor s m s1 → Moves says s1 m i answer s' → MoveAnswers m.setting.side m.stage (stands_of s'.finished.items s'.kex) t t' → AnswersAll s.side (state_of s) (state_of s') t t'
 message_answers says s s1 s' m i answer t t' v o f h a =
     let side : m.setting.side ≡ s.side = ap (λ (x : Setting). x.side) (set_for s s1 m o f) ∙ between_side s.side s.config.now _ _ in
     let config : m.setting.config ≡ s.config.now = ap (λ (x : Setting). x.config) (set_for s s1 m o f) ∙ between_config s.side s.config.now _ _ in

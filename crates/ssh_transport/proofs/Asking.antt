@@ -36,8 +36,8 @@ use Rattle.ssh_transport.specs.Saying.{GoesOn, GoesPart, IsFixed, OnlyWrites}
 use Rattle.ssh_transport.specs.States.{after_exchanges, reading_spot, stands_of, state_at}
 use Rattle.ssh_transport.specs.Taking.{Hears, TakesUp}
 use Rattle.ssh_transport.specs.declared.connection.Connection.{Connection}
-use Rattle.ssh_transport.specs.declared.session.Handled.{Handled}
-use Rattle.ssh_transport.specs.declared.session.Handled.TheVariants.{Delivers, Done, Rekeys}
+use Rattle.ssh_transport.specs.declared.session.Disposition.{Disposition}
+use Rattle.ssh_transport.specs.declared.session.Disposition.TheVariants.{Delivers, Done, Rekeys}
 use Rattle.ssh_transport.specs.declared.session.Session.{Session}
 use Rattle.ssh_transport.proofs.Answered.{message_answers}
 use Rattle.ssh_transport.proofs.Kexinits.{between_side}
@@ -201,7 +201,7 @@ ends_refused m i old new host k n n' d c =
     }
 
 -- the session behind it
-pub ended_asks : (s s' : Session) (k : NewKeys) (answer : Handled) (m : Machine) (n n' : PartTally) → Installs s k answer s' → ((records : List FinishedExchange) → MoveAsks m.setting.side m.stage (after_exchanges records) n n') → MoveAsks m.setting.side m.stage (stands_of s'.finished.items s'.kex) n n'
+pub ended_asks : (s s' : Session) (k : NewKeys) (answer : Disposition) (m : Machine) (n n' : PartTally) → Installs s k answer s' → ((records : List FinishedExchange) → MoveAsks m.setting.side m.stage (after_exchanges records) n n') → MoveAsks m.setting.side m.stage (stands_of s'.finished.items s'.kex) n n'
 ended_asks s s' k Delivers m n n' h f = absurd h
 ended_asks s s' k Done m n n' h f = absurd h
 ended_asks s s' k (Rekeys opening again) m n n' h f = subst (λ (x : Where). MoveAsks m.setting.side m.stage x n n') (sym (ap (λ (x : Session). stands_of s'.finished.items x.kex) h.3)) (f s'.finished.items)
@@ -212,7 +212,7 @@ one_more : (a b : List FinishedExchange) (x : FinishedExchange) → a ≡ b ++ x
 one_more a b x e = ap length e ∙ length-append b (x ∷ [])
 
 -- how many exchanges were begun behind it
-moved_begun : (says : Says) (s1 s' : Session) (m : Machine) (i : Incoming) (answer : Handled) → Moves says s1 m i answer s' → begun (state_of s') ≡ length s1.finished.items + 1
+moved_begun : (says : Says) (s1 s' : Session) (m : Machine) (i : Incoming) (answer : Disposition) → Moves says s1 m i answer s' → begun (state_of s') ≡ length s1.finished.items + 1
 moved_begun says s1 s' m i Delivers h = absurd h
 moved_begun says s1 s' m i Done h = ap (λ (x : Session). begun (state_of x)) h.becomes
 moved_begun says s1 s' m i (Rekeys opening again) h =
@@ -320,7 +320,7 @@ ended_group s (AwaitsNewkeys y m k) seqn payload written x made host (inl h) = (
 ended_group s (AwaitsNewkeys y m k) seqn payload written x made host (inr h) = absurd h
 
 -- a message that was handed to the machine
-moved_groups : (says : Says) (s1 s' : Session) (m : Machine) (i : Incoming) (answer : Handled) → Moves says s1 m i answer s' → asks_groups m.stage + request_due (stands_of s'.finished.items s'.kex) + (groups_in s1.finished.items + group_in (names_in_stage m.stage)) ≤ request_due (Inside m.stage) + groups_chosen (state_of s')
+moved_groups : (says : Says) (s1 s' : Session) (m : Machine) (i : Incoming) (answer : Disposition) → Moves says s1 m i answer s' → asks_groups m.stage + request_due (stands_of s'.finished.items s'.kex) + (groups_in s1.finished.items + group_in (names_in_stage m.stage)) ≤ request_due (Inside m.stage) + groups_chosen (state_of s')
 moved_groups says s1 s' m i Delivers h = absurd h
 moved_groups says s1 s' m i Done h =
     let due : request_due (stands_of s'.finished.items s'.kex) ≡ request_due (Inside (h.next).stage) = ap (λ (x : Session). request_due (stands_of x.finished.items x.kex)) h.becomes in
@@ -358,7 +358,7 @@ moved_groups says s1 s' m i (Rekeys opening again) h =
     none_now (x ∷ records) = refl
 
 -- a message that is taken
-pub message_asks : (says : Says) (s s1 s' : Session) (m : Machine) (i : Incoming) (answer : Handled) (n n' : PartTally) → config_fault s.side s.config.now ≡ None → IsOpen s → IsFor s m s1 → Moves says s1 m i answer s' → MoveAsks m.setting.side m.stage (stands_of s'.finished.items s'.kex) n n' → AsksBetween s s' n n'
+pub message_asks : (says : Says) (s s1 s' : Session) (m : Machine) (i : Incoming) (answer : Disposition) (n n' : PartTally) → config_fault s.side s.config.now ≡ None → IsOpen s → IsFor s m s1 → Moves says s1 m i answer s' → MoveAsks m.setting.side m.stage (stands_of s'.finished.items s'.kex) n n' → AsksBetween s s' n n'
 message_asks says s s1 s' m i answer n n' v o f h a =
     let g = groups_for s s1 m f in
     let p = parts_for s s1 m (begun (state_of s')) (moved_begun says s1 s' m i answer h) f in
@@ -470,10 +470,10 @@ between_heard c mid piece n h =
     }
 
 -- behind a packet what could be written was written, in part or all of it
-pub to_part : (c c1 c2 : Connection) (answer : Handled) (s' : Session) (read : ℕ) (n n' : PartTally) → IsFixed c.session c1.session → AsksBetween c.session c1.session n n' → TakesUp answer c1 c2 → (g : GoesPart c2.session read s') → AsksTo c.session n.calls n'.calls OfMemory (state_at g.mid (reading_spot c2) c2.reader.count)
+pub to_part : (c c1 c2 : Connection) (answer : Disposition) (s' : Session) (read : ℕ) (n n' : PartTally) → IsFixed c.session c1.session → AsksBetween c.session c1.session n n' → TakesUp answer c1 c2 → (g : GoesPart c2.session read s') → AsksTo c.session n.calls n'.calls OfMemory (state_at g.mid (reading_spot c2) c2.reader.count)
 to_part c c1 c2 answer s' read n n' fixed a u g = to_written c.session g.mid (reading_spot c2) c2.reader.count n n' (between_join c.session c1.session g.mid n n' n' fixed.0 a (subst (λ (x : Session). AsksBetween x g.mid n' n') (ap (λ (x : Connection). x.session) u.rest) (between_written c2.session g.mid read g.events n' (writes_none g.events g.writes.only) (g.writes.steps nowhere))))
 
-pub asks_on : (c c1 c2 : Connection) (answer : Handled) (s' : Session) (read : ℕ) (n n' : PartTally) → IsFixed c.session c1.session → AsksBetween c.session c1.session n n' → TakesUp answer c1 c2 → GoesOn c2.session read s' → AsksBetween c.session s' n n'
+pub asks_on : (c c1 c2 : Connection) (answer : Disposition) (s' : Session) (read : ℕ) (n n' : PartTally) → IsFixed c.session c1.session → AsksBetween c.session c1.session n n' → TakesUp answer c1 c2 → GoesOn c2.session read s' → AsksBetween c.session s' n n'
 asks_on c c1 c2 answer s' read n n' fixed a u g = between_join c.session c1.session s' n n' n' fixed.0 a (subst (λ (x : Session). AsksBetween x s' n' n') (ap (λ (x : Connection). x.session) u.rest) (between_written c2.session s' read g.events n' (writes_none g.events g.writes.only) (g.writes.steps nowhere)))
 
 -- ---- as calls answer

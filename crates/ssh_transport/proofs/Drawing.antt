@@ -1,8 +1,9 @@
 -- What a side sends of itself is padded, and its cookie drawn, by what the generator gives next.
-use Rattle.std.proofs.Common.{◌≡◌, ℕ, ◌<◌, ◌++◌, List, length, Bool, true, false, Result, Ok, Err, IfErr, IfOk, IsOk, OnOk, OnErr, is_ok, refl, sym, ap, ◌∙◌, subst, inl, inr}
+use Rattle.std.proofs.Common.{◌≡◌, ℕ, ◌<◌, ◌++◌, List, append_assoc, None, Some, length, Bool, true, false, Result, Ok, Err, IfErr, IfOk, IsOk, OnOk, OnErr, is_ok, refl, sym, ap, ◌∙◌, subst, inl, inr}
 use Rattle.rand_core.specs.Stream.{Stream}
 use Rattle.ssh_wire.specs.Reading.{IdReading}
 use Rattle.ssh_wire.specs.declared.error.Error.{Error}
+use Rattle.ssh_packet.specs.Reading.{Reader}
 use Rattle.ssh_packet.specs.Writing.{Sends, Writer}
 use Rattle.ssh_kex.specs.Refusals.{Denies}
 use Rattle.ssh_kex.specs.Setting.{Says}
@@ -12,12 +13,15 @@ use Rattle.ssh_rules.specs.Machine.{SideState}
 use Rattle.ssh_rules.specs.Standing.{RefusalCause, Standing}
 use Rattle.ssh_transport.specs.Drawing.{AtMostNext, DrawsFirst, GoesNext, OpensDrawn, packet_with, writing_at}
 use Rattle.ssh_transport.specs.Saying.{GoesOn, IsUnsaid}
-use Rattle.ssh_transport.specs.States.{is_silent, standing_of, stands_of, with_more}
+use Rattle.ssh_transport.specs.Handling.{IsHeard}
+use Rattle.ssh_transport.specs.Kept.{IsLive}
+use Rattle.ssh_transport.specs.States.{heard_of, is_silent, reading_spot, standing_of, stands_of, with_more}
 use Rattle.ssh_transport.specs.Stopping.{IsAsBefore, Stops, WantsKeys}
 use Rattle.ssh_transport.specs.Submitting.{Breaks, HoldsAlone}
 use Rattle.ssh_transport.specs.Taking.{PollsOne, Reads, read_by}
 use Rattle.ssh_transport.specs.declared.connection.Connection.{Connection}
 use Rattle.ssh_transport.specs.declared.session.Session.{Session}
+use Rattle.ssh_transport.proofs.Heard.{silent_is}
 use Rattle.ssh_transport.proofs.Kexinits.{sends_item}
 
 -- a payload that isn't empty goes behind the output
@@ -58,20 +62,24 @@ drawn_answer {T} c c' s' P (Err x) done d e h = subst (λ (y : Result T Error). 
 -- ---- the first KEXINIT of a side, which its call began
 
 -- what goes behind it leaves it there
-first_goes : (done : Type 0) (c heard c' : Connection) (stream stream' : Stream) (sent : List ℕ) → OpensDrawn c.session heard.session stream → c'.session.writer.output ≡ heard.session.writer.output ++ sent → DrawsFirst done (standing_of c) (standing_of c') stream stream'
+pub first_goes : (done : Type 0) (c heard c' : Connection) (stream stream' : Stream) (sent : List ℕ) → OpensDrawn c.session heard.session stream → c'.session.writer.output ≡ heard.session.writer.output ++ sent → DrawsFirst done (standing_of c) (standing_of c') stream stream'
 first_goes done c heard c' stream stream' sent h e = λ silent. inr (sent, e ∙ ap (λ (o : List ℕ). o ++ sent) (h silent))
 
--- also where a packet behind the line is refused
-pub first_read : (says : Says) (denies : Denies) (untrusted : ServerHost → Type 0) (asked : RefusalCause → SideState → Type 0) (c kept heard c' : Connection) (more : List ℕ) (stream stream' : Stream) (answer : Result (Unit {0}) Error) → kept ≡ record c { reader = kept.reader } → OpensDrawn kept.session heard.session stream
-    → OnOk answer (Reads says (with_more heard more) c') → IfErr answer (λ e. Stops says denies untrusted asked (with_more heard more) e c') → DrawsFirst (IsOk answer) (standing_of c) (standing_of c') stream stream'
-first_read says denies untrusted asked c kept heard c' more stream stream' (Ok u) e h r s = first_goes _ c heard c' stream stream' (sent_bytes heard.session.side (record { sealing = heard.session.writer.sealing; number = heard.session.writer.number }) r.events) (subst (λ (s : Session). OpensDrawn s heard.session stream) (ap (λ (x : Connection). x.session) e) h) r.output
-first_read says denies untrusted asked c kept heard c' more stream stream' (Err x) e h r s = first_goes _ c heard c' stream stream' (sent_bytes heard.session.side (record { sealing = heard.session.writer.sealing; number = heard.session.writer.number }) s.events) (subst (λ (s : Session). OpensDrawn s heard.session stream) (ap (λ (x : Connection). x.session) e) h) s.output
+-- by what a connection whose input was kept stands for
+pub first_kept : (done : Type 0) (c : Connection) (r : Reader) (t : Standing) (stream left : Stream) → DrawsFirst done (standing_of (record c { reader = r })) t stream left → DrawsFirst done (standing_of c) t stream left
+first_kept done c r t stream left h = λ silent. elim (h silent) [
+  | inl k ↦ inl (record { output = k.output; silent = k.silent; writing = k.writing; undrawn = k.undrawn })
+  | inr k ↦ inr k
+]
 
-pub first_polled : (says : Says) (denies : Denies) (untrusted : ServerHost → Type 0) (asked : RefusalCause → SideState → Type 0) (c heard c' : Connection) (stream stream' : Stream) (answer : Result Bool Error) → OpensDrawn c.session heard.session stream → IfOk answer (λ lends. PollsOne says heard (read_by lends) c')
-    → IfErr answer (λ e. Stops says denies untrusted asked heard e c') → DrawsFirst (IsOk answer) (standing_of c) (standing_of c') stream stream'
-first_polled says denies untrusted asked c heard c' stream stream' (Ok true) h r s = first_goes _ c heard c' stream stream' _ h r.goes.output
-first_polled says denies untrusted asked c heard c' stream stream' (Ok false) h r s = first_goes _ c heard c' stream stream' _ h r.0.output
-first_polled says denies untrusted asked c heard c' stream stream' (Err x) h r s = first_goes _ c heard c' stream stream' _ h s.output
+-- behind the line it was begun, and more goes behind it
+pub first_behind : (done : Type 0) (c mid c' : Connection) (stream left left' : Stream) (sent : List ℕ) → DrawsFirst (true ≡ true) (standing_of c) (standing_of mid) stream left → IsLive mid → IsHeard mid.session.line → c'.session.writer.output ≡ mid.session.writer.output ++ sent → DrawsFirst done (standing_of c) (standing_of c') stream left'
+first_behind done c mid c' stream left left' sent h live i e = λ silent. elim (h silent) [
+  | inl k ↦ absurd (begun (k.silent refl))
+  | inr k ↦ inr (k.0 ++ sent, e ∙ ap (λ (o : List ℕ). o ++ sent) k.1 ∙ append_assoc _ k.0 sent)
+] where
+  begun : is_silent (stands_of mid.session.finished.items mid.session.kex) ≡ true → ⊥
+  begun s = (let n : None ≡ Some i.0 = sym ((live.settled (reading_spot mid)).silent (silent_is (stands_of mid.session.finished.items mid.session.kex) s)) ∙ ap heard_of i.1 in cc)
 
 -- before the end of the other's version line none is begun
 pub first_awaited : (done : Type 0) (c kept heard : Connection) (stream stream' : Stream) → kept ≡ record c { reader = kept.reader } → heard.session ≡ record kept.session { line = heard.session.line } → stream' ≡ stream → DrawsFirst done (standing_of c) (standing_of heard) stream stream'

@@ -117,15 +117,8 @@ no_more s s' piece more error h = (h.0, by h.1)
     by (inl l) = inl (l.0, fed_more (lets_pass s.side) s.line l.0 piece more (Err error) refused l.1)
     by (inr e) = inr e
 
-fails_unread : (says : Says) (denies : Denies) (untrusted : ServerHost → Type 0) (asked : RefusalCause → SideState → Type 0) (c c' : Connection) (piece more : List ℕ) (error : Error) → Still c asked → IsLive c → HearsNothing c piece error c' → Fails says denies untrusted asked c (piece ++ more) error c'
+pub fails_unread : (says : Says) (denies : Denies) (untrusted : ServerHost → Type 0) (asked : RefusalCause → SideState → Type 0) (c c' : Connection) (piece more : List ℕ) (error : Error) → Still c asked → IsLive c → HearsNothing c piece error c' → Fails says denies untrusted asked c (piece ++ more) error c'
 fails_unread says denies untrusted asked c c' piece more error still live h = fails_hearing says denies untrusted asked c c' (piece ++ more) error still live (no_more c.session c'.session piece more error h.not) h.delivered
-
--- of a piece of which a front was kept before
-pub fails_kept : (says : Says) (denies : Denies) (untrusted : ServerHost → Type 0) (asked : RefusalCause → SideState → Type 0) (c c1 c' : Connection) (piece handed : List ℕ) (n spent : ℕ) → c1 ≡ record c { reader = c1.reader } → c1.reader ≡ record c.reader { waiting = c.reader.waiting ++ take n piece; handed = handed; spent = spent } → (error : Error) → Still (emptied c) asked → IsLive c → HearsNothing (emptied c1) c1.reader.waiting error c' → Fails says denies untrusted asked (emptied c) (c.reader.waiting ++ piece) error c'
-fails_kept says denies untrusted asked c c1 c' piece handed n spent e f error still live h =
-    subst (λ (b : List ℕ). Fails says denies untrusted asked (emptied c) b error c') (ap (λ (r : Reader). r.waiting ++ drop n piece) f ∙ append_assoc c.reader.waiting (take n piece) (drop n piece) ∙ ap (λ (b : List ℕ). c.reader.waiting ++ b) (take-append-drop n piece))
-    (fails_unread says denies untrusted asked (emptied c) c' c1.reader.waiting (drop n piece) error still (live_emptied c live)
-    (subst (λ (x : Connection). HearsNothing x c1.reader.waiting error c') (emptied_same c c1 (c.reader.waiting ++ take n piece) handed spent e f) h))
 
 -- ---- behind the line
 
@@ -193,10 +186,6 @@ refuses_piece says denies untrusted asked c mid c' piece error x b r f = record 
   };
   answers = f.why;
 }
-
--- where nothing is behind it
-pub fails_alone : {T : Type 0} (says : Says) (denies : Denies) (untrusted : ServerHost → Type 0) (asked : RefusalCause → SideState → Type 0) (c c' : Connection) (bytes : List ℕ) (answer : Result T Error) → IfErr answer (λ e. Fails says denies untrusted asked c bytes e c') → IfErr answer (λ e. Fails says denies untrusted asked c (bytes ++ []) e c')
-fails_alone {T} says denies untrusted asked c c' bytes answer h = subst (λ (b : List ℕ). IfErr answer (λ e. Fails says denies untrusted asked c b e c')) (sym (append-nil bytes)) h
 
 pub fails_read : (says : Config → Says) (denies : Denies) (untrusted : ServerHost → Type 0) (asked later : RefusalCause → SideState → Type 0) (c mid c' : Connection) (piece : List ℕ) (error : Error) → Later mid later asked → Hears c piece mid → IsHeard mid.session.line → Stops (says mid.session.config.now) denies untrusted later mid error c' → Fails (says c.session.config.now) denies untrusted asked c piece error c'
 fails_read says denies untrusted asked later c mid c' piece error a h i k = fails_behind (says c.session.config.now) denies untrusted asked later c mid c' piece error a h i (subst (λ (b : Bor Config). Stops (says b.now) denies untrusted later mid error c') h.config k)

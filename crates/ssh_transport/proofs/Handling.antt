@@ -34,8 +34,8 @@ use Rattle.ssh_transport.specs.Handling.{Awaits, Ended, Handles, IsFlagged, IsOw
 use Rattle.ssh_transport.specs.Kexinits.{setting_between}
 use Rattle.ssh_transport.specs.Saying.{IsSettled}
 use Rattle.ssh_transport.specs.States.{after_exchanges, heard_of, stands_of, state_at}
-use Rattle.ssh_transport.specs.declared.session.Handled.{Handled}
-use Rattle.ssh_transport.specs.declared.session.Handled.TheVariants.{Delivers, Done, Rekeys}
+use Rattle.ssh_transport.specs.declared.session.Disposition.{Disposition}
+use Rattle.ssh_transport.specs.declared.session.Disposition.TheVariants.{Delivers, Done, Rekeys}
 use Rattle.ssh_transport.specs.declared.session.Session.{Session}
 use Rattle.ssh_transport.proofs.Answering.{Answered, answered_taken, answering, spot_of, taken_flagged}
 use Rattle.ssh_transport.proofs.Kexes.{never_skips}
@@ -346,7 +346,7 @@ awaited_state : (says : Says) (s s' : Session) (m : Machine) (inc : Incoming) (a
 awaited_state says s s' m inc at read i a = sym (ap (λ (x : Session). state_at x (spot_after at i) (count_after read (length i.payload))) a.becomes
     ∙ ap (λ (w : Writer). stated s s.held.items w (Inside a.next.stage) false (spot_after at i) (count_after read (length i.payload))) a.writer_is)
 
-pub did_move : (says : Says) (s s' : Session) (m : Machine) (inc : Incoming) (at : Spot) (read : ℕ) (i : Item) (called : Bool) (answer : Handled) → config_fault s.side s.config.now ≡ None → IsCalled called m.stage → is_kex_type (type_of i) ≡ true → IsOwn s m → IsReadAt at inc.seqn inc.payload.now i → OrderBy s.side at.number i s.finished.items (names_in_stage m.stage) → Moves says s m inc answer s' → Did says s (inside s m called at read) at i s'.writer (state_at s' (spot_behind answer at i) (read_behind answer read i)) × (delivered_by answer i ≡ [])
+pub did_move : (says : Says) (s s' : Session) (m : Machine) (inc : Incoming) (at : Spot) (read : ℕ) (i : Item) (called : Bool) (answer : Disposition) → config_fault s.side s.config.now ≡ None → IsCalled called m.stage → is_kex_type (type_of i) ≡ true → IsOwn s m → IsReadAt at inc.seqn inc.payload.now i → OrderBy s.side at.number i s.finished.items (names_in_stage m.stage) → Moves says s m inc answer s' → Did says s (inside s m called at read) at i s'.writer (state_at s' (spot_behind answer at i) (read_behind answer read i)) × (delivered_by answer i ≡ [])
 did_move says s s' m inc at read i called Delivers valid c kex o r ordered h = absurd h
 did_move says s s' m inc at read i called Done valid c kex o r ordered h =
     let d = did_await says s m inc h.next h.reset h.written at read i called c kex o r ordered h.does in (

@@ -10,7 +10,7 @@ use Rattle.ssh_wire.specs.declared.error.Error.TheVariants as errors
 use Rattle.ssh_wire.specs.declared.read_id.IdProgress.{IdProgress}
 use Rattle.ssh_wire.specs.declared.read_id.IdProgress.TheVariants as progress
 use Rattle.ssh_wire.specs.declared.side.Side.{Side}
-use Rattle.ssh_wire.proofs.Lemmas.{beyond, fed_more, fits_room, id_of_line, line_unfinished}
+use Rattle.ssh_wire.proofs.Lemmas.{beyond, decided_stays, fed_more, fits_room, id_of_line, line_unfinished}
 use Rattle.ssh_packet.specs.Front as fronts
 use Rattle.ssh_packet.specs.Front.{front_of}
 use Rattle.ssh_packet.specs.Keys.{opening_of}
@@ -27,7 +27,7 @@ use Rattle.ssh_transport.specs.States.{WaitsBehind, emptied, heard_of, is_silent
 use Rattle.ssh_transport.specs.Taking.{Hears}
 use Rattle.ssh_transport.specs.declared.connection.Connection.{Connection}
 use Rattle.ssh_transport.specs.declared.session.Session.{Session}
-use Rattle.ssh_transport.proofs.Hearing.{unheard_yet}
+use Rattle.ssh_transport.proofs.Hearing.{found_within, left_unheard, unheard_yet}
 use Rattle.ssh_transport.proofs.Kept.{emptied_same, live_emptied, waits_nothing}
 use Rattle.ssh_transport.proofs.Saying.{begins_exchange}
 
@@ -248,6 +248,40 @@ within_at bytes waiting n e h = subst (λ (x : List ℕ). n ≤ length x) e h
 
 pub none_left : (r r' : Reader) (n : ℕ) (handed : List ℕ) (spent : ℕ) → n ≡ length r.waiting → r' ≡ record r { waiting = drop n r.waiting; handed = handed; spent = spent } → r'.waiting ≡ []
 none_left r r' n handed spent all e = ap (λ (x : Reader). x.waiting) e ∙ drop_all n r.waiting (omega (arith, all))
+
+-- ---- a line that was heard, with more behind the piece
+
+found_wider : (side : Side) (bytes more : List ℕ) (others : ℕ) (events : List Event) (new : IdReading) (behind : List ℕ) → IsHeard new → (found : IdFound) → id_of (still_allowed (lets_pass side) others) bytes ≡ found → HearsFrom side found bytes others events new behind
+    → HearsFrom side (id_of (still_allowed (lets_pass side) others) (bytes ++ more)) (bytes ++ more) others events new (behind ++ more)
+found_wider side bytes more others events new behind i lines.NotYet f h = absurd (let e : None ≡ Some i.0 = sym (left_unheard (still_allowed (lets_pass side) others) bytes others) ∙ ap heard_of (sym h.1 ∙ i.1) in cc)
+found_wider side bytes more others events new behind i (lines.Id text end) f h =
+    subst (λ (x : IdFound). HearsFrom side x (bytes ++ more) others events new (behind ++ more)) (sym (decided_stays (still_allowed (lets_pass side) others) bytes more not_yet ∙ f))
+    (h.0, h.1, ap (λ (b : List ℕ). b ++ more) h.2 ∙ sym (drop-append-le end bytes more (found_within (still_allowed (lets_pass side) others) bytes text end f)))
+  where
+    not_yet : id_of (still_allowed (lets_pass side) others) bytes ≡ lines.NotYet → ⊥
+    not_yet n = let e : lines.Id text end ≡ lines.NotYet = sym f ∙ n in cc
+found_wider side bytes more others events new behind i lines.Version f h = absurd h
+
+line_wider : (side : Side) (line : IdReading) (waiting piece more : List ℕ) (events : List Event) (new : IdReading) (behind : List ℕ) → IsHeard new → ReadsLineFrom side line waiting piece events new behind → ReadsLineFrom side line waiting (piece ++ more) events new (behind ++ more)
+line_wider side (Waiting bytes others) waiting piece more events new behind i h =
+    subst (λ (b : List ℕ). HearsFrom side (id_of (still_allowed (lets_pass side) others) b) b others events new (behind ++ more)) (append_assoc bytes piece more)
+    (found_wider side (bytes ++ piece) more others events new behind i (id_of (still_allowed (lets_pass side) others) (bytes ++ piece)) refl h)
+line_wider side (Heard text) waiting piece more events new behind i h = (h.0, h.1, ap (λ (b : List ℕ). b ++ more) h.2 ∙ append_assoc waiting piece more)
+line_wider side Failed waiting piece more events new behind i h = absurd h
+
+pub hears_behind : (c mid : Connection) (piece more : List ℕ) → Hears c piece mid → IsHeard mid.session.line → Hears c (piece ++ more) (with_more mid more)
+hears_behind c mid piece more h i = record {
+  events = h.events;
+  side = h.side;
+  config = h.config;
+  steps = h.steps;
+  output = h.output;
+  unread = h.unread;
+  bytes = h.bytes;
+  delivered = h.delivered;
+  input = h.input;
+  line = line_wider c.session.side c.session.line c.reader.waiting piece more h.events mid.session.line mid.reader.waiting i h.line;
+}
 
 -- a piece that was kept before
 pub hears_kept : (c c1 m : Connection) (piece handed : List ℕ) (n spent : ℕ) → c1 ≡ record c { reader = c1.reader } → c1.reader ≡ record c.reader { waiting = c.reader.waiting ++ take n piece; handed = handed; spent = spent } → Hears (emptied c1) (c1.reader.waiting ++ drop n piece) m → Hears (emptied c) (c.reader.waiting ++ piece) m

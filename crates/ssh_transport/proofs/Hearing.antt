@@ -1,13 +1,14 @@
 -- What is heard of the peer's version line.
 use Rattle.std.proofs.Common.{◌≡◌, ℕ, zero, suc, ◌+◌, ◌-◌, ◌≤◌, ◌==◌, Bool, true, false, if◌then◌else◌, nat_le, nat_lt, List, [], ◌++◌, length, take, drop, slice_index, Option, Some, None, Result, Ok, refl, sym, ap, ◌∙◌, subst, arith}
 use Rattle.std.proofs.lemmas.Bool.Decides.{nat_tests}
-use Rattle.std.proofs.lemmas.List.{length-take}
+use Rattle.std.proofs.lemmas.List.{length-drop, length-take}
 use Rattle.ssh_wire.specs.Lines as lines
 use Rattle.ssh_wire.specs.Lines.{IdFound, Unfinished, IdLine, OtherLine, TooLong, found_behind, found_by_line, id_of, is_id_text, line_end, line_of, line_text, line_to, longest_line, without_cr}
 use Rattle.ssh_wire.specs.Reading.{IdReading, Waiting, Heard, Failed, Decides, Feeds, by_end, reading_left, still_allowed, text_heard}
 use Rattle.ssh_wire.specs.declared.error.Error.{Error}
 use Rattle.ssh_wire.specs.declared.read_id.IdProgress.{IdProgress}
 use Rattle.ssh_wire.specs.declared.read_id.IdProgress.TheVariants as progress
+use Rattle.ssh_wire.proofs.Lemmas.{end_of_id, end_of_other, id_of_line, line_end-within, next}
 use Rattle.ssh_rules.specs.Machine.{Silent, Inside, Where}
 use Rattle.ssh_transport.specs.Saying.{Begins, IsSettled}
 use Rattle.ssh_transport.specs.States.{WaitsBehind, heard_of, is_silent, stands_of}
@@ -68,6 +69,36 @@ by_line other bytes TooLong text end e o h = cc
 pub found_short : (others : ℕ) (bytes text : List ℕ) (end : ℕ) → id_of others bytes ≡ lines.Id text end → length text ≤ longest_line
 found_short zero bytes text end h = by_line (λ n. lines.Version) bytes (line_of bytes) text end refl (λ n e. cc) h
 found_short (suc others) bytes text end h = by_line (λ n. found_behind n (id_of others (drop n bytes))) bytes (line_of bytes) text end refl (λ n e. let f = behind_id n (id_of others (drop n bytes)) text end e in found_short others (drop n bytes) text f.0 f.1) h
+
+-- ---- a line ends within the bytes in which it was found
+
+end_of_found : (n : ℕ) (f : IdFound) (text : List ℕ) (end : ℕ) → found_behind n f ≡ lines.Id text end → (m : ℕ) × (f ≡ lines.Id text m) × (n + m ≡ end)
+end_of_found n lines.NotYet text end h = cc
+end_of_found n (lines.Id x m) text end h =
+    let same : x ≡ text = cc in
+    let ends : n + m ≡ end = cc in
+    (m, ap (λ (y : List ℕ). lines.Id y m) same, ends)
+end_of_found n lines.Version text end h = cc
+
+within_by : (others : ℕ) (bytes : List ℕ) → ((n : ℕ) (text : List ℕ) (end : ℕ) → n ≤ length bytes → next others bytes n ≡ lines.Id text end → end ≤ length bytes) → (line : lines.Line) → line_of bytes ≡ line → (text : List ℕ) (end : ℕ) → id_of others bytes ≡ lines.Id text end → end ≤ length bytes
+within_by others bytes deeper Unfinished m text end h = absurd (let z = sym (id_of_line others bytes Unfinished m) ∙ h in cc)
+within_by others bytes deeper TooLong m text end h = absurd (let z = sym (id_of_line others bytes TooLong m) ∙ h in cc)
+within_by others bytes deeper (IdLine s n) m text end h =
+    let found : lines.Id s n ≡ lines.Id text end = sym (id_of_line others bytes (IdLine s n) m) ∙ h in
+    let same : n ≡ end = cc in
+    let w = line_end-within bytes n (end_of_id bytes (line_end bytes) s n m) in
+    omega (arith, w, same)
+within_by others bytes deeper (OtherLine n) m text end h = deeper n text end (line_end-within bytes n (end_of_other bytes (line_end bytes) n m)) (sym (id_of_line others bytes (OtherLine n) m) ∙ h)
+
+pub found_within : (others : ℕ) (bytes text : List ℕ) (end : ℕ) → id_of others bytes ≡ lines.Id text end → end ≤ length bytes
+found_within zero bytes text end h = within_by zero bytes (λ n s f w k. cc) (line_of bytes) refl text end h
+found_within (suc k) bytes text end h =
+    within_by (suc k) bytes (λ n s f w j.
+    let found = end_of_found n (id_of k (drop n bytes)) s f j in
+    let more = found_within k (drop n bytes) s found.0 found.1 in
+    let size = length-drop n bytes in
+    let sum = found.2 in
+    omega (arith, size, more, sum, w)) (line_of bytes) refl text end h
 
 -- ---- what a piece leaves
 

@@ -244,17 +244,3 @@ takes_polled says c mid c' (Err e) h i d k = tt
 
 pub takes_nothing : (says : Says) (c c' : Connection) → Hears (emptied c) c.reader.waiting c' → c'.reader.waiting ≡ [] → c'.delivered ≡ c.delivered → TakesPayload says c false c'
 takes_nothing says c c' h n d = (takes_none says (emptied c) c' c.reader.waiting h (part_nothing (reading_spot c') c'.reader.waiting n), d)
-
--- behind the line what waits is part of a packet
-pub kept_all : (says : Says) (mid c' : Connection) (answer : Result (Unit {0}) Error) → IsHeard mid.session.line → CanBegin c'.session → OnOk answer (IsLive c') → OnOk answer (Reads says mid c') → OnOk answer (WaitsInPart (reading_spot c') c'.reader.waiting) → OnOk answer (IsKept c')
-kept_all says mid c' (Ok u) i b live h part = record {
-  begins = b;
-  heeds = live.heeds;
-  within = (
-      let none : waiting_length c'.session.line ≡ 0 = ap waiting_length (h.line ∙ i.1) in
-      let few = part_short (reading_spot c') c'.reader.waiting part in
-      omega (arith, none, few)
-      );
-  live = λ f. live;
-}
-kept_all says mid c' (Err e) i b live h part = tt

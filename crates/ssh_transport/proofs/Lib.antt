@@ -33,3 +33,7 @@ pub mod Weaker
 pub mod Sending
 pub mod Serving
 pub mod Lemmas
+mod Treating
+mod Advancing
+mod KeptInput
+mod Outcomes

@@ -11,21 +11,23 @@ use Rattle.ssh_packet.specs.Writing.{Writer, with_item}
 use Rattle.ssh_packet.specs.declared.reader.Incoming.{Incoming}
 use Rattle.ssh_kex.specs.Setting.{Says, Setting}
 use Rattle.ssh_kex.specs.Stages.{Created, Machine, Stage, names_in_stage}
-use Rattle.ssh_kex.specs.Stepping.{DropsGuess, TakesOne}
+use Rattle.ssh_kex.specs.Stepping.{DropsGuess, Progresses, TakesOne}
+use Rattle.ssh_kex.specs.declared.progress.KexProgress.{KexProgress}
+use Rattle.ssh_kex.specs.declared.progress.KexProgress.TheVariants.{NeedsReply}
 use Rattle.ssh_kex.specs.declared.config.Config.{Config}
 use Rattle.ssh_kex.specs.declared.exchange.FinishedExchange.{FinishedExchange}
 use Rattle.ssh_kex.specs.declared.session_state.SessionKexState.{SessionKexState}
 use Rattle.ssh_kex.specs.declared.session_state.SessionKexState.TheVariants.{InProgress, Taken}
 use Rattle.ssh_rules.specs.Log.{sent_bytes}
-use Rattle.ssh_rules.specs.Machine.{Answering, BeginsExchange, ExchangeBegun, Inside, OrderBy, Outside, names_now, spot_after}
+use Rattle.ssh_rules.specs.Machine.{Answering, BeginsExchange, ExchangeBegun, Inside, OrderBy, Outside, names_now, spot_after, spot_renumbered}
 use Rattle.ssh_rules.specs.MessageTypes.{is_kex_type, type_of}
 use Rattle.ssh_rules.specs.Valid.{config_fault}
 use Rattle.ssh_transport.specs.Handling.{Handles, IsBegun, IsFlagged, IsFor, IsHeard, IsOpen, IsOpenBy, IsOwn, Moves, Passes, read_behind, spot_behind}
 use Rattle.ssh_transport.specs.Kexinits.{SendsKexinit}
 use Rattle.ssh_transport.specs.Saying.{setting_of}
 use Rattle.ssh_transport.specs.States.{stands_of, state_at}
-use Rattle.ssh_transport.specs.declared.session.Handled.{Handled}
-use Rattle.ssh_transport.specs.declared.session.Handled.TheVariants.{Delivers, Done, Rekeys}
+use Rattle.ssh_transport.specs.declared.session.Disposition.{Disposition}
+use Rattle.ssh_transport.specs.declared.session.Disposition.TheVariants.{Delivers, Done, Rekeys}
 use Rattle.ssh_transport.specs.declared.session.Session.{Session}
 use Rattle.ssh_transport.proofs.Answering.{dropped_flagged, spot_of, taken_flagged}
 use Rattle.ssh_transport.proofs.Handling.{did_move, inside, own_config}
@@ -47,7 +49,7 @@ own_of s m e o = subst (λ (k : SessionKexState Machine). IsOpenBy (setting_of s
 own_taken : (s : Session) (m : Machine) → IsOwn s m → IsOwn (record s { kex = Taken }) m
 own_taken s m o = record { setting_is = o.setting_is; flagged = o.flagged }
 
-handles_inside : (says : Says) (s s' : Session) (m : Machine) (inc : Incoming) (type : ℕ) (answer : Handled) → config_fault s.side s.config.now ≡ None → IsOwn s m → type ≡ message_type inc.payload.now → is_kex type ≡ true → Passes s inc.seqn type → s.kex ≡ InProgress m → Moves says (record s { kex = Taken }) m inc answer s' → Handles says s inc.seqn inc.payload.now answer s'
+handles_inside : (says : Says) (s s' : Session) (m : Machine) (inc : Incoming) (type : ℕ) (answer : Disposition) → config_fault s.side s.config.now ≡ None → IsOwn s m → type ≡ message_type inc.payload.now → is_kex type ≡ true → Passes s inc.seqn type → s.kex ≡ InProgress m → Moves says (record s { kex = Taken }) m inc answer s' → Handles says s inc.seqn inc.payload.now answer s'
 handles_inside says s s' m inc type answer valid o t k passes e h at read i r q =
     let same : type_of i ≡ type = sym (t ∙ ap message_type r.payload_is) in
     let ordered : OrderBy s.side at.number i s.finished.items (names_in_stage m.stage) = subst (λ (x : SessionKexState Machine). OrderBy s.side at.number i s.finished.items (names_now (stands_of s.finished.items x))) e (passes at.number i r.small r.seqn_is same) in
@@ -59,14 +61,14 @@ handles_inside says s s' m inc type answer valid o t k passes e h at read i r q 
       output = d.output;
       bytes = d.bytes;
       delivered = d.delivered ∙ sym p.1;
-      alone = λ f. absurd (subst (λ (x : Handled). Moves says (record s { kex = Taken }) m inc x s') f h);
+      alone = λ f. absurd (subst (λ (x : Disposition). Moves says (record s { kex = Taken }) m inc x s') f h);
       input = d.input;
       silent = d.silent;
     }
 
 -- ---- outside one
 
-handles_begun : (says : Says) (s s' : Session) (w : Writer) (item : Item) (m : Machine) (inc : Incoming) (type : ℕ) (answer : Handled) → config_fault s.side s.config.now ≡ None → stands_of s.finished.items s.kex ≡ Outside → SendsKexinit s.side s.config.now s.writer item w → m.setting ≡ setting_of s → m.stage ≡ Created item.payload → type ≡ message_type inc.payload.now → is_kex type ≡ true → Moves says (record s { writer = w }) m inc answer s' → Handles says s inc.seqn inc.payload.now answer s'
+handles_begun : (says : Says) (s s' : Session) (w : Writer) (item : Item) (m : Machine) (inc : Incoming) (type : ℕ) (answer : Disposition) → config_fault s.side s.config.now ≡ None → stands_of s.finished.items s.kex ≡ Outside → SendsKexinit s.side s.config.now s.writer item w → m.setting ≡ setting_of s → m.stage ≡ Created item.payload → type ≡ message_type inc.payload.now → is_kex type ≡ true → Moves says (record s { writer = w }) m inc answer s' → Handles says s inc.seqn inc.payload.now answer s'
 handles_begun says s s' w item m inc type answer valid outside sends setting_is stage_is t k h at read i r q =
     let o : IsOwn (record s { writer = w }) m = record { setting_is = setting_is; flagged = subst (λ (x : Stage). IsFlagged m.setting (names_in_stage x)) (sym stage_is) tt } in
     let ordered : OrderBy s.side at.number i s.finished.items (names_in_stage m.stage) = order_none s.side at.number i s.finished.items (names_in_stage m.stage) (ap names_in_stage stage_is) in
@@ -89,12 +91,12 @@ handles_begun says s s' w item m inc type answer valid outside sends setting_is 
       output = d.output ∙ ap (λ (x : Writer). x.output ++ sent_bytes s.side (spot_of x) d.events) sends.written ∙ append_assoc s.writer.output (sealed_packet s.writer.sealing s.writer.number item) (sent_bytes s.side (spot_after (spot_of s.writer) item) d.events);
       bytes = d.bytes;
       delivered = d.delivered ∙ sym p.1;
-      alone = λ f. absurd (subst (λ (x : Handled). Moves says (record s { writer = w }) m inc x s') f h);
+      alone = λ f. absurd (subst (λ (x : Disposition). Moves says (record s { writer = w }) m inc x s') f h);
       input = (d.input.0, (let u = d.input.1 in omega (arith, u)));
       silent = d.silent;
     }
 
-pub handles_moved : (says : Says) (s s1 s' : Session) (m : Machine) (inc : Incoming) (type : ℕ) (answer : Handled) → config_fault s.side s.config.now ≡ None → IsOpen s → type ≡ message_type inc.payload.now → is_kex type ≡ true → Passes s inc.seqn type → IsFor s m s1 → Moves says s1 m inc answer s' → Handles says s inc.seqn inc.payload.now answer s'
+pub handles_moved : (says : Says) (s s1 s' : Session) (m : Machine) (inc : Incoming) (type : ℕ) (answer : Disposition) → config_fault s.side s.config.now ≡ None → IsOpen s → type ≡ message_type inc.payload.now → is_kex type ≡ true → Passes s inc.seqn type → IsFor s m s1 → Moves says s1 m inc answer s' → Handles says s inc.seqn inc.payload.now answer s'
 handles_moved says s s1 s' m inc type answer valid o t k passes (inl f) h = handles_begun says s s' s1.writer (f.0).item m inc type answer valid f.1 (f.0).sends (f.0).setting_is (f.0).stage_is t k (subst (λ (x : Session). Moves says x m inc answer s') (f.0).becomes h)
 handles_moved says s s1 s' m inc type answer valid o t k passes (inr f) h = handles_inside says s s' m inc type answer valid (own_of s m f.0 o) t k passes f.0 (subst (λ (x : Session). Moves says x m inc answer s') f.1 h)
 
@@ -107,12 +109,12 @@ next_own says s m inc next reset w written o (inr t) = record {
   flagged = subst (λ (x : Setting). IsFlagged x (names_in_stage next.stage)) (sym t.setting_is) (taken_flagged says m.setting m.stage next.stage inc.seqn inc.payload.now t.written t.takes o.flagged);
 }
 
-open_move : (says : Says) (s s' : Session) (m : Machine) (inc : Incoming) (answer : Handled) → IsOwn s m → IsHeard s.line → Moves says s m inc answer s' → IsOpen s'
+open_move : (says : Says) (s s' : Session) (m : Machine) (inc : Incoming) (answer : Disposition) → IsOwn s m → IsHeard s.line → Moves says s m inc answer s' → IsOpen s'
 open_move says s s' m inc Delivers o l h = absurd h
 open_move says s s' m inc Done o l h = subst IsOpen (sym h.becomes) (record { machine = (let n = next_own says s m inc h.next h.reset s.writer h.written o h.does in record { setting_is = n.setting_is; flagged = n.flagged }); heard = λ b. l })
 open_move says s s' m inc (Rekeys opening again) o l h = subst IsOpen (sym h.installs.3) (record { machine = tt; heard = λ b. l })
 
-pub open_moved : (says : Says) (s s1 s' : Session) (m : Machine) (inc : Incoming) (answer : Handled) → IsOpen s → IsBegun s → IsFor s m s1 → Moves says s1 m inc answer s' → IsOpen s'
+pub open_moved : (says : Says) (s s1 s' : Session) (m : Machine) (inc : Incoming) (answer : Disposition) → IsOpen s → IsBegun s → IsFor s m s1 → Moves says s1 m inc answer s' → IsOpen s'
 open_moved says s s1 s' m inc answer o b (inl f) h = open_move says (record s { writer = s1.writer }) s' m inc answer (record { setting_is = (f.0).setting_is; flagged = subst (λ (x : Stage). IsFlagged m.setting (names_in_stage x)) (sym (f.0).stage_is) tt }) (o.heard b) (subst (λ (x : Session). Moves says x m inc answer s') (f.0).becomes h)
 open_moved says s s1 s' m inc answer o b (inr f) h = open_move says (record s { kex = Taken }) s' m inc answer (own_taken s m (own_of s m f.0 o)) (o.heard b) (subst (λ (x : Session). Moves says x m inc answer s') f.1 h)
 
@@ -129,5 +131,31 @@ ok_if (Ok x) P Q f h = f x h
 ok_if (Err e) P Q f h = tt
 
 -- by what its machine's configuration makes the parts say
-pub handles_taken : (says : Config → Says) (s s1 s' : Session) (m : Machine) (inc : Incoming) (type : ℕ) (answer : Handled) → config_fault s.side s.config.now ≡ None → IsOpen s → type ≡ message_type inc.payload.now → is_kex type ≡ true → Passes s inc.seqn type → IsFor s m s1 → Moves (says m.setting.config) s1 m inc answer s' → Handles (says s.config.now) s inc.seqn inc.payload.now answer s'
+pub handles_taken : (says : Config → Says) (s s1 s' : Session) (m : Machine) (inc : Incoming) (type : ℕ) (answer : Disposition) → config_fault s.side s.config.now ≡ None → IsOpen s → type ≡ message_type inc.payload.now → is_kex type ≡ true → Passes s inc.seqn type → IsFor s m s1 → Moves (says m.setting.config) s1 m inc answer s' → Handles (says s.config.now) s inc.seqn inc.payload.now answer s'
 handles_taken says s s1 s' m inc type answer valid o t k passes f h = handles_moved (says s.config.now) s s1 s' m inc type answer valid o t k passes f (subst (λ (x : Config). Moves (says x) s1 m inc answer s') (for_config s s1 m o f) h)
+
+-- ---- the machine awaits more
+
+-- the writer's numbers begin again where told
+abbrev pub IsRenumbered : Session → Bool → Writer → Session → Type 0
+IsRenumbered s reset w s' = (s' ≡ record s { writer = s'.writer })
+    × (s'.writer ≡ record w { number = (spot_renumbered reset (record { sealing = w.sealing; number = w.number })).number })
+
+pub renumbered : (s : Session) (reset : Bool) (w w' : Writer) → reset ≡ true → w' ≡ record w { number = 0 } → IsRenumbered s reset w (record s { writer = w' })
+renumbered s true w w' r e = (refl, e)
+renumbered s false w w' r e = absurd (let f : false ≡ true = r in cc)
+
+pub numbered_on : (s : Session) (reset : Bool) (w : Writer) → reset ≡ false → IsRenumbered s reset w (record s { writer = w })
+numbered_on s true w r = absurd (let f : true ≡ false = r in cc)
+numbered_on s false w r = (refl, refl)
+
+pub awaits_in : (says : Says) (s : Session) (m : Machine) (i : Incoming) (progress : KexProgress Machine) (next : Machine) (reset : Bool) (w : Writer) (s1 : Session) → progress ≡ NeedsReply next reset → Progresses says m (Some i) s.writer progress w → IsRenumbered s reset w s1
+    → Moves says s m i Done (record s1 { kex = InProgress next })
+awaits_in says s m i progress next reset w s1 e h n = record {
+  next = next;
+  reset = reset;
+  written = w;
+  does = subst (λ (x : KexProgress Machine). Progresses says m (Some i) s.writer x w) e h;
+  writer_is = n.1;
+  becomes = ap (λ (x : Session). record x { kex = InProgress next }) n.0;
+}

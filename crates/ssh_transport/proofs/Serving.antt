@@ -26,8 +26,8 @@ use Rattle.ssh_transport.specs.Sending.{MoveServes, NoneMade, OfKeys, Sender, Se
 use Rattle.ssh_transport.specs.States.{standing_of}
 use Rattle.ssh_transport.specs.Taking.{TakesUp}
 use Rattle.ssh_transport.specs.declared.connection.Connection.{Connection}
-use Rattle.ssh_transport.specs.declared.session.Handled.{Handled}
-use Rattle.ssh_transport.specs.declared.session.Handled.TheVariants.{Delivers, Done, Rekeys}
+use Rattle.ssh_transport.specs.declared.session.Disposition.{Disposition}
+use Rattle.ssh_transport.specs.declared.session.Disposition.TheVariants.{Delivers, Done, Rekeys}
 use Rattle.ssh_transport.specs.declared.session.Session.{Session}
 use Rattle.ssh_transport.proofs.Asking.{asks_on, between_join, between_same, message_asks}
 use Rattle.ssh_transport.proofs.Kexinits.{between_side}
@@ -60,7 +60,7 @@ serves_wrote Made s s' n n' stream stream' a w = record { asks = a; drawn = send
 pub wrote_from : (a b c : Session) (stream stream' : Stream) → b ≡ a → WritesDrawn b c stream stream' → WritesDrawn a c stream stream'
 wrote_from a b c stream stream' e h = subst (λ (x : Session). WritesDrawn x c stream stream') e h
 
-pub serves_on : (Made : Side → Stream → Stream → Type 0) (c c1 c2 : Connection) (answer : Handled) (s' : Session) (read : ℕ) (n n' : PartTally) (s t u : Stream) → IsFixed c.session c1.session → ServesBetween Made c.session c1.session n n' s t → TakesUp answer c1 c2 → GoesOn c2.session read s' → WritesDrawn c2.session s' t u → ServesBetween Made c.session s' n n' s u
+pub serves_on : (Made : Side → Stream → Stream → Type 0) (c c1 c2 : Connection) (answer : Disposition) (s' : Session) (read : ℕ) (n n' : PartTally) (s t u : Stream) → IsFixed c.session c1.session → ServesBetween Made c.session c1.session n n' s t → TakesUp answer c1 c2 → GoesOn c2.session read s' → WritesDrawn c2.session s' t u → ServesBetween Made c.session s' n n' s u
 serves_on Made c c1 c2 answer s' read n n' s t u f a up g w = record {
   asks = asks_on c c1 c2 answer s' read n n' f a.asks up g;
   drawn = sends_join (Made c.session.side) c.session.side c.session.config.now (sender_of c.session s) (sender_of c1.session t) (sender_of s' u) a.drawn
@@ -69,7 +69,7 @@ serves_on Made c c1 c2 answer s' read n n' s t u f a up g w = record {
 
 -- ---- a message
 
-pub message_serves : (Made : Side → Stream → Stream → Type 0) (says : Says) (s s1 s' : Session) (m : Machine) (i : Incoming) (answer : Handled) (n n' : PartTally) (before between left : Stream) → config_fault s.side s.config.now ≡ None → IsOpen s → IsFor s m s1 → IsFixed s s1 → WritesDrawn s s1 before between → Moves says s1 m i answer s' → MoveServes Made m s1 s' n n' between left → ServesBetween Made s s' n n' before left
+pub message_serves : (Made : Side → Stream → Stream → Type 0) (says : Says) (s s1 s' : Session) (m : Machine) (i : Incoming) (answer : Disposition) (n n' : PartTally) (before between left : Stream) → config_fault s.side s.config.now ≡ None → IsOpen s → IsFor s m s1 → IsFixed s s1 → WritesDrawn s s1 before between → Moves says s1 m i answer s' → MoveServes Made m s1 s' n n' between left → ServesBetween Made s s' n n' before left
 message_serves Made says s s1 s' m i answer n n' before between left v o f x w h a =
     let side : m.setting.side ≡ s.side = ap (λ (q : Setting). q.side) (set_for s s1 m o f) ∙ between_side s.side s.config.now _ _ in
     record {
@@ -80,7 +80,7 @@ message_serves Made says s s1 s' m i answer n n' before between left v o f x w h
     }
 
 -- the keys of an exchange that ended
-pub installs_sent : (Made : Stream → Stream → Type 0) (m : Machine) (i : Incoming) (old new : Writer) (host : Option ServerHost) (k : NewKeys) (s s' : Session) (config : Config) (answer : Handled) (stream : Stream) → IsDone m i old host k new → Installs s k answer s' → SendsDrawn Made m.setting.side config (sender_of s stream) (sender_of s' stream)
+pub installs_sent : (Made : Stream → Stream → Type 0) (m : Machine) (i : Incoming) (old new : Writer) (host : Option ServerHost) (k : NewKeys) (s s' : Session) (config : Config) (answer : Disposition) (stream : Stream) → IsDone m i old host k new → Installs s k answer s' → SendsDrawn Made m.setting.side config (sender_of s stream) (sender_of s' stream)
 installs_sent Made m i old new host k s s' config Delivers stream d h = absurd h
 installs_sent Made m i old new host k s s' config Done stream d h = absurd h
 installs_sent Made m i old new host k s s' config (Rekeys opening again) stream d h =

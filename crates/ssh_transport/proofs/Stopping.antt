@@ -31,7 +31,7 @@ use Rattle.ssh_transport.specs.States.{reading_spot, state_at, with_more}
 use Rattle.ssh_transport.specs.Stopping.{IsAsBefore, Refuses, Stops}
 use Rattle.ssh_transport.specs.Saying.{GoesPart, IsFixed}
 use Rattle.ssh_transport.specs.Taking.{Reads, TakesUp, Took}
-use Rattle.ssh_transport.specs.declared.session.Handled.{Handled}
+use Rattle.ssh_transport.specs.declared.session.Disposition.{Disposition}
 use Rattle.ssh_transport.specs.declared.connection.Connection.{Connection}
 use Rattle.ssh_transport.specs.declared.session.Session.{Session}
 use Rattle.ssh_transport.proofs.Answering.{spot_of}
@@ -175,7 +175,7 @@ stops_packet says denies untrusted asked c c' result o incoming error key' r' li
     k = subst (λ (x : Option Incoming). LeavesNext c.reader (opening_of c.opening) key' (Ok x) r') f (subst (λ (r : Result (Option Incoming) OpenError). LeavesNext c.reader (opening_of c.opening) key' r r') e l)
 
 -- a packet was read, and memory was wanting for what is to be written behind it
-pub stops_wanting : (says : Says) (denies : Denies) (untrusted : ServerHost → Type 0) (asked : RefusalCause → SideState → Type 0) (c c1 c2 : Connection) (s' : Session) (read : ℕ) (answer : Handled) (error : Error) → IsLive c → Took says c answer c1 → IsFixed c.session c1.session → c1.session.line ≡ c.session.line → TakesUp answer c1 c2 → read ≡ c2.reader.count → (g : GoesPart c2.session read s') → error ≡ errors.Memory → asked OfMemory (state_at g.mid (reading_spot c2) c2.reader.count) → Stops says denies untrusted asked c error (record c2 { session = s' })
+pub stops_wanting : (says : Says) (denies : Denies) (untrusted : ServerHost → Type 0) (asked : RefusalCause → SideState → Type 0) (c c1 c2 : Connection) (s' : Session) (read : ℕ) (answer : Disposition) (error : Error) → IsLive c → Took says c answer c1 → IsFixed c.session c1.session → c1.session.line ≡ c.session.line → TakesUp answer c1 c2 → read ≡ c2.reader.count → (g : GoesPart c2.session read s') → error ≡ errors.Memory → asked OfMemory (state_at g.mid (reading_spot c2) c2.reader.count) → Stops says denies untrusted asked c error (record c2 { session = s' })
 stops_wanting says denies untrusted asked c c1 c2 s' read answer error live t fixed line u e g m a =
     stops_join says denies untrusted asked asked c (record c2 { session = g.mid }) (record c2 { session = s' }) error (λ cause at b h. h)
     (reads_join says c c2 (record c2 { session = g.mid }) (reads_up says c c1 c2 answer live t fixed line u) (reads_written says c2 g.mid read g.events e g.writes))

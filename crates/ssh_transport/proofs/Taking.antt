@@ -25,8 +25,8 @@ use Rattle.ssh_transport.specs.Taking.{Goes, HandlesOne, IfPacket, Lends, PollsO
 use Rattle.ssh_transport.specs.declared.connection.Connection.{Connection}
 use Rattle.ssh_transport.specs.declared.connection.PacketRead.{PacketRead}
 use Rattle.ssh_transport.specs.declared.connection.PacketRead.TheVariants.{Nothing, Packet, Payload}
-use Rattle.ssh_transport.specs.declared.session.Handled.{Handled}
-use Rattle.ssh_transport.specs.declared.session.Handled.TheVariants.{Delivers, Done, Rekeys}
+use Rattle.ssh_transport.specs.declared.session.Disposition.{Disposition}
+use Rattle.ssh_transport.specs.declared.session.Disposition.TheVariants.{Delivers, Done, Rekeys}
 use Rattle.ssh_transport.specs.declared.session.Session.{Session}
 use Rattle.ssh_transport.proofs.Answering.{spot_of}
 use Rattle.ssh_transport.proofs.Saying.{IsSilentLog, only_silent, unread_steps}
@@ -129,13 +129,13 @@ reads_weaker a b w c c' h = record { events = h.events; side = h.side; config = 
 -- ---- one packet
 
 -- a packet was read, and what it asks for by itself was done
-pub record Handed (c : Connection) (item : Item) (answer : Handled) (c' : Connection) : Type 0 where
+pub record Handed (c : Connection) (item : Item) (answer : Disposition) (c' : Connection) : Type 0 where
   pub reading : reading_spot c' ≡ spot_behind answer (reading_spot c) item
   pub count : c'.reader.count ≡ read_behind answer c.reader.count item
   pub bytes : c.reader.waiting ≡ sealed_packet (opening_of c.opening) c.reader.number item ++ c'.reader.waiting
   pub delivered : c'.delivered.items ≡ c.delivered.items ++ delivered_by answer item
 
-pub goes_packet : (says : Says) (c c' : Connection) (seqn : ℕ) (payload : List ℕ) (item : Item) (answer : Handled) → IsFixed c.session c'.session → c'.session.line ≡ c.session.line → reading_spot c' ≡ spot_behind answer (reading_spot c) item → c'.reader.count ≡ read_behind answer c.reader.count item → c.reader.waiting ≡ sealed_packet (opening_of c.opening) c.reader.number item ++ c'.reader.waiting → (d : DoesWith says c.session (reading_spot c) c.reader.count item answer c'.session) → Goes says c d.events c'
+pub goes_packet : (says : Says) (c c' : Connection) (seqn : ℕ) (payload : List ℕ) (item : Item) (answer : Disposition) → IsFixed c.session c'.session → c'.session.line ≡ c.session.line → reading_spot c' ≡ spot_behind answer (reading_spot c) item → c'.reader.count ≡ read_behind answer c.reader.count item → c.reader.waiting ≡ sealed_packet (opening_of c.opening) c.reader.number item ++ c'.reader.waiting → (d : DoesWith says c.session (reading_spot c) c.reader.count item answer c'.session) → Goes says c d.events c'
 goes_packet says c c' seqn payload item answer fixed line reading count bytes d = record {
   side = fixed.0;
   config = fixed.1;
@@ -148,7 +148,7 @@ goes_packet says c c' seqn payload item answer fixed line reading count bytes d 
   silent = d.silent;
 }
 
-pub reads_packet : (says : Says) (c c' : Connection) (seqn : ℕ) (payload : List ℕ) (item : Item) (answer : Handled) → IsLive c → IsReadAt (reading_spot c) seqn payload item → Handles says c.session seqn payload answer c'.session → IsFixed c.session c'.session → c'.session.line ≡ c.session.line → Handed c item answer c' → Reads says c c'
+pub reads_packet : (says : Says) (c c' : Connection) (seqn : ℕ) (payload : List ℕ) (item : Item) (answer : Disposition) → IsLive c → IsReadAt (reading_spot c) seqn payload item → Handles says c.session seqn payload answer c'.session → IsFixed c.session c'.session → c'.session.line ≡ c.session.line → Handed c item answer c' → Reads says c c'
 reads_packet says c c' seqn payload item answer live at h fixed line g =
     let d : DoesWith says c.session (reading_spot c) c.reader.count item answer c'.session = h (reading_spot c) c.reader.count item at live.settled in
     reads_of says c c' d.events (goes_packet says c c' seqn payload item answer fixed line g.reading g.count g.bytes d) (g.delivered ∙ ap (λ (t : List (List ℕ)). c.delivered.items ++ t) (sym d.delivered))
@@ -181,7 +181,7 @@ reads_on says c s' read e h = reads_written says c s' read h.events e h.writes
 pub reads_after : (says later : Config → Says) → ((x : Config) → Weaker (later x) (says x)) → (c mid c' : Connection) → mid.session.config ≡ c.session.config → Reads (says c.session.config.now) c mid → Reads (later mid.session.config.now) mid c' → Reads (says c.session.config.now) c c'
 reads_after says later w c mid c' e h k = reads_join (says c.session.config.now) c mid c' h (reads_weaker (later c.session.config.now) (says c.session.config.now) (w c.session.config.now) mid c' (subst (λ (b : Bor Config). Reads (later b.now) mid c') e k))
 
-delivered_kept : (answer : Handled) (payload : List ℕ) (item : Item) → payload ≡ item.payload → kept_by answer payload ≡ delivered_by answer item
+delivered_kept : (answer : Disposition) (payload : List ℕ) (item : Item) → payload ≡ item.payload → kept_by answer payload ≡ delivered_by answer item
 delivered_kept Delivers payload item e = ap (λ (x : List ℕ). x ∷ []) e
 delivered_kept Done payload item e = refl
 delivered_kept (Rekeys opening again) payload item e = refl
@@ -190,7 +190,7 @@ pub items_of : (a b : Connection) → a.delivered ≡ b.delivered → a.delivere
 items_of a b e = ap (λ v. v.items) e
 
 -- a packet was opened, and done with what it asks for by itself
-pub handles_one : (says : Says) (c c' : Connection) (result : Result (Option Incoming) OpenError) (o : Option Incoming) (incoming : Incoming) (answer : Handled) → LeavesNext c.reader (opening_of c.opening) (opening_of c'.opening) result c'.reader → result ≡ Ok o → o ≡ Some incoming → c.reader.number < 2 ^ 32 → Handles says c.session incoming.seqn incoming.payload.now answer c'.session → c'.delivered ≡ c.delivered → (answer ≡ Delivers → c'.session ≡ c.session) → (is_kex (message_type incoming.payload.now) ≡ false → c'.session ≡ c.session) → HandlesOne says c answer c'
+pub handles_one : (says : Says) (c c' : Connection) (result : Result (Option Incoming) OpenError) (o : Option Incoming) (incoming : Incoming) (answer : Disposition) → LeavesNext c.reader (opening_of c.opening) (opening_of c'.opening) result c'.reader → result ≡ Ok o → o ≡ Some incoming → c.reader.number < 2 ^ 32 → Handles says c.session incoming.seqn incoming.payload.now answer c'.session → c'.delivered ≡ c.delivered → (answer ≡ Delivers → c'.session ≡ c.session) → (is_kex (message_type incoming.payload.now) ≡ false → c'.session ≡ c.session) → HandlesOne says c answer c'
 handles_one says c c' result o incoming answer l e f small h d still others = record {
   seqn = incoming.seqn;
   item = k.0;
@@ -212,15 +212,15 @@ handles_one says c c' result o incoming answer l e f small h d still others = re
   k : LeavesNext c.reader (opening_of c.opening) (opening_of c'.opening) (Ok (Some incoming)) c'.reader
   k = subst (λ (x : Option Incoming). LeavesNext c.reader (opening_of c.opening) (opening_of c'.opening) (Ok x) c'.reader) f (subst (λ (r : Result (Option Incoming) OpenError). LeavesNext c.reader (opening_of c.opening) (opening_of c'.opening) r c'.reader) e l)
 
-took_with : (says : Says) (c c1 c2 : Connection) (answer : Handled) (t : HandlesOne says c answer c1) → c2 ≡ record c1 { delivered = c2.delivered } → c2.delivered.items ≡ c.delivered.items ++ delivered_by answer t.item → Took says c answer c2
+took_with : (says : Says) (c c1 c2 : Connection) (answer : Disposition) (t : HandlesOne says c answer c1) → c2 ≡ record c1 { delivered = c2.delivered } → c2.delivered.items ≡ c.delivered.items ++ delivered_by answer t.item → Took says c answer c2
 took_with says c c1 c2 answer t e d = subst (λ (x : Connection). Took says c answer x) (sym e) (record { seqn = t.seqn; item = t.item; at = t.at; handles = t.handles; number = t.number; count = t.count; sealing = t.sealing; bytes = t.bytes; shorter = t.shorter; unbroken = t.unbroken; window = t.window; delivered = d })
 
 -- and its payload was queued
-pub took_queued : (says : Says) (c c1 c2 : Connection) (answer : Handled) → HandlesOne says c answer c1 → c2 ≡ record c1 { delivered = c2.delivered } → c2.delivered.items ≡ c1.delivered.items ++ kept_by answer c1.reader.handed → Took says c answer c2
+pub took_queued : (says : Says) (c c1 c2 : Connection) (answer : Disposition) → HandlesOne says c answer c1 → c2 ≡ record c1 { delivered = c2.delivered } → c2.delivered.items ≡ c1.delivered.items ++ kept_by answer c1.reader.handed → Took says c answer c2
 took_queued says c c1 c2 answer t e d = took_with says c c1 c2 answer t e (d ∙ ap (λ (t : List (List ℕ)). t ++ kept_by answer c1.reader.handed) (items_of c1 c t.delivered) ∙ ap (λ (x : List (List ℕ)). c.delivered.items ++ x) (delivered_kept answer c1.reader.handed t.item t.handed))
 
 -- or nothing of it is delivered
-pub took_nothing : (says : Says) (c c1 : Connection) (answer : Handled) (t : HandlesOne says c answer c1) → delivered_by answer t.item ≡ [] → Took says c answer c1
+pub took_nothing : (says : Says) (c c1 : Connection) (answer : Disposition) (t : HandlesOne says c answer c1) → delivered_by answer t.item ≡ [] → Took says c answer c1
 took_nothing says c c1 answer t n = took_with says c c1 c1 answer t refl (items_of c1 c t.delivered ∙ sym (ap (λ (x : List (List ℕ)). c.delivered.items ++ x) n ∙ append-nil c.delivered.items))
 
 number_after : (n : ℕ) → next_number n < 2 ^ 32
@@ -230,17 +230,17 @@ renumbered_small : (again : Bool) (at : Spot) → at.number < 2 ^ 32 → (spot_r
 renumbered_small true at h = omega arith
 renumbered_small false at h = h
 
-up_small : (answer : Handled) (at : Spot) → at.number < 2 ^ 32 → (spot_up answer at).number < 2 ^ 32
+up_small : (answer : Disposition) (at : Spot) → at.number < 2 ^ 32 → (spot_up answer at).number < 2 ^ 32
 up_small Delivers at h = h
 up_small Done at h = h
 up_small (Rekeys opening again) at h = renumbered_small again (record at { sealing = opening_of opening }) h
 
-up_behind : (answer : Handled) (at at' : Spot) (item : Item) → at' ≡ spot_after at item → spot_up answer at' ≡ spot_behind answer at item
+up_behind : (answer : Disposition) (at at' : Spot) (item : Item) → at' ≡ spot_after at item → spot_up answer at' ≡ spot_behind answer at item
 up_behind Delivers at at' item e = e
 up_behind Done at at' item e = e
 up_behind (Rekeys opening again) at at' item e = ap (λ (x : Spot). spot_renumbered again (record x { sealing = opening_of opening })) e
 
-up_read : (answer : Handled) (n n' : ℕ) (item : Item) → n' ≡ count_after n (length item.payload) → count_up answer n' ≡ read_behind answer n item
+up_read : (answer : Disposition) (n n' : ℕ) (item : Item) → n' ≡ count_after n (length item.payload) → count_up answer n' ≡ read_behind answer n item
 up_read Delivers n n' item e = e
 up_read Done n n' item e = e
 up_read (Rekeys opening again) n n' item e = refl
@@ -248,13 +248,13 @@ up_read (Rekeys opening again) n n' item e = refl
 spot_moved : (c c1 : Connection) (item : Item) → c1.reader.number ≡ next_number c.reader.number → opening_of c1.opening ≡ moved_on (opening_of c.opening) item → reading_spot c1 ≡ spot_after (reading_spot c) item
 spot_moved c c1 item n k = ap (λ (x : Sealing). record { sealing = x; number = c1.reader.number }) k ∙ ap (λ (m : ℕ). record { sealing = moved_on (opening_of c.opening) item; number = m }) n
 
-took_spot : (says : Says) (c c1 : Connection) (answer : Handled) (t : Took says c answer c1) → reading_spot c1 ≡ spot_after (reading_spot c) t.item
+took_spot : (says : Says) (c c1 : Connection) (answer : Disposition) (t : Took says c answer c1) → reading_spot c1 ≡ spot_after (reading_spot c) t.item
 took_spot says c c1 answer t = spot_moved c c1 t.item t.number t.sealing
 
-pub numbered_up : (c c1 c2 : Connection) (answer : Handled) → c1.reader.number ≡ next_number c.reader.number → TakesUp answer c1 c2 → c2.reader.number < 2 ^ 32
+pub numbered_up : (c c1 c2 : Connection) (answer : Disposition) → c1.reader.number ≡ next_number c.reader.number → TakesUp answer c1 c2 → c2.reader.number < 2 ^ 32
 numbered_up c c1 c2 answer n u = subst (λ (x : Spot). x.number < 2 ^ 32) (sym u.reading) (up_small answer (reading_spot c1) (subst (λ (m : ℕ). m < 2 ^ 32) (sym n) (number_after c.reader.number)))
 
-pub reads_up : (says : Says) (c c1 c2 : Connection) (answer : Handled) → IsLive c → Took says c answer c1 → IsFixed c.session c1.session → c1.session.line ≡ c.session.line → TakesUp answer c1 c2 → Reads says c c2
+pub reads_up : (says : Says) (c c1 c2 : Connection) (answer : Disposition) → IsLive c → Took says c answer c1 → IsFixed c.session c1.session → c1.session.line ≡ c.session.line → TakesUp answer c1 c2 → Reads says c c2
 reads_up says c c1 c2 answer live t fixed line u =
     reads_packet says c c2 t.seqn t.item.payload t.item answer live t.at
     (subst (λ (s : Session). Handles says c.session t.seqn t.item.payload answer s) same t.handles)
@@ -270,7 +270,7 @@ reads_up says c c1 c2 answer live t fixed line u =
     same : c1.session ≡ c2.session
     same = sym (ap (λ (x : Connection). x.session) u.rest)
 
-pub reads_taken : (says : Says) (c c1 c2 : Connection) (s' : Session) (read : ℕ) (answer : Handled) → IsLive c → Took says c answer c1 → IsFixed c.session c1.session → c1.session.line ≡ c.session.line → TakesUp answer c1 c2 → read ≡ c2.reader.count → GoesOn c2.session read s' → Reads says c (record c2 { session = s' })
+pub reads_taken : (says : Says) (c c1 c2 : Connection) (s' : Session) (read : ℕ) (answer : Disposition) → IsLive c → Took says c answer c1 → IsFixed c.session c1.session → c1.session.line ≡ c.session.line → TakesUp answer c1 c2 → read ≡ c2.reader.count → GoesOn c2.session read s' → Reads says c (record c2 { session = s' })
 reads_taken says c c1 c2 s' read answer live t fixed line u e h = reads_join says c c2 (record c2 { session = s' }) (reads_up says c c1 c2 answer live t fixed line u) (reads_on says c2 s' read e h)
 
 -- ---- a payload that is lent
@@ -308,16 +308,16 @@ lends_packet says c c1 c2 s' read live t fixed line u e g = record {
   first : Goes says c d.events c1
   first = goes_packet says c c1 t.seqn t.item.payload t.item Delivers fixed line (spot_moved c c1 t.item t.number t.sealing) t.count t.bytes d
 
-read_on : (says : Says) (c c1 c2 : Connection) (s' : Session) (read : ℕ) (answer : Handled) (t : HandlesOne says c answer c1) → delivered_by answer t.item ≡ [] → IsLive c → IsFixed c.session c1.session → c1.session.line ≡ c.session.line → TakesUp answer c1 c2 → read ≡ c2.reader.count → GoesOn c2.session read s' → Reads says c (record c2 { session = s' }) × (c2.delivered ≡ c.delivered)
+read_on : (says : Says) (c c1 c2 : Connection) (s' : Session) (read : ℕ) (answer : Disposition) (t : HandlesOne says c answer c1) → delivered_by answer t.item ≡ [] → IsLive c → IsFixed c.session c1.session → c1.session.line ≡ c.session.line → TakesUp answer c1 c2 → read ≡ c2.reader.count → GoesOn c2.session read s' → Reads says c (record c2 { session = s' }) × (c2.delivered ≡ c.delivered)
 read_on says c c1 c2 s' read answer t n live fixed line u e g = (reads_taken says c c1 c2 s' read answer live (took_nothing says c c1 answer t n) fixed line u e g, ap (λ (x : Connection). x.delivered) u.rest ∙ t.delivered)
 
 -- by what is done with it
-polls_taken : (says : Says) (c c1 c2 : Connection) (s' : Session) (read : ℕ) (answer : Handled) → IsLive c → HandlesOne says c answer c1 → IsFixed c.session c1.session → c1.session.line ≡ c.session.line → TakesUp answer c1 c2 → read ≡ c2.reader.count → GoesOn c2.session read s' → PollsOne says c (read_as answer) (record c2 { session = s' })
+polls_taken : (says : Says) (c c1 c2 : Connection) (s' : Session) (read : ℕ) (answer : Disposition) → IsLive c → HandlesOne says c answer c1 → IsFixed c.session c1.session → c1.session.line ≡ c.session.line → TakesUp answer c1 c2 → read ≡ c2.reader.count → GoesOn c2.session read s' → PollsOne says c (read_as answer) (record c2 { session = s' })
 polls_taken says c c1 c2 s' read Delivers live t fixed line u e g = lends_packet says c c1 c2 s' read live t fixed line u e g
 polls_taken says c c1 c2 s' read Done live t fixed line u e g = read_on says c c1 c2 s' read Done t refl live fixed line u e g
 polls_taken says c c1 c2 s' read (Rekeys opening again) live t fixed line u e g = read_on says c c1 c2 s' read (Rekeys opening again) t refl live fixed line u e g
 
-pub polls_as : (says : Says) (c c1 c2 : Connection) (s' : Session) (n : ℕ) (answer : Handled) (read : PacketRead) → read ≡ read_as answer → IsLive c → HandlesOne says c answer c1 → IsFixed c.session c1.session → c1.session.line ≡ c.session.line → TakesUp answer c1 c2 → n ≡ c2.reader.count → GoesOn c2.session n s' → PollsOne says c read (record c2 { session = s' })
+pub polls_as : (says : Says) (c c1 c2 : Connection) (s' : Session) (n : ℕ) (answer : Disposition) (read : PacketRead) → read ≡ read_as answer → IsLive c → HandlesOne says c answer c1 → IsFixed c.session c1.session → c1.session.line ≡ c.session.line → TakesUp answer c1 c2 → n ≡ c2.reader.count → GoesOn c2.session n s' → PollsOne says c read (record c2 { session = s' })
 polls_as says c c1 c2 s' n answer read r live t fixed line u e g = subst (λ (x : PacketRead). PollsOne says c x (record c2 { session = s' })) (sym r) (polls_taken says c c1 c2 s' n answer live t fixed line u e g)
 
 pub polls_none : (says : Says) (c c' : Connection) → c' ≡ record c { reader = record c.reader { handed = [] } } → c'.delivered ≡ c.delivered → WaitsInPart (reading_spot c) c.reader.waiting → PollsOne says c Nothing c'

@@ -36,8 +36,8 @@ use Rattle.ssh_transport.specs.States.{emptied, heard_of, reading_spot, standing
 use Rattle.ssh_transport.specs.Stopping.{Refuses, Stops, Wants, WantsKeys}
 use Rattle.ssh_transport.specs.Taking.{HandlesOne, Hears, Reads, TakesUp, count_up}
 use Rattle.ssh_transport.specs.declared.connection.Connection.{Connection}
-use Rattle.ssh_transport.specs.declared.session.Handled.{Handled}
-use Rattle.ssh_transport.specs.declared.session.Handled.TheVariants.{Delivers, Done, Rekeys}
+use Rattle.ssh_transport.specs.declared.session.Disposition.{Disposition}
+use Rattle.ssh_transport.specs.declared.session.Disposition.TheVariants.{Delivers, Done, Rekeys}
 use Rattle.ssh_transport.specs.declared.session.Session.{Session}
 use Rattle.ssh_transport.proofs.Hearing.{left_unheard}
 use Rattle.ssh_transport.proofs.Inputs.{line_more}
@@ -52,7 +52,7 @@ use Rattle.ssh_transport.proofs.Weaker.{Weaker, steps_weaker}
 none_held : (c : Connection) (s : Session) → IsLive c → s ≡ c.session → stands_of s.finished.items s.kex ≡ Outside → s.held.items ≡ []
 none_held c s live e o = ap (λ (x : Session). x.held.items) e ∙ (live.settled (reading_spot c)).sent (sym (ap (λ (x : Session). stands_of x.finished.items x.kex) e) ∙ o)
 
-pub stops_polling : (says : Says) (denies : Denies) (untrusted : ServerHost → Type 0) (asked : RefusalCause → SideState → Type 0) (c c1 c2 : Connection) (s' : Session) (read : ℕ) (answer : Handled) (error : Error) → IsLive c → HandlesOne says c answer c1 → IsFixed c.session c1.session → c1.session.line ≡ c.session.line → TakesUp answer c1 c2 → read ≡ c2.reader.count → (g : GoesPart c2.session read s') → ((stands_of c2.session.finished.items c2.session.kex ≡ Outside → c2.session.held.items ≡ []) → WantsKeys c2.session read s') → error ≡ errors.Memory → asked OfMemory (state_at g.mid (reading_spot c2) c2.reader.count) → (c1.session ≡ c.session → asked OfMemory (state_at c.session (reading_spot c) c.reader.count)) → Stops says denies untrusted asked c error (record c2 { session = s' })
+pub stops_polling : (says : Says) (denies : Denies) (untrusted : ServerHost → Type 0) (asked : RefusalCause → SideState → Type 0) (c c1 c2 : Connection) (s' : Session) (read : ℕ) (answer : Disposition) (error : Error) → IsLive c → HandlesOne says c answer c1 → IsFixed c.session c1.session → c1.session.line ≡ c.session.line → TakesUp answer c1 c2 → read ≡ c2.reader.count → (g : GoesPart c2.session read s') → ((stands_of c2.session.finished.items c2.session.kex ≡ Outside → c2.session.held.items ≡ []) → WantsKeys c2.session read s') → error ≡ errors.Memory → asked OfMemory (state_at g.mid (reading_spot c2) c2.reader.count) → (c1.session ≡ c.session → asked OfMemory (state_at c.session (reading_spot c) c.reader.count)) → Stops says denies untrusted asked c error (record c2 { session = s' })
 stops_polling says denies untrusted asked c c1 c2 s' read Delivers error live t fixed line u e g due m a b =
     let same : c2.session ≡ c.session = ap (λ (x : Connection). x.session) u.rest ∙ t.still refl in
     let w = due (none_held c c2.session live same) in
@@ -64,12 +64,12 @@ wants_here : (says : Says) (c : Connection) → IsCostly c.session.config.now (s
 wants_here says c h = record { events = []; at = state_at c.session (reading_spot c) c.reader.count; steps = refl; silent = tt; unlent = refl; left = c.reader.waiting; bytes = refl; at_cost = inr h }
 
 -- the count that reaches the limit is that behind the packet
-count_reached : (limit : ℕ) (answer : Handled) (n m k : ℕ) → k ≡ count_up answer m → n < limit → limit ≤ k → limit ≤ m
+count_reached : (limit : ℕ) (answer : Disposition) (n m k : ℕ) → k ≡ count_up answer m → n < limit → limit ≤ k → limit ≤ m
 count_reached limit Delivers n m k e b r = omega (arith, e, r)
 count_reached limit Done n m k e b r = omega (arith, e, r)
 count_reached limit (Rekeys opening again) n m k e b r = absurd (omega (arith, e, b, r))
 
-pub wants_polling : (says : Says) (c c1 c2 : Connection) (s' : Session) (read : ℕ) (answer : Handled) → IsLive c → HandlesOne says c answer c1 → TakesUp answer c1 c2 → read ≡ c2.reader.count → ((stands_of c2.session.finished.items c2.session.kex ≡ Outside → c2.session.held.items ≡ []) → WantsKeys c2.session read s') → Wants says c
+pub wants_polling : (says : Says) (c c1 c2 : Connection) (s' : Session) (read : ℕ) (answer : Disposition) → IsLive c → HandlesOne says c answer c1 → TakesUp answer c1 c2 → read ≡ c2.reader.count → ((stands_of c2.session.finished.items c2.session.kex ≡ Outside → c2.session.held.items ≡ []) → WantsKeys c2.session read s') → Wants says c
 wants_polling says c c1 c2 s' read answer live t u e due = by (is_kex_type (type_of t.item)) refl
   where
     at_limit : c1.session ≡ c.session → IsCostly c.session.config.now (state_at c.session (reading_spot c) c.reader.count) c.reader.waiting

@@ -22,8 +22,8 @@ use Rattle.ssh_rules.specs.MessageTypes.{type_of}
 use Rattle.ssh_rules.specs.Standing.{HearsNone, IsInput}
 use Rattle.ssh_transport.specs.Saying.{IsSettled, Opens, setting_of}
 use Rattle.ssh_transport.specs.States.{stands_of, state_at}
-use Rattle.ssh_transport.specs.declared.session.Handled.{Handled}
-use Rattle.ssh_transport.specs.declared.session.Handled.TheVariants.{Delivers, Done, Rekeys}
+use Rattle.ssh_transport.specs.declared.session.Disposition.{Disposition}
+use Rattle.ssh_transport.specs.declared.session.Disposition.TheVariants.{Delivers, Done, Rekeys}
 use Rattle.ssh_transport.specs.declared.session.Session.{Session}
 
 -- ---- the machine of an open exchange
@@ -90,25 +90,25 @@ may_deliver_by records Outside = true
 may_deliver_by records (Inside stage) = may_deliver_at records stage
 
 -- where the next packet is read
-abbrev pub spot_behind : Handled → Spot → Item → Spot
+abbrev pub spot_behind : Disposition → Spot → Item → Spot
 spot_behind Delivers at i = spot_after at i
 spot_behind Done at i = spot_after at i
 spot_behind (Rekeys opening again) at i =
     spot_renumbered again (record { sealing = opening_of opening; number = next_number at.number })
 
 -- how many bytes were read then
-abbrev pub read_behind : Handled → ℕ → Item → ℕ
+abbrev pub read_behind : Disposition → ℕ → Item → ℕ
 read_behind Delivers read i = count_after read (length i.payload)
 read_behind Done read i = count_after read (length i.payload)
 read_behind (Rekeys opening again) read i = 0
 
-abbrev pub delivered_by : Handled → Item → List (List ℕ)
+abbrev pub delivered_by : Disposition → Item → List (List ℕ)
 delivered_by Delivers i = i.payload ∷ []
 delivered_by Done i = []
 delivered_by (Rekeys opening again) i = []
 
 -- the events of one packet
-pub record DoesWith (says : Says) (s : Session) (at : Spot) (read : ℕ) (i : Item) (answer : Handled) (s' : Session) : Type 0 where
+pub record DoesWith (says : Says) (s : Session) (at : Spot) (read : ℕ) (i : Item) (answer : Disposition) (s' : Session) : Type 0 where
   pub events : List Event
   pub steps : Steps says s.side s.config.now (id_text s.config.now.id) (state_at s at read) events
       (state_at s' (spot_behind answer at i) (read_behind answer read i))
@@ -122,14 +122,14 @@ pub record DoesWith (says : Says) (s : Session) (at : Spot) (read : ℕ) (i : It
   pub silent : HearsNone events
 
 -- one packet was handled, wherever it was read
-abbrev pub Handles : Says → Session → ℕ → List ℕ → Handled → Session → Type 0
+abbrev pub Handles : Says → Session → ℕ → List ℕ → Disposition → Session → Type 0
 Handles says s seqn payload answer s' = (at : Spot) (read : ℕ) (i : Item) → IsReadAt at seqn payload i
     → IsSettled s read → DoesWith says s at read i answer s'
 
 -- ---- what the machine does with it
 
 -- the keys of an exchange were taken up
-abbrev pub Installs : Session → NewKeys → Handled → Session → Type 0
+abbrev pub Installs : Session → NewKeys → Disposition → Session → Type 0
 Installs s k Delivers s' = ⊥
 Installs s k Done s' = ⊥
 Installs s k (Rekeys opening again) s' = (opening ≡ k.cipher.value.remote_to_local) × (again ≡ k.names.strict_kex)
@@ -151,7 +151,7 @@ pub record Awaits (says : Says) (s : Session) (m : Machine) (i : Incoming) (s' :
   pub becomes : s' ≡ record s { writer = s'.writer; kex = InProgress next }
 
 -- the machine is at its end
-pub record Ended (says : Says) (s : Session) (m : Machine) (i : Incoming) (answer : Handled) (s' : Session) : Type 0 where
+pub record Ended (says : Says) (s : Session) (m : Machine) (i : Incoming) (answer : Disposition) (s' : Session) : Type 0 where
   pub host : Option ServerHost
   pub newkeys : NewKeys
   pub written : Writer
@@ -160,7 +160,7 @@ pub record Ended (says : Says) (s : Session) (m : Machine) (i : Incoming) (answe
   pub installs : Installs (record s { writer = written }) newkeys answer s'
 
 -- a message was handed to the machine
-abbrev pub Moves : Says → Session → Machine → Incoming → Handled → Session → Type 0
+abbrev pub Moves : Says → Session → Machine → Incoming → Disposition → Session → Type 0
 Moves says s m i Delivers s' = ⊥
 Moves says s m i Done s' = Awaits says s m i s'
 Moves says s m i (Rekeys opening again) s' = Ended says s m i (Rekeys opening again) s'

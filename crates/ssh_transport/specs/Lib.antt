@@ -14,3 +14,5 @@ pub mod Submitting
 pub mod Taking
 pub mod Usable
 pub mod Sending
+pub mod Calls
+pub mod SessionCalls

@@ -15,8 +15,8 @@ use Rattle.ssh_transport.specs.States.{emptied, reading_spot, state_at}
 use Rattle.ssh_transport.specs.declared.connection.Connection.{Connection}
 use Rattle.ssh_transport.specs.declared.connection.PacketRead.{PacketRead}
 use Rattle.ssh_transport.specs.declared.connection.PacketRead.TheVariants.{Nothing, Packet, Payload}
-use Rattle.ssh_transport.specs.declared.session.Handled.{Handled}
-use Rattle.ssh_transport.specs.declared.session.Handled.TheVariants.{Delivers, Done, Rekeys}
+use Rattle.ssh_transport.specs.declared.session.Disposition.{Disposition}
+use Rattle.ssh_transport.specs.declared.session.Disposition.TheVariants.{Delivers, Done, Rekeys}
 
 -- These events lead from a connection to another: what they write was written, and what they read was read.
 pub record Goes (says : Says) (c : Connection) (events : List Event) (c' : Connection) : Type 0 where
@@ -48,7 +48,7 @@ pub record Reads (says : Says) (c c' : Connection) : Type 0 where
 
 -- A packet was opened, and done with what it asks for by itself: its payload is lent. The keys of an exchange that it
 -- ends aren't taken up yet.
-pub record HandlesOne (says : Says) (c : Connection) (answer : Handled) (c' : Connection) : Type 0 where
+pub record HandlesOne (says : Says) (c : Connection) (answer : Disposition) (c' : Connection) : Type 0 where
   pub seqn : ℕ
   pub item : Item
   pub at : IsReadAt (reading_spot c) seqn item.payload item
@@ -67,7 +67,7 @@ pub record HandlesOne (says : Says) (c : Connection) (answer : Handled) (c' : Co
   pub others : is_kex_type (type_of item) ≡ false → c'.session ≡ c.session
 
 -- and its payload was queued, where it is delivered
-pub record Took (says : Says) (c : Connection) (answer : Handled) (c' : Connection) : Type 0 where
+pub record Took (says : Says) (c : Connection) (answer : Disposition) (c' : Connection) : Type 0 where
   pub seqn : ℕ
   pub item : Item
   pub at : IsReadAt (reading_spot c) seqn item.payload item
@@ -82,24 +82,24 @@ pub record Took (says : Says) (c : Connection) (answer : Handled) (c' : Connecti
   pub delivered : c'.delivered.items ≡ c.delivered.items ++ delivered_by answer item
 
 -- a payload that is delivered is kept
-abbrev pub kept_by : Handled → List ℕ → List (List ℕ)
+abbrev pub kept_by : Disposition → List ℕ → List (List ℕ)
 kept_by Delivers payload = payload ∷ []
 kept_by Done payload = []
 kept_by (Rekeys opening again) payload = []
 
 -- the next packet's spot, once the keys of an ended exchange are taken up
-abbrev pub spot_up : Handled → Spot → Spot
+abbrev pub spot_up : Disposition → Spot → Spot
 spot_up Delivers at = at
 spot_up Done at = at
 spot_up (Rekeys opening again) at = spot_renumbered again (record at { sealing = opening_of opening })
 
-abbrev pub count_up : Handled → ℕ → ℕ
+abbrev pub count_up : Disposition → ℕ → ℕ
 count_up Delivers n = n
 count_up Done n = n
 count_up (Rekeys opening again) n = 0
 
 -- the keys of an ended exchange were taken up
-pub record TakesUp (answer : Handled) (c c' : Connection) : Type 0 where
+pub record TakesUp (answer : Disposition) (c c' : Connection) : Type 0 where
   pub reading : reading_spot c' ≡ spot_up answer (reading_spot c)
   pub count : c'.reader.count ≡ count_up answer c.reader.count
   pub waiting : c'.reader.waiting ≡ c.reader.waiting
@@ -144,7 +144,7 @@ pub record Lends (says : Says) (c : Connection) (payload : List ℕ) (c' : Conne
   pub payload_is : item.payload ≡ payload
 
 -- what was made of a packet
-abbrev pub read_as : Handled → PacketRead
+abbrev pub read_as : Disposition → PacketRead
 read_as Delivers = Payload
 read_as Done = Packet
 read_as (Rekeys opening again) = Packet

@@ -5,13 +5,14 @@ ghost use Rattle.ssh_packet.specs.Stream.{message_type};
 ghost use Rattle.ssh_rules.specs.MessageTypes.{is_payload_type};
 ghost use Rattle.ssh_rules.specs.Valid.{config_fault, is_bad_size, is_good_payload};
 ghost use Rattle.ssh_transport.specs.Taking.{kept_by, read_as};
-ghost use Rattle.ssh_transport.specs.declared.session.Handled.TheVariants.{Delivers};
+ghost use Rattle.ssh_transport.specs.declared.session.Disposition.TheVariants.{Delivers};
 ghost use Rattle.ssh_wire.specs.declared.error.ConfigFault.{ConfigFault};
 ghost use Rattle.ssh_wire.specs.declared.error.Error.TheVariants.{Disconnect, Inconsistent, InvalidConfig, Memory, PacketSize};
 
+use crate::config::config_fault;
 use crate::message::{LONGEST_INPUT, LONGEST_PAYLOAD, is_payload, type_of};
-use crate::served::{Attended, Served};
-use crate::session::{Handled, Session};
+use crate::served::Calling;
+use crate::session::{Disposition, Session};
 use rand_core::Rng;
 use ssh_kex::{Agreement, Config, GroupLookup, Handed, HostKeys, Parts};
 use ssh_packet::{OpenKey, PacketReader, clear};
@@ -44,6 +45,7 @@ impl<'c> Connection<'c> {
     ghost use Rattle.ssh_packet.specs.Reading.{window_length};
     ghost use Rattle.ssh_rules.specs.Standing.{IsNew, Rekeyed, Submitted, WaitsInPart, input_room, is_outside, nothing_said, unfinished, with_input};
     ghost use Rattle.ssh_wire.specs.Reading.{waiting_length};
+    ghost use Rattle.ssh_transport.specs.Calls.{Advances, AsksExchange, CanRead, CanTake, EndsOn, FeedsPiece, HandsUp, HearsInput, KeepsNot, PollsPayload, ReadsAll, SubmitsPayload, TakesKept, TakesNext, TakesPiece};
     ghost use Rattle.ssh_transport.specs.Drawing.{AtMostNext, DrawsFirstIn, DrawsFirstOn, GoesNext, OpensDrawn, kexinit_packet, packet_with};
     ghost use Rattle.ssh_transport.specs.Handling.{IsHeard, IsOpen};
     ghost use Rattle.ssh_transport.specs.Hearing.{EndsBy};
@@ -69,10 +71,15 @@ impl<'c> Connection<'c> {
         ensures causes { IfErr result (λ e. (e ≡ Memory) ⊎ ((f : ConfigFault) × (config_fault side config.now ≡ Some f)
             × (e ≡ InvalidConfig f))) }
     {
+        if let Some(fault) = config_fault(side, config) {
+            return Err(Error::InvalidConfig(fault));
+        }
+        let reader = PacketReader::with_window(alloc)?;
+        let session = Session::new(alloc, side, config)?;
         Ok(Connection {
             alloc,
-            session: Session::new(alloc, side, config)?,
-            reader: PacketReader::with_window(alloc)?,
+            session,
+            reader,
             opening: OpenKey::Clear(clear::Key),
             delivered: Vec::new(alloc),
             failed: false,
@@ -80,26 +87,16 @@ impl<'c> Connection<'c> {
     }
 
     /// Takes the next bytes of the other side.
-    #[tactic(auto, using(crate::proofs::Parts::parts_same))]
     pub(crate) fn feed<A: Agreement, H: HostKeys, G: GroupLookup, R: Rng>(
         &mut self,
         parts: &mut Parts<A, H, G, R>,
         piece: &[u8],
     ) -> Result<(), Error>
         requires { IsKept self.old }
-        ensures kept { IsKept self.new }
         ensures dead { self.old.failed ≡ true
             → AnswersAlone (Err Disconnect) result self.old self.new parts.old parts.new }
-        ensures stays { IsFixed self.old.session self.new.session }
-        ensures lives { self.old.failed ≡ false → OnOk result (self.new.failed ≡ false) }
-        ensures ends { self.old.failed ≡ false → OnErr result ((self.new.failed ≡ true)
-            × (unfinished (standing_of self.new) ≡ [])) }
-        ensures fed { OnOk result (⟦<Parts<A, H, G, R> as Served>⟧.feeds self.old parts.old piece.now self.new) }
-        ensures drawn { DrawsFirstOn self.old self.new (R.stream parts.old.rng) (R.stream parts.new.rng) }
-        ensures refused { self.old.failed ≡ false → IfErr result
-            (λ e. ⟦<Parts<A, H, G, R> as Served>⟧.refuses_piece self.old parts.old parts.new piece.now e self.new) }
-        ensures keeps { ⟦<Parts<A, H, G, R> as Handed>⟧.keeps parts.old parts.new }
-        ensures serves { OnOk result (⟦<Parts<A, H, G, R> as Served>⟧.serves self.old self.new parts.old parts.new) }
+        ensures fed { FeedsPiece (⟦<Parts<A, H, G, R> as Calling>⟧.call parts.old parts.new) self.old piece.now result
+            self.new }
     {
         if self.failed {
             return Err(Error::Disconnect);
@@ -110,90 +107,52 @@ impl<'c> Connection<'c> {
 
     /// Handles what is kept of the input up to a payload that is handed up, which the reader then lends: whether there
     /// is one.
-    #[tactic(auto, using(crate::proofs::Parts::parts_same))]
     pub(crate) fn poll<A: Agreement, H: HostKeys, G: GroupLookup, R: Rng>(
         &mut self,
         parts: &mut Parts<A, H, G, R>,
     ) -> Result<bool, Error>
         requires { IsKept self.old }
-        ensures kept { IsKept self.new }
         ensures dead { self.old.failed ≡ true
             → AnswersAlone (Err Disconnect) result self.old self.new parts.old parts.new }
-        ensures stays { IsFixed self.old.session self.new.session }
-        ensures lives { self.old.failed ≡ false → OnOk result (self.new.failed ≡ false) }
-        ensures ends { self.old.failed ≡ false → OnErr result ((self.new.failed ≡ true)
-            × (unfinished (standing_of self.new) ≡ [])) }
-        ensures polled { IfOk result (λ lends. ⟦<Parts<A, H, G, R> as Served>⟧.polls self.old parts.old lends
-            self.new) }
-        ensures drawn { DrawsFirstOn self.old self.new (R.stream parts.old.rng) (R.stream parts.new.rng) }
-        ensures refused { self.old.failed ≡ false → IfErr result
-            (λ e. ⟦<Parts<A, H, G, R> as Served>⟧.refuses_piece self.old parts.old parts.new [] e self.new) }
-        ensures wants { self.old.failed ≡ false → result ≡ Err Memory → ⟦<Parts<A, H, G, R> as Served>⟧.may_want
-            self.old parts.old }
-        ensures unqueued { self.new.delivered.items ≡ self.old.delivered.items }
-        ensures keeps { ⟦<Parts<A, H, G, R> as Handed>⟧.keeps parts.old parts.new }
-        ensures serves { OnOk result (⟦<Parts<A, H, G, R> as Served>⟧.serves self.old self.new parts.old parts.new) }
+        ensures polled { PollsPayload (⟦<Parts<A, H, G, R> as Calling>⟧.call parts.old parts.new) self.old result
+            self.new }
     {
         if self.failed {
             return Err(Error::Disconnect);
         }
-        let polled = self.take_payload(parts);
+        let polled = self.take_kept(parts, false);
         self.fail_on(polled)
     }
 
-    /// The same, where a refusal leaves what is kept.
-    #[tactic(auto, using(crate::proofs::Parts::parts_same))]
-    fn take_payload<A: Agreement, H: HostKeys, G: GroupLookup, R: Rng>(
+    /// Takes what is kept of the input, where payloads aren't queued up to one that is handed up, which the reader then
+    /// lends: whether there is one. A refusal leaves what is kept.
+    fn take_kept<A: Agreement, H: HostKeys, G: GroupLookup, R: Rng>(
         &mut self,
         parts: &mut Parts<A, H, G, R>,
+        queues: bool,
     ) -> Result<bool, Error>
-        requires live { IsLive self.old }
-        requires within { IsKept self.old }
-        ensures begins { CanBegin self.new.session }
-        ensures live { OnOk result (IsLive self.new) }
-        ensures within { OnOk result (IsKept self.new) }
-        ensures settled { OnOk result (WaitsBehind self.new.session.line self.new.reader.waiting) }
-        ensures takes { IfOk result (λ lends. ⟦<Parts<A, H, G, R> as Served>⟧.takes_payload self.old parts.old lends
-            self.new) }
-        ensures drawn { DrawsFirstIn result self.old self.new (R.stream parts.old.rng) (R.stream parts.new.rng) }
-        ensures fails { IfErr result (λ e. ⟦<Parts<A, H, G, R> as Served>⟧.fails self.old parts.old parts.new
-            self.old.reader.waiting e self.new) }
-        ensures wants { result ≡ Err Memory → ⟦<Parts<A, H, G, R> as Served>⟧.may_want self.old parts.old }
-        ensures fixed { IsFixedIn self.old self.new }
-        ensures unqueued { self.new.delivered.items ≡ self.old.delivered.items }
-        ensures keeps { ⟦<Parts<A, H, G, R> as Handed>⟧.keeps parts.old parts.new }
-        ensures asks { OnOk result (⟦<Parts<A, H, G, R> as Served>⟧.asks self.old self.new parts.old parts.new) }
+        requires { CanTake self.old }
+        ensures { TakesKept queues (⟦<Parts<A, H, G, R> as Calling>⟧.call parts.old parts.new) self.old result self.new }
     {
         let is_heard = self.hear(&mut parts.rng)?;
         if is_heard {
-            return self.read_payload(parts);
+            return self.read_on(parts, queues);
         }
         Ok(false)
     }
 
-    /// Handles the packets that are whole up to one whose payload is handed up: whether there is one.
-    #[tactic(auto, using(crate::proofs::Parts::parts_same))]
-    fn read_payload<A: Agreement, H: HostKeys, G: GroupLookup, R: Rng>(
+    /// Handles the packets that are whole, where payloads aren't queued up to one that is handed up: whether there is
+    /// one.
+    fn read_on<A: Agreement, H: HostKeys, G: GroupLookup, R: Rng>(
         &mut self,
         parts: &mut Parts<A, H, G, R>,
+        queues: bool,
     ) -> Result<bool, Error>
-        requires live { IsLive self.old }
-        requires heard { IsHeard self.old.session.line }
-        ensures begins { CanBegin self.new.session }
-        ensures live { OnOk result (IsLive self.new) }
-        ensures reads { IfOk result (λ lends. ⟦<Parts<A, H, G, R> as Served>⟧.polls_one self.old parts.old
-            (read_by lends) self.new) }
-        ensures shorter { OnOk result (length self.new.reader.waiting ≤ length self.old.reader.waiting) }
-        ensures stops { IfErr result (λ e. ⟦<Parts<A, H, G, R> as Served>⟧.stops self.old parts.old parts.new e
-            self.new) }
-        ensures wants { result ≡ Err Memory → ⟦<Parts<A, H, G, R> as Served>⟧.wants self.old parts.old }
-        ensures fixed { IsFixedIn self.old self.new }
-        ensures unqueued { self.new.delivered.items ≡ self.old.delivered.items }
-        ensures keeps { ⟦<Parts<A, H, G, R> as Handed>⟧.keeps parts.old parts.new }
-        ensures asks { OnOk result (⟦<Parts<A, H, G, R> as Served>⟧.asks self.old self.new parts.old parts.new) }
+        requires { CanRead self.old }
+        ensures { ReadsAll queues (⟦<Parts<A, H, G, R> as Calling>⟧.call parts.old parts.new) self.old result self.new }
     {
         'packets: loop {
-            match self.poll_packet(parts)? {
+            match self.next_packet(parts, queues)? {
                 PacketRead::Nothing => return Ok(false),
                 PacketRead::Packet => {}
                 PacketRead::Payload => return Ok(true),
@@ -201,35 +160,55 @@ impl<'c> Connection<'c> {
         }
     }
 
-    /// Handles the next packet, where one is whole. Where memory is wanting behind a payload, that isn't handed up.
-    #[tactic(auto, using(crate::proofs::Parts::parts_same))]
-    fn poll_packet<A: Agreement, H: HostKeys, G: GroupLookup, R: Rng>(
+    /// Handles the next packet, where one is whole. Its payload is queued before a limit begins an exchange behind it,
+    /// or handed up after that.
+    fn next_packet<A: Agreement, H: HostKeys, G: GroupLookup, R: Rng>(
         &mut self,
         parts: &mut Parts<A, H, G, R>,
+        queues: bool,
     ) -> Result<PacketRead, Error>
-        requires live { IsLive self.old }
-        requires heard { IsHeard self.old.session.line }
-        ensures begins { CanBegin self.new.session }
-        ensures live { OnOk result (IsLive self.new) }
-        ensures shorter { IfOk result (λ read. IfPacket read (length self.new.reader.waiting < length
-            self.old.reader.waiting)) }
-        ensures polls { IfOk result (λ read. ⟦<Parts<A, H, G, R> as Served>⟧.polls_one self.old parts.old read
-            self.new) }
-        ensures stops { IfErr result (λ e. ⟦<Parts<A, H, G, R> as Served>⟧.stops self.old parts.old parts.new e
-            self.new) }
-        ensures wants { result ≡ Err Memory → ⟦<Parts<A, H, G, R> as Served>⟧.wants self.old parts.old }
-        ensures fixed { IsFixedIn self.old self.new }
-        ensures unqueued { self.new.delivered.items ≡ self.old.delivered.items }
-        ensures keeps { ⟦<Parts<A, H, G, R> as Handed>⟧.keeps parts.old parts.new }
-        ensures asks { OnOk result (⟦<Parts<A, H, G, R> as Served>⟧.asks self.old self.new parts.old parts.new) }
+        requires { CanRead self.old }
+        ensures { Advances queues (⟦<Parts<A, H, G, R> as Calling>⟧.call parts.old parts.new) self.old result self.new }
     {
         let Some(handled) = self.take_packet(parts)? else {
             return Ok(PacketRead::Nothing);
         };
-        let read = read_of(&handled);
+        let read = self.hand_up(&handled, queues)?;
         self.take_up(handled);
         self.session.go_on(&mut parts.rng, self.reader.bytes())?;
         Ok(read)
+    }
+
+    /// Opens the next packet, where one is whole, and does what it asks for by itself. The reader lends its payload.
+    fn take_packet<A: Agreement, H: HostKeys, G: GroupLookup, R: Rng>(
+        &mut self,
+        parts: &mut Parts<A, H, G, R>,
+    ) -> Result<Option<Disposition>, Error>
+        requires { CanRead self.old }
+        ensures { TakesNext (⟦<Parts<A, H, G, R> as Calling>⟧.call parts.old parts.new) self.old result self.new }
+    {
+        let Some(incoming) = self.reader.next(&mut self.opening)? else {
+            return Ok(None);
+        };
+        let handled = self.session.handle(parts, incoming)?;
+        Ok(Some(handled))
+    }
+
+    /// What is made of a packet: a payload that is delivered is queued, or handed up. Memory.
+    fn hand_up(&mut self, handled: &Disposition, queues: bool) -> Result<PacketRead, Error>
+        ensures done { IfOk result (λ read. HandsUp queues self.old handled.now read self.new) }
+        ensures err { IfErr result (λ e. KeepsNot queues self.old handled.now e self.new) }
+    {
+        if !queues {
+            return Ok(read_of(handled));
+        }
+        queue_payload(
+            self.alloc,
+            &mut self.delivered,
+            handled,
+            self.reader.handed(),
+        )?;
+        Ok(PacketRead::Packet)
     }
 
     /// Seals a payload, or holds it.
@@ -239,28 +218,8 @@ impl<'c> Connection<'c> {
         payload: &[u8],
     ) -> Result<(), Error>
         requires { IsKept self.old }
-        ensures kept { IsKept self.new }
-        ensures dead { self.old.failed ≡ true
-            → AnswersAlone (Err Disconnect) result self.old self.new parts.old parts.new }
-        ensures size { self.old.failed ≡ false → IsTrue (is_bad_size (length payload.now))
-            → AnswersAlone (Err (PacketSize (length payload.now))) result self.old self.new parts.old parts.new }
-        ensures inconsistent { self.old.failed ≡ false → is_bad_size (length payload.now) ≡ false
-            → is_payload_type (message_type payload.now) ≡ false
-            → AnswersAlone (Err Inconsistent) result self.old self.new parts.old parts.new }
-        ensures sent { OnOk result (Submitted nothing_said (standing_of self.old) payload.now (standing_of self.new)) }
-        ensures drawn { is_outside (standing_of self.old).state.stands ≡ true → OnOk result
-            (GoesNext (standing_of self.old).output (packet_with (standing_of self.old).state.writing payload.now
-            (R.stream parts.old.rng)) (standing_of self.new).output) }
-        ensures sends { OnOk result (SendsBetween NoneMade (standing_of self.old) (standing_of self.new)
-            (R.stream parts.old.rng) (R.stream parts.new.rng)) }
-        ensures held { is_outside (standing_of self.old).state.stands ≡ false → (parts.new ≡ parts.old)
-            × HoldsAlone result (standing_of self.old) (standing_of self.new) }
-        ensures leaves { self.old.failed ≡ false → is_good_payload payload.now ≡ true → OnErr result
-            (((standing_of self.new).state.records ≡ (standing_of self.old).state.records)
-            × AtMostNext (standing_of self.old).output (packet_with (standing_of self.old).state.writing payload.now
-            (R.stream parts.old.rng)) (standing_of self.new).output) }
-        ensures memory { self.old.failed ≡ false → is_good_payload payload.now ≡ true
-            → OnErr result ((result ≡ Err Memory) × Breaks (standing_of self.old) (standing_of self.new)) }
+        ensures submits { SubmitsPayload (R.stream parts.old.rng) (R.stream parts.new.rng) (parts.new ≡ parts.old)
+            self.old payload.now result self.new }
         ensures parts { DrawsAlone parts.old parts.new }
     {
         if self.failed {
@@ -283,22 +242,8 @@ impl<'c> Connection<'c> {
         parts: &mut Parts<A, H, G, R>,
     ) -> Result<(), Error>
         requires { IsKept self.old }
-        ensures kept { IsKept self.new }
-        ensures dead { self.old.failed ≡ true
-            → AnswersAlone (Err Disconnect) result self.old self.new parts.old parts.new }
-        ensures begun { OnOk result (Rekeyed nothing_said (standing_of self.old) (standing_of self.new)) }
-        ensures drawn { is_outside (standing_of self.old).state.stands ≡ true → OnOk result
-            ((standing_of self.new).output ≡ (standing_of self.old).output ++ kexinit_packet (standing_of self.old).side
-            (standing_of self.old).config (standing_of self.old).state.writing (R.stream parts.old.rng)) }
-        ensures sends { OnOk result (SendsBetween NoneMade (standing_of self.old) (standing_of self.new)
-            (R.stream parts.old.rng) (R.stream parts.new.rng)) }
-        ensures leaves { self.old.failed ≡ false → OnErr result
-            (((standing_of self.new).state.records ≡ (standing_of self.old).state.records)
-            × ((standing_of self.new).output ≡ (standing_of self.old).output)) }
-        ensures inside { self.old.failed ≡ false → is_outside (standing_of self.old).state.stands ≡ false
-            → AnswersAlone (Ok tt) result self.old self.new parts.old parts.new }
-        ensures memory { self.old.failed ≡ false → OnErr result ((result ≡ Err Memory) × Breaks (standing_of self.old)
-            (standing_of self.new)) }
+        ensures asks { AsksExchange (R.stream parts.old.rng) (R.stream parts.new.rng) (parts.new ≡ parts.old) self.old
+            result self.new }
         ensures parts { DrawsAlone parts.old parts.new }
     {
         if self.failed {
@@ -315,12 +260,8 @@ impl<'c> Connection<'c> {
     fn fail_on<T>(&mut self, done: Result<T, Error>) -> Result<T, Error>
         requires begins { CanBegin self.old.session }
         requires live { OnOk done (IsKept self.old) }
-        ensures kept { IsKept self.new }
         ensures result { result ≡ done }
-        ensures fixed { IsFixed self.old.session self.new.session }
-        ensures same { OnOk done (self.new ≡ self.old) }
-        ensures breaks { OnErr done (Breaks (standing_of self.old) (standing_of self.new)) }
-        ensures rests { OnErr done (IsAsBefore self.old.session self.new.session) }
+        ensures ends { EndsOn done self.old self.new }
     {
         if done.is_err() {
             self.failed = true;
@@ -332,31 +273,19 @@ impl<'c> Connection<'c> {
 
     /// Takes a piece of what the other side sent, and handles what is whole. It goes through the window: what is whole
     /// is handled before more is taken.
-    #[tactic(auto, using(crate::proofs::Parts::parts_same))]
     fn take<A: Agreement, H: HostKeys, G: GroupLookup, R: Rng>(
         &mut self,
         parts: &mut Parts<A, H, G, R>,
         piece: &[u8],
     ) -> Result<(), Error>
-        requires live { IsLive self.old }
-        requires within { IsKept self.old }
-        ensures begins { CanBegin self.new.session }
-        ensures live { OnOk result (IsLive self.new) }
-        ensures within { OnOk result (IsKept self.new) }
-        ensures settled { OnOk result (WaitsBehind self.new.session.line self.new.reader.waiting) }
-        ensures took { OnOk result (⟦<Parts<A, H, G, R> as Served>⟧.takes self.old parts.old
-            (self.old.reader.waiting ++ piece.now) self.new) }
-        ensures drawn { DrawsFirstIn result self.old self.new (R.stream parts.old.rng) (R.stream parts.new.rng) }
-        ensures fails { IfErr result (λ e. ⟦<Parts<A, H, G, R> as Served>⟧.fails self.old parts.old parts.new
-            (self.old.reader.waiting ++ piece.now) e self.new) }
-        ensures fixed { IsFixedIn self.old self.new }
-        ensures keeps { ⟦<Parts<A, H, G, R> as Handed>⟧.keeps parts.old parts.new }
-        ensures asks { OnOk result (⟦<Parts<A, H, G, R> as Served>⟧.asks self.old self.new parts.old parts.new) }
+        requires { CanTake self.old }
+        ensures { TakesPiece (⟦<Parts<A, H, G, R> as Calling>⟧.call parts.old parts.new) self.old piece.now result self.new }
     {
-        let kept = self.keep(piece);
-        let is_heard = self.hear(&mut parts.rng)?;
-        if is_heard {
-            return self.read_all(parts, &piece[kept..]);
+        let mut taken = self.keep(piece);
+        self.take_kept(parts, true)?;
+        'turns: while taken < piece.len() {
+            taken += self.reader.take(&piece[taken..]);
+            self.read_on(parts, true)?;
         }
         Ok(())
     }
@@ -392,25 +321,7 @@ impl<'c> Connection<'c> {
     /// Version; Memory.
     fn hear<R: Rng>(&mut self, rng: &mut R) -> Result<bool, Error>
         requires { IsLive self.old }
-        ensures begins { CanBegin self.new.session }
-        ensures live { OnOk result (IsLive self.new) }
-        ensures heard { OnOk result (Hears (emptied self.old) self.old.reader.waiting self.new) }
-        ensures more { result ≡ Ok true → (more : List ℕ) → Hears (emptied self.old) (self.old.reader.waiting ++ more)
-            (with_more self.new more) }
-        ensures whole { result ≡ Ok true → IsHeard self.new.session.line }
-        ensures part { result ≡ Ok false → (self.new.reader.waiting ≡ [])
-            × (waiting_length self.old.session.line + length self.old.reader.waiting < window_length) }
-        ensures shorter { OnOk result (length self.new.reader.waiting ≤ length self.old.reader.waiting) }
-        ensures unqueued { self.new.delivered ≡ self.old.delivered }
-        ensures fails { IfErr result (λ e. HearsNothing (emptied self.old) self.old.reader.waiting e self.new) }
-        ensures ended { result ≡ Err Memory → EndsBy self.old.session.side self.old.session.line
-            self.old.reader.waiting }
-        ensures drawn { result ≡ Ok true → OpensDrawn self.old.session self.new.session (R.stream rng.old) }
-        ensures still { result ≡ Ok false → (self.new.session ≡ record self.old.session
-            { line = self.new.session.line }) × (rng.new ≡ rng.old) }
-        ensures wrote { OnOk result (WritesDrawn self.old.session self.new.session (R.stream rng.old)
-            (R.stream rng.new)) }
-        ensures fixed { IsFixedIn self.old self.new }
+        ensures { HearsInput self.old (R.stream rng.old) (R.stream rng.new) (rng.new ≡ rng.old) result self.new }
     {
         let Some(used) = self.session.hear(rng, self.reader.unread())? else {
             self.reader.skip(self.reader.waiting());
@@ -420,129 +331,11 @@ impl<'c> Connection<'c> {
         Ok(true)
     }
 
-    /// Handles all packets that are whole in what waits and in a piece behind it.
-    #[tactic(auto, using(crate::proofs::Parts::parts_same))]
-    fn read_all<A: Agreement, H: HostKeys, G: GroupLookup, R: Rng>(
-        &mut self,
-        parts: &mut Parts<A, H, G, R>,
-        piece: &[u8],
-    ) -> Result<(), Error>
-        requires live { IsLive self.old }
-        requires heard { IsHeard self.old.session.line }
-        ensures begins { CanBegin self.new.session }
-        ensures live { OnOk result (IsLive self.new) }
-        ensures reads { OnOk result (⟦<Parts<A, H, G, R> as Served>⟧.reads (with_more self.old piece.now) parts.old
-            self.new) }
-        ensures part { OnOk result (WaitsInPart (reading_spot self.new) self.new.reader.waiting) }
-        ensures stops { IfErr result (λ e. ⟦<Parts<A, H, G, R> as Served>⟧.stops (with_more self.old piece.now)
-            parts.old parts.new e self.new) }
-        ensures fixed { IsFixedIn self.old self.new }
-        ensures keeps { ⟦<Parts<A, H, G, R> as Handed>⟧.keeps parts.old parts.new }
-        ensures asks { OnOk result (⟦<Parts<A, H, G, R> as Served>⟧.asks self.old self.new parts.old parts.new) }
-    {
-        self.read_packets(parts)?;
-        let mut taken = 0;
-        'turns: while taken < piece.len() {
-            taken += self.reader.take(&piece[taken..]);
-            self.read_packets(parts)?;
-        }
-        Ok(())
-    }
-
-    /// Handles all packets that are whole.
-    fn read_packets<A: Agreement, H: HostKeys, G: GroupLookup, R: Rng>(
-        &mut self,
-        parts: &mut Parts<A, H, G, R>,
-    ) -> Result<(), Error>
-        requires live { IsLive self.old }
-        requires heard { IsHeard self.old.session.line }
-        ensures begins { CanBegin self.new.session }
-        ensures live { OnOk result (IsLive self.new) }
-        ensures reads { OnOk result (⟦<Parts<A, H, G, R> as Served>⟧.reads self.old parts.old self.new) }
-        ensures part { OnOk result (WaitsInPart (reading_spot self.new) self.new.reader.waiting) }
-        ensures stops { IfErr result (λ e. ⟦<Parts<A, H, G, R> as Served>⟧.stops self.old parts.old parts.new e
-            self.new) }
-        ensures fixed { IsFixedIn self.old self.new }
-        ensures keeps { ⟦<Parts<A, H, G, R> as Handed>⟧.keeps parts.old parts.new }
-        ensures asks { OnOk result (⟦<Parts<A, H, G, R> as Served>⟧.asks self.old self.new parts.old parts.new) }
-    {
-        'packets: while self.read_packet(parts)? {}
-        Ok(())
-    }
-
-    /// Opens the next packet, where one is whole, and does what it asks for by itself. The reader lends its payload.
-    #[tactic(auto, using(crate::proofs::Parts::parts_same))]
-    fn take_packet<A: Agreement, H: HostKeys, G: GroupLookup, R: Rng>(
-        &mut self,
-        parts: &mut Parts<A, H, G, R>,
-    ) -> Result<Option<Handled>, Error>
-        requires live { IsLive self.old }
-        requires heard { IsHeard self.old.session.line }
-        ensures begins { CanBegin self.new.session }
-        ensures line { self.new.session.line ≡ self.old.session.line }
-        ensures held { self.new.session.held ≡ self.old.session.held }
-        ensures unheard { OnOk result (IsUnheard self.new.session) }
-        ensures opened { OnOk result (IsOpen self.new.session) }
-        ensures fixed { IsFixedIn self.old self.new }
-        ensures keeps { ⟦<Parts<A, H, G, R> as Handed>⟧.keeps parts.old parts.new }
-        ensures asks { OnOk result (⟦<Parts<A, H, G, R> as Served>⟧.asks self.old self.new parts.old parts.new) }
-        ensures took { IfOk result (λ r. IfSome r (λ h. ⟦<Parts<A, H, G, R> as Served>⟧.handles_one self.old parts.old h
-            self.new)) }
-        ensures none { result ≡ Ok None → (self.new ≡ record self.old
-            { reader = record self.old.reader { handed = [] } }) × WaitsInPart (reading_spot self.old)
-            self.old.reader.waiting }
-        ensures unqueued { self.new.delivered ≡ self.old.delivered }
-        ensures wants { result ≡ Err Memory → ⟦<Parts<A, H, G, R> as Served>⟧.wants self.old parts.old }
-        ensures stops { IfErr result (λ e. ⟦<Parts<A, H, G, R> as Served>⟧.stops self.old parts.old parts.new e
-            self.new) }
-    {
-        let Some(incoming) = self.reader.next(&mut self.opening)? else {
-            return Ok(None);
-        };
-        let handled = self.session.handle(parts, incoming)?;
-        Ok(Some(handled))
-    }
-
-    /// Handles the next packet, where one is whole, and queues its payload where that is handed up: whether there was
-    /// one.
-    #[tactic(auto, using(crate::proofs::Parts::parts_same))]
-    fn read_packet<A: Agreement, H: HostKeys, G: GroupLookup, R: Rng>(
-        &mut self,
-        parts: &mut Parts<A, H, G, R>,
-    ) -> Result<bool, Error>
-        requires live { IsLive self.old }
-        requires heard { IsHeard self.old.session.line }
-        ensures begins { CanBegin self.new.session }
-        ensures live { OnOk result (IsLive self.new) }
-        ensures shorter { IfOk result (λ read. IsTrue read → length self.new.reader.waiting < length
-            self.old.reader.waiting) }
-        ensures reads { OnOk result (⟦<Parts<A, H, G, R> as Served>⟧.reads self.old parts.old self.new) }
-        ensures part { result ≡ Ok false → WaitsInPart (reading_spot self.new) self.new.reader.waiting }
-        ensures stops { IfErr result (λ e. ⟦<Parts<A, H, G, R> as Served>⟧.stops self.old parts.old parts.new e
-            self.new) }
-        ensures fixed { IsFixedIn self.old self.new }
-        ensures keeps { ⟦<Parts<A, H, G, R> as Handed>⟧.keeps parts.old parts.new }
-        ensures asks { OnOk result (⟦<Parts<A, H, G, R> as Served>⟧.asks self.old self.new parts.old parts.new) }
-    {
-        let Some(handled) = self.take_packet(parts)? else {
-            return Ok(false);
-        };
-        queue_payload(
-            self.alloc,
-            &mut self.delivered,
-            &handled,
-            self.reader.handed(),
-        )?;
-        self.take_up(handled);
-        self.session.go_on(&mut parts.rng, self.reader.bytes())?;
-        Ok(true)
-    }
-
     /// Takes up the key of what comes behind a packet that ended an exchange.
-    fn take_up(&mut self, handled: Handled)
+    fn take_up(&mut self, handled: Disposition)
         ensures { TakesUp handled self.old self.new }
     {
-        if let Handled::Rekeys {
+        if let Disposition::Rekeys {
             opening,
             reset_seqn,
         } = handled
@@ -560,7 +353,7 @@ impl<'c> Connection<'c> {
 fn queue_payload(
     alloc: Global,
     delivered: &mut Vec<Payload>,
-    handled: &Handled,
+    handled: &Disposition,
     payload: &[u8],
 ) -> Result<(), Error>
     ensures kept { OnOk result (delivered.new.items ≡ delivered.old.items ++ kept_by handled.now payload.now) }
@@ -568,20 +361,20 @@ fn queue_payload(
     ensures err { IfErr result (λ e. e ≡ Memory) }
 {
     match handled {
-        Handled::Delivers => {
+        Disposition::Delivers => {
             delivered.push(Payload::new(Vec::from_slice(alloc, payload)?))?;
             Ok(())
         }
-        Handled::Done | Handled::Rekeys { .. } => Ok(()),
+        Disposition::Done | Disposition::Rekeys { .. } => Ok(()),
     }
 }
 
 /// Whether the payload of a packet is handed up.
-fn read_of(handled: &Handled) -> PacketRead
+fn read_of(handled: &Disposition) -> PacketRead
     ensures { result ≡ read_as handled.now }
 {
     match handled {
-        Handled::Delivers => PacketRead::Payload,
-        Handled::Done | Handled::Rekeys { .. } => PacketRead::Packet,
+        Disposition::Delivers => PacketRead::Payload,
+        Disposition::Done | Disposition::Rekeys { .. } => PacketRead::Packet,
     }
 }

@@ -7,13 +7,14 @@ ghost use Rattle.ssh_kex.specs.Stages.{Created, is_strict, names_in_stage, has_i
 ghost use Rattle.ssh_kex.specs.Stepping.{Progresses, RefusesStep, next_of};
 ghost use Rattle.ssh_packet.specs.Sealing.{Item};
 ghost use Rattle.ssh_packet.specs.Writing.{SameButRoom};
-ghost use Rattle.ssh_transport.specs.Kexinits.{SendsKexinit, setting_between};
+ghost use Rattle.ssh_transport.specs.Kexinits.{setting_between};
+ghost use Rattle.ssh_transport.specs.SessionCalls.{SaysKexinit, StepsMachine};
 ghost use Rattle.ssh_transport.specs.Sending.{DrawnBySide, PutsKexinit};
 ghost use Rattle.ssh_transport.specs.Usable.{IsUsable};
 ghost use Rattle.ssh_wire.specs.declared.error.Error.TheVariants.{Memory};
 ghost use Rattle.ssh_wire.specs.declared.side.Side.TheVariants.{Client as client_side, Server as server_side};
 
-use crate::served::Attended;
+use crate::served::Calling;
 use rand_core::Rng;
 use ssh_client_kex::ClientKex;
 use ssh_kex::{Agreement, Config, GroupLookup, Handed, HostKeys, KexProgress, Parts};
@@ -88,13 +89,7 @@ impl<'c> SessionKex<'c> {
         output: &mut PacketWriter,
     ) -> Result<(), Error>
         requires { IsCreated self.old.stage }
-        ensures sent { OnOk result ((item : Item) × SendsKexinit self.old.setting.side self.old.setting.config
-            output.old item output.new
-            × (self.new ≡ record self.old { stage = Created item.payload })) }
-        ensures wrote { OnOk result (PutsKexinit self.old.setting.side self.old.setting.config output.old
-            (R.stream rng.old) output.new (R.stream rng.new)) }
-        ensures unchanged { OnErr result ((self.new ≡ self.old) × SameButRoom output.old output.new) }
-        ensures err { IfErr result (λ e. e ≡ Memory) }
+        ensures { SaysKexinit self.old output.old (R.stream rng.old) result self.new output.new (R.stream rng.new) }
     {
         match &mut self.side {
             SideKex::Client(kex) => client_kexinit(kex, rng, output),
@@ -140,20 +135,8 @@ impl<'c> SessionKex<'c> {
         output: &mut PacketWriter,
     ) -> Result<KexProgress<SessionKex<'c>>, Error>
         requires { length incoming.payload.now < 2 ^ 31 }
-        ensures keeps { ⟦<Parts<A, H, G, R> as Handed>⟧.keeps parts.old parts.new }
-        ensures asks { ⟦<Parts<A, H, G, R> as Attended>⟧.asks_step self.entry (next_of result) parts.old parts.new }
-        ensures answers { OnOk result (⟦<Parts<A, H, G, R> as Attended>⟧.answers_step self.entry (next_of result)
-            parts.old parts.new) }
-        ensures goes { IfOk result (λ p. Progresses (⟦<Parts<A, H, G, R> as Handed>⟧.says self.entry.setting.config
-            parts.old) self.entry (Some incoming.entry) output.old p output.new) }
-        ensures drawn { OnOk result (StepDraws (DrawnBySide A.client_draws A.server_draws self.entry.setting.side
-            (R.stream parts.old.rng) self.entry.stage (next_of result)) output.old output.new
-            (R.stream parts.new.rng)) }
-        ensures causes { IfErr result (λ e. RefusesStep (⟦<Parts<A, H, G, R> as Handed>⟧.says self.entry.setting.config
-            parts.old)
-            (⟦<Parts<A, H, G, R> as Handed>⟧.denies parts.old parts.new)
-            self.entry (Some incoming.entry) e) }
-        ensures unchanged { OnErr result (SameButRoom output.old output.new) }
+        ensures { StepsMachine (⟦<Parts<A, H, G, R> as Calling>⟧.call parts.old parts.new) self.entry incoming.entry
+            output.old result output.new }
     {
         match self.side {
             SideKex::Client(kex) => Ok(client_progress(kex.step(parts, Some(incoming), output)?)),
@@ -169,13 +152,7 @@ fn client_kexinit<'c, R: Rng>(
 ) -> Result<(), Error>
     requires created { IsCreated kex.old.stage }
     requires side { kex.old.setting.side ≡ client_side }
-    ensures sent { OnOk result ((item : Item) × SendsKexinit kex.old.setting.side kex.old.setting.config output.old item
-        output.new
-        × (kex.new ≡ record kex.old { stage = Created item.payload })) }
-    ensures wrote { OnOk result (PutsKexinit kex.old.setting.side kex.old.setting.config output.old (R.stream rng.old)
-        output.new (R.stream rng.new)) }
-    ensures unchanged { OnErr result ((kex.new ≡ kex.old) × SameButRoom output.old output.new) }
-    ensures err { IfErr result (λ e. e ≡ Memory) }
+    ensures { SaysKexinit kex.old output.old (R.stream rng.old) result kex.new output.new (R.stream rng.new) }
 {
     kex.kexinit(rng, output)
 }
@@ -187,13 +164,7 @@ fn server_kexinit<'c, R: Rng>(
 ) -> Result<(), Error>
     requires created { IsCreated kex.old.stage }
     requires side { kex.old.setting.side ≡ server_side }
-    ensures sent { OnOk result ((item : Item) × SendsKexinit kex.old.setting.side kex.old.setting.config output.old item
-        output.new
-        × (kex.new ≡ record kex.old { stage = Created item.payload })) }
-    ensures wrote { OnOk result (PutsKexinit kex.old.setting.side kex.old.setting.config output.old (R.stream rng.old)
-        output.new (R.stream rng.new)) }
-    ensures unchanged { OnErr result ((kex.new ≡ kex.old) × SameButRoom output.old output.new) }
-    ensures err { IfErr result (λ e. e ≡ Memory) }
+    ensures { SaysKexinit kex.old output.old (R.stream rng.old) result kex.new output.new (R.stream rng.new) }
 {
     kex.kexinit(rng, output)
 }

@@ -6,7 +6,6 @@ ghost use Rattle.ssh_transport.specs.Asking.{asks_trust};
 ghost use Rattle.ssh_transport.specs.Drawing.{AtMostNext, GoesNext, OpensDrawn, packet_with, writing_at};
 ghost use Rattle.ssh_transport.specs.Sending.{OpensWith, WritesDrawn};
 ghost use Rattle.ssh_transport.specs.Stopping.{IsDistrusted};
-ghost use Rattle.ssh_transport.specs.declared.session.Handled.TheVariants.{Delivers};
 ghost use Rattle.ssh_packet.specs.Sealing.{next_number};
 ghost use Rattle.ssh_packet.specs.Stream.{message_type as message_type_of};
 ghost use Rattle.ssh_wire.specs.Orders.{is_kex};
@@ -16,14 +15,12 @@ ghost use Rattle.ssh_rules.specs.Standing.{is_outside, lets_pass};
 ghost use Rattle.ssh_rules.specs.Valid.{config_fault, is_good_payload};
 ghost use Rattle.ssh_wire.specs.Sides.{other_side};
 ghost use Rattle.ssh_wire.specs.declared.error.Error.TheVariants.{Inconsistent, InvalidConfig, Memory, StrictKeyExchangeViolation, UnknownKey};
-ghost use Rattle.ssh_wire.specs.declared.error.ConfigFault.{ConfigFault};
-ghost use Rattle.ssh_kex.specs.Members.{HostsKept};
+ghost use Rattle.ssh_transport.specs.SessionCalls.{TrustsHost};
 ghost use Rattle.ssh_kex.specs.Parts.{Answers};
 
-use crate::config::config_fault;
 use crate::machine::SessionKex;
 use crate::message::{is_idle, is_payload, type_of};
-use crate::served::Attended;
+use crate::served::Calling;
 use rand_core::Rng;
 use ssh_kex::{
     Agreement, Config, FinishedExchange, GroupLookup, Handed, HostKeys, KexProgress, NewKeys,
@@ -55,7 +52,7 @@ pub(crate) struct Session<'c> {
 
 /// What is done with a packet.
 #[derive(Drop)]
-pub(crate) enum Handled {
+pub(crate) enum Disposition {
     /// Its payload is to be handed up.
     Delivers,
     /// Nothing is left to do with it.
@@ -65,6 +62,8 @@ pub(crate) enum Handled {
 }
 
 impl<'c> Session<'c> {
+    ghost use Rattle.ssh_transport.specs.Calls.{CanTreat, Treats};
+    ghost use Rattle.ssh_transport.specs.SessionCalls.{BeginsExchange, EndsExchange, FinishesExchange, HearsPiece, OpensExchange, SaysHeld, StepsExchange, TakesMachine, TakesPayload};
     ghost use Rattle.ssh_transport.specs.Handling.{Installs, IsBegun, IsFor, IsOpen, Passes, counts_guess, is_ordered, may_deliver_by};
     ghost use Rattle.ssh_transport.specs.Saying.{AreGood, Begins, GoesOn, GoesPart, IsFixed, IsSettled, IsUnsaid, Opens, Stays};
     ghost use Rattle.ssh_transport.specs.Hearing.{EndsBy, HearsLine};
@@ -72,16 +71,12 @@ impl<'c> Session<'c> {
     ghost use Rattle.ssh_transport.specs.Stopping.{Appends, BeginsAt, BreaksAt, HearsNot, IsAsBefore, IsForNone, WantsKeys};
     ghost use Rattle.ssh_transport.specs.Submitting.{Submits};
 
-    /// A side that has sent its version line. InvalidConfig where the configuration may not be used; Memory.
+    /// A side with a valid configuration that has sent its version line. Fails with `Memory`.
     pub(crate) fn new(alloc: Global, side: Side, config: &'c Config) -> Result<Session<'c>, Error>
+        requires valid { config_fault side config.now ≡ None }
         ensures fresh { IfOk result (IsFresh side config.now) }
-        ensures fault { IfSome (config_fault side config.now) (λ f. result ≡ Err (InvalidConfig f)) }
-        ensures causes { IfErr result (λ e. (e ≡ Memory) ⊎ ((f : ConfigFault) × (config_fault side config.now ≡ Some f)
-            × (e ≡ InvalidConfig f))) }
+        ensures causes { IfErr result (λ e. e ≡ Memory) }
     {
-        if let Some(fault) = config_fault(side, config) {
-            return Err(Error::InvalidConfig(fault));
-        }
         let mut writer = PacketWriter::clear(alloc);
         writer.buffer().send_ssh_id(&config.id)?;
         Ok(Session {
@@ -115,21 +110,8 @@ impl<'c> Session<'c> {
     #[tactic(auto, using(crate::proofs::Hearing::heard_short, crate::proofs::Hearing::behind_kept, crate::proofs::Hearing::behind_heard))]
     pub(crate) fn hear<R: Rng>(&mut self, rng: &mut R, piece: &[u8]) -> Result<Option<usize>, Error>
         requires { CanBegin self.old }
-        ensures begins { CanBegin self.new }
-        ensures settled { (read : ℕ) → IsSettled self.old read → OnOk result (IsSettled self.new read) }
-        ensures held { self.new.held ≡ self.old.held }
-        ensures within { IfOk result (λ used. IfSome used (λ n. n ≤ length piece.now)) }
-        ensures behind { (waiting : List ℕ) → WaitsBehind self.old.line waiting → WaitsBehind self.new.line waiting }
-        ensures heard { IfOk result (λ used. IfSome used (λ n. (waiting : List ℕ) → WaitsBehind self.new.line
-            waiting)) }
-        ensures fixed { IsFixed self.old self.new }
-        ensures opened { IsOpen self.old → OnOk result (IsOpen self.new) }
-        ensures line { IfOk result (λ used. HearsLine self.old piece.now used self.new) }
-        ensures drawn { IfOk result (λ used. IfSome used (λ _. OpensDrawn self.old self.new (R.stream rng.old))) }
-        ensures undrawn { result ≡ Ok None → rng.new ≡ rng.old }
-        ensures wrote { OnOk result (WritesDrawn self.old self.new (R.stream rng.old) (R.stream rng.new)) }
-        ensures unheard { IfErr result (λ e. HearsNot self.old piece.now e self.new) }
-        ensures ended { IsUnheard self.old → result ≡ Err Memory → EndsBy self.old.side self.old.line piece.now }
+        ensures { HearsPiece self.old piece.now (R.stream rng.old) (R.stream rng.new) (rng.new ≡ rng.old) result
+            self.new }
     {
         match self.line.feed(piece, passes_others(self.side))? {
             IdProgress::NotYet => Ok(None),
@@ -146,13 +128,7 @@ impl<'c> Session<'c> {
     #[tactic(auto, using(crate::proofs::Configs::usable))]
     fn open<R: Rng>(&mut self, rng: &mut R) -> Result<SessionKex<'c>, Error>
         requires { CanBegin self.old }
-        ensures opens { IfOk result (λ k. Opens self.old k self.new) }
-        ensures drawn { OnOk result (OpensWith self.old self.new (R.stream rng.old) (R.stream rng.new)) }
-        ensures begins { CanBegin self.new }
-        ensures line { self.new.line ≡ self.old.line }
-        ensures unsaid { OnErr result (IsUnsaid self.old self.new) }
-        ensures err { IfErr result (λ e. e ≡ Memory) }
-        ensures fixed { IsFixed self.old self.new }
+        ensures { OpensExchange self.old (R.stream rng.old) (R.stream rng.new) result self.new }
     {
         let cause = self.next_cause();
         let mut kex = SessionKex::new(self.alloc, self.side, self.config, self.line.id(), cause)?;
@@ -164,13 +140,7 @@ impl<'c> Session<'c> {
     #[inline(never)]
     pub(crate) fn begin<R: Rng>(&mut self, rng: &mut R) -> Result<(), Error>
         requires { CanBegin self.old }
-        ensures begun { OnOk result (Begins self.old self.new) }
-        ensures drawn { OnOk result (OpensWith self.old self.new (R.stream rng.old) (R.stream rng.new)) }
-        ensures begins { CanBegin self.new }
-        ensures line { self.new.line ≡ self.old.line }
-        ensures unsaid { OnErr result (IsUnsaid self.old self.new) }
-        ensures err { IfErr result (λ e. e ≡ Memory) }
-        ensures fixed { IsFixed self.old self.new }
+        ensures { BeginsExchange self.old (R.stream rng.old) (R.stream rng.new) result self.new }
     {
         self.kex = SessionKexState::InProgress(self.open(rng)?);
         Ok(())
@@ -201,20 +171,8 @@ impl<'c> Session<'c> {
         requires settled { IsSettled self.old read }
         requires payload { is_good_payload payload.now ≡ true }
         requires opened { IsOpen self.old }
-        ensures opened { OnOk result (IsOpen self.new) }
-        ensures sent { OnOk result (Submits self.old read payload.now self.new) }
-        ensures drawn { is_outside (stands_of self.old.finished.items self.old.kex) ≡ true → OnOk result
-            (GoesNext self.old.writer.output (packet_with (writing_at self.old.writer) payload.now (R.stream rng.old))
-            self.new.writer.output) }
-        ensures wrote { OnOk result (WritesDrawn self.old self.new (R.stream rng.old) (R.stream rng.new)) }
-        ensures held { is_outside (stands_of self.old.finished.items self.old.kex) ≡ false → (rng.new ≡ rng.old)
-            × (self.new ≡ record self.old { held = self.new.held }) }
-        ensures leaves { OnErr result ((self.new.finished.items ≡ self.old.finished.items)
-            × AtMostNext self.old.writer.output (packet_with (writing_at self.old.writer) payload.now
-            (R.stream rng.old)) self.new.writer.output) }
-        ensures fixed { IsFixed self.old self.new }
-        ensures begins { CanBegin self.new }
-        ensures err { IfErr result (λ e. e ≡ Memory) }
+        ensures { TakesPayload self.old read payload.now (R.stream rng.old) (R.stream rng.new) (rng.new ≡ rng.old)
+            result self.new }
     {
         if self.is_inside() {
             self.held
@@ -232,16 +190,7 @@ impl<'c> Session<'c> {
         requires good { AreGood self.old.held.items }
         requires unheard { IsUnheard self.old }
         requires opened { IsOpen self.old }
-        ensures opened { OnOk result (IsOpen self.new) }
-        ensures ok { OnOk result (GoesOn self.old read self.new) }
-        ensures wrote { OnOk result (WritesDrawn self.old self.new (R.stream rng.old) (R.stream rng.new)) }
-        ensures wanting { OnErr result (GoesPart self.old read self.new) }
-        ensures due { (stands_of self.old.finished.items self.old.kex ≡ Outside → self.old.held.items ≡ []) → OnErr
-            result (WantsKeys self.old read self.new) }
-        ensures fixed { IsFixed self.old self.new }
-        ensures begins { CanBegin self.new }
-        ensures line { self.new.line ≡ self.old.line }
-        ensures err { IfErr result (λ e. e ≡ Memory) }
+        ensures { SaysHeld self.old read (R.stream rng.old) (R.stream rng.new) result self.new }
     {
         'held: while !self.is_inside() {
             if self.is_at_limit(read) {
@@ -271,27 +220,10 @@ impl<'c> Session<'c> {
         &mut self,
         parts: &mut Parts<A, H, G, R>,
         incoming: Incoming<'_>,
-    ) -> Result<Handled, Error>
-        requires begins { CanBegin self.old }
-        requires unheard { IsUnheard self.old }
-        requires short { length incoming.payload.now < 2 ^ 31 }
-        requires opened { IsOpen self.old }
-        requires begun { IsBegun self.old }
-        ensures stays { Stays self.old self.new }
-        ensures unheard { OnOk result (IsUnheard self.new) }
-        ensures keeps { ⟦<Parts<A, H, G, R> as Handed>⟧.keeps parts.old parts.new }
-        ensures asks { OnOk result (⟦<Parts<A, H, G, R> as Attended>⟧.asks self.old self.new parts.old parts.new) }
-        ensures asked { OnErr result (⟦<Parts<A, H, G, R> as Attended>⟧.asks_for self.old incoming.entry parts.old
-            parts.new) }
-        ensures handled { IfOk result (λ h. ⟦<Parts<A, H, G, R> as Attended>⟧.handles self.old parts.old incoming.entry
-            h self.new) }
-        ensures refuses { IfErr result (λ e. ⟦<Parts<A, H, G, R> as Attended>⟧.refuses self.old parts.old parts.new
-            incoming.entry e) }
-        ensures rests { OnErr result (IsAsBefore self.old self.new) }
-        ensures delivers { result ≡ Ok Delivers → self.new ≡ self.old }
-        ensures others { OnOk result (is_kex (message_type_of incoming.entry.payload.now) ≡ false → self.new
-            ≡ self.old) }
-        ensures opened { OnOk result (IsOpen self.new) }
+    ) -> Result<Disposition, Error>
+        requires { CanTreat self.old incoming }
+        ensures { Treats IsAsBefore (⟦<Parts<A, H, G, R> as Calling>⟧.call parts.old parts.new) self.old incoming.entry
+            result self.new }
     {
         let sent = self.writer.output().len();
         match self.treat(parts, incoming) {
@@ -317,27 +249,10 @@ impl<'c> Session<'c> {
         &mut self,
         parts: &mut Parts<A, H, G, R>,
         incoming: Incoming<'_>,
-    ) -> Result<Handled, Error>
-        requires begins { CanBegin self.old }
-        requires unheard { IsUnheard self.old }
-        requires short { length incoming.payload.now < 2 ^ 31 }
-        requires opened { IsOpen self.old }
-        requires begun { IsBegun self.old }
-        ensures stays { Stays self.old self.new }
-        ensures unheard { OnOk result (IsUnheard self.new) }
-        ensures keeps { ⟦<Parts<A, H, G, R> as Handed>⟧.keeps parts.old parts.new }
-        ensures asks { OnOk result (⟦<Parts<A, H, G, R> as Attended>⟧.asks self.old self.new parts.old parts.new) }
-        ensures asked { OnErr result (⟦<Parts<A, H, G, R> as Attended>⟧.asks_for self.old incoming.entry parts.old
-            parts.new) }
-        ensures handled { IfOk result (λ h. ⟦<Parts<A, H, G, R> as Attended>⟧.handles self.old parts.old incoming.entry
-            h self.new) }
-        ensures refuses { IfErr result (λ e. ⟦<Parts<A, H, G, R> as Attended>⟧.refuses self.old parts.old parts.new
-            incoming.entry e) }
-        ensures appends { OnErr result (Appends self.old self.new) }
-        ensures delivers { result ≡ Ok Delivers → self.new ≡ self.old }
-        ensures others { OnOk result (is_kex (message_type_of incoming.entry.payload.now) ≡ false → self.new
-            ≡ self.old) }
-        ensures opened { OnOk result (IsOpen self.new) }
+    ) -> Result<Disposition, Error>
+        requires { CanTreat self.old incoming }
+        ensures { Treats Appends (⟦<Parts<A, H, G, R> as Calling>⟧.call parts.old parts.new) self.old incoming.entry
+            result self.new }
     {
         let message_type = type_of(incoming.payload);
         if message_type == msg::DISCONNECT {
@@ -345,13 +260,13 @@ impl<'c> Session<'c> {
         }
         self.check_order(message_type, incoming.seqn)?;
         if is_idle(message_type) {
-            return Ok(Handled::Done);
+            return Ok(Disposition::Done);
         }
         if is_kex_msg(message_type) {
             return self.take_message(parts, incoming, message_type);
         }
         if self.delivers(message_type) {
-            return Ok(Handled::Delivers);
+            return Ok(Disposition::Delivers);
         }
         Err(Error::Inconsistent)
     }
@@ -420,13 +335,7 @@ impl<'c> Session<'c> {
     /// which is begun for it. Inconsistent where there is none; Memory.
     fn take_kex<R: Rng>(&mut self, rng: &mut R, message_type: u8) -> Result<SessionKex<'c>, Error>
         requires { CanBegin self.old }
-        ensures stays { Stays self.old self.new }
-        ensures taken { IfOk result (λ k. IsFor self.old k self.new) }
-        ensures kexinit { OnOk result (BeginsAt self.old message_type) }
-        ensures wrote { OnOk result (WritesDrawn self.old self.new (R.stream rng.old) (R.stream rng.new)) }
-        ensures refused { IfErr result (λ e. ((e ≡ Memory) × BeginsAt self.old message_type)
-            ⊎ ((e ≡ Inconsistent) × IsForNone self.old message_type)) }
-        ensures rests { OnErr result (IsAsBefore self.old self.new) }
+        ensures { TakesMachine self.old message_type (R.stream rng.old) (R.stream rng.new) result self.new }
     {
         if message_type == msg::KEXINIT && !self.is_inside() {
             return self.open(rng);
@@ -445,26 +354,13 @@ impl<'c> Session<'c> {
         parts: &mut Parts<A, H, G, R>,
         incoming: Incoming<'_>,
         message_type: u8,
-    ) -> Result<Handled, Error>
-        requires begins { CanBegin self.old }
-        requires short { length incoming.payload.now < 2 ^ 31 }
-        requires opened { IsOpen self.old }
-        requires begun { IsBegun self.old }
+    ) -> Result<Disposition, Error>
+        requires can { CanTreat self.old incoming }
         requires kind { message_type ≡ message_type_of incoming.payload.now }
         requires kex { is_kex message_type ≡ true }
         requires passes { Passes self.old incoming.seqn message_type }
-        ensures stays { Stays self.old self.new }
-        ensures unheard { OnOk result (IsUnheard self.new) }
-        ensures keeps { ⟦<Parts<A, H, G, R> as Handed>⟧.keeps parts.old parts.new }
-        ensures asks { OnOk result (⟦<Parts<A, H, G, R> as Attended>⟧.asks self.old self.new parts.old parts.new) }
-        ensures asked { OnErr result (⟦<Parts<A, H, G, R> as Attended>⟧.asks_for_message self.old parts.old parts.new) }
-        ensures handled { IfOk result (λ h. ⟦<Parts<A, H, G, R> as Attended>⟧.handles self.old parts.old incoming.entry
-            h self.new) }
-        ensures refuses { IfErr result (λ e. ⟦<Parts<A, H, G, R> as Attended>⟧.refuses self.old parts.old parts.new
-            incoming.entry e) }
-        ensures appends { OnErr result (Appends self.old self.new) }
-        ensures takes { result ≡ Ok Delivers → ⊥ }
-        ensures opened { OnOk result (IsOpen self.new) }
+        ensures { Treats Appends (⟦<Parts<A, H, G, R> as Calling>⟧.call parts.old parts.new) self.old incoming.entry
+            result self.new }
     {
         let kex = self.take_kex(&mut parts.rng, message_type)?;
         self.step(kex, parts, incoming)
@@ -477,20 +373,11 @@ impl<'c> Session<'c> {
         kex: SessionKex<'c>,
         parts: &mut Parts<A, H, G, R>,
         incoming: Incoming<'_>,
-    ) -> Result<Handled, Error>
+    ) -> Result<Disposition, Error>
         requires begins { CanBegin self.old }
         requires short { length incoming.payload.now < 2 ^ 31 }
-        ensures stays { Stays self.old self.new }
-        ensures unheard { OnOk result (IsUnheard self.new) }
-        ensures keeps { ⟦<Parts<A, H, G, R> as Handed>⟧.keeps parts.old parts.new }
-        ensures asks { OnOk result (⟦<Parts<A, H, G, R> as Attended>⟧.asks_for_move kex.entry self.old self.new
-            parts.old parts.new) }
-        ensures asked { OnErr result (⟦<Parts<A, H, G, R> as Attended>⟧.asks_inside kex.entry parts.old parts.new) }
-        ensures moves { IfOk result (λ h. ⟦<Parts<A, H, G, R> as Attended>⟧.moves self.old parts.old kex.entry
-            incoming.entry h self.new) }
-        ensures refuses { IfErr result (λ e. ⟦<Parts<A, H, G, R> as Attended>⟧.refuses_move kex.entry parts.old
-            parts.new incoming.entry e) }
-        ensures appends { OnErr result (Appends self.old self.new) }
+        ensures { StepsExchange (⟦<Parts<A, H, G, R> as Calling>⟧.call parts.old parts.new) self.old kex.entry
+            incoming.entry result self.new }
     {
         match kex.step(parts, incoming, &mut self.writer)? {
             KexProgress::NeedsReply { kex, reset_seqn } => {
@@ -498,7 +385,7 @@ impl<'c> Session<'c> {
                     self.writer.reset_seqn();
                 }
                 self.kex = SessionKexState::InProgress(kex);
-                Ok(Handled::Done)
+                Ok(Disposition::Done)
             }
             KexProgress::Done {
                 server_host,
@@ -513,31 +400,18 @@ impl<'c> Session<'c> {
         hosts: &mut H,
         host: Option<ServerHost>,
         newkeys: NewKeys,
-    ) -> Result<Handled, Error>
+    ) -> Result<Disposition, Error>
         requires { CanBegin self.old }
-        ensures stays { Stays self.old self.new }
-        ensures unheard { OnOk result (IsUnheard self.new) }
-        ensures keeps { HostsKept H.HostKeys hosts.old hosts.new }
-        ensures calls { H.calls hosts.new ≤ H.calls hosts.old + asks_trust host }
-        ensures answers { OnOk result (Answers H.answered (asks_trust host) hosts.old hosts.new) }
-        ensures trusted { OnOk result (IfSome host (λ h. H.trusts hosts.old h ≡ true)) }
-        ensures installs { IfOk result (λ h. Installs self.old newkeys h self.new) }
-        ensures refused { IfErr result (λ e. (e ≡ Memory) ⊎ ((e ≡ UnknownKey) × IsDistrusted
-            (untrusted_of H.HostKeys hosts.old hosts.new) host)) }
-        ensures rests { OnErr result (IsAsBefore self.old self.new) }
+        ensures { EndsExchange H.HostKeys hosts.old hosts.new self.old host newkeys result self.new }
     {
         check_host(self.alloc, hosts, host)?;
         self.finish(newkeys)
     }
 
     /// Records an exchange, and goes on under its keys. Memory.
-    fn finish(&mut self, newkeys: NewKeys) -> Result<Handled, Error>
+    fn finish(&mut self, newkeys: NewKeys) -> Result<Disposition, Error>
         requires { CanBegin self.old }
-        ensures stays { Stays self.old self.new }
-        ensures unheard { OnOk result (IsUnheard self.new) }
-        ensures installs { IfOk result (λ h. Installs self.old newkeys h self.new) }
-        ensures err { IfErr result (λ e. e ≡ Memory) }
-        ensures rests { OnErr result (IsAsBefore self.old self.new) }
+        ensures { FinishesExchange self.old newkeys result self.new }
     {
         let NewKeys {
             names,
@@ -556,7 +430,7 @@ impl<'c> Session<'c> {
         let cipher = Box::into_inner(cipher);
         self.writer.set_cipher(cipher.local_to_remote);
         self.kex = SessionKexState::Idle;
-        Ok(Handled::Rekeys {
+        Ok(Disposition::Rekeys {
             opening: cipher.remote_to_local,
             reset_seqn: names.strict_kex,
         })
@@ -605,12 +479,7 @@ fn check_host<H: HostKeys>(
     hosts: &mut H,
     host: Option<ServerHost>,
 ) -> Result<(), Error>
-    ensures keeps { HostsKept H.HostKeys hosts.old hosts.new }
-    ensures calls { H.calls hosts.new ≤ H.calls hosts.old + asks_trust host }
-    ensures answers { OnOk result (Answers H.answered (asks_trust host) hosts.old hosts.new) }
-    ensures trusted { OnOk result (IfSome host (λ h. H.trusts hosts.old h ≡ true)) }
-    ensures refused { IfErr result (λ e. (e ≡ Memory) ⊎ ((e ≡ UnknownKey) × IsDistrusted
-        (untrusted_of H.HostKeys hosts.old hosts.new) host)) }
+    ensures { TrustsHost H.HostKeys hosts.old hosts.new host result }
 {
     let Some(host) = host else {
         return Ok(());

@@ -1,21 +1,18 @@
-use Rattle.ssh_transport.specs.States.{emptied, standing_of}
-use Rattle.ssh_transport.proofs.Drawing.{first_answer, first_still}
-use Rattle.ssh_transport.proofs.Failing.{fails_alone, piece_answer}
-use Rattle.ssh_transport.proofs.Inputs.{polled_answer}
-use Rattle.ssh_transport.proofs.Serving.{serves_answer}
+use Rattle.std.proofs.Common.{false}
+use Rattle.ssh_transport.proofs.Outcomes.{kept_begins, kept_kept, polled_call, polled_dead}
 use Rattle.ssh_transport.proofs.connection.Connection.poll.Goals as goal
 
+pub take_kept-polled-requires : goal.take_kept-polled-requires
+take_kept-polled-requires g c = record { live = c.requires.live c.if-self.false; within = c.requires }
+
+pub fail_on-requires-clause-begins : goal.fail_on-requires-clause-begins
+fail_on-requires-clause-begins g c = kept_begins false _ c.args.self.now c.take_kept-polled.result c.take_kept-polled.new.self c.take_kept-polled.ensures
+
+pub fail_on-requires-clause-live : goal.fail_on-requires-clause-live
+fail_on-requires-clause-live g c = kept_kept false _ c.args.self.now c.take_kept-polled.result c.take_kept-polled.new.self c.take_kept-polled.ensures
+
+pub returns-then-self-clause-polled : goal.returns-then-self-clause-polled
+returns-then-self-clause-polled g c = polled_dead g.A.Agreement g.H.HostKeys g.G.GroupLookup g.R.Rng c.args.parts.now c.args.self.now c.requires c.if-self.true
+
 pub returns-clause-polled : goal.returns-clause-polled
-returns-clause-polled g c = polled_answer _ c.args.self.now c.fail_on.new.self c.take_payload-polled.new.self c.take_payload-polled.result c.fail_on.result c.if-self.false c.fail_on.ensures.result c.fail_on.ensures.same c.take_payload-polled.ensures.fixed.1 c.take_payload-polled.ensures.live c.take_payload-polled.ensures.settled c.take_payload-polled.ensures.takes
-
-pub returns-clause-refused : goal.returns-clause-refused
-returns-clause-refused g c = λ f. piece_answer _ _ _ _ _ c.args.self.now c.take_payload-polled.new.self c.fail_on.new.self _ c.take_payload-polled.result c.fail_on.result c.fail_on.ensures.result c.take_payload-polled.ensures.fixed.0 c.fail_on.ensures.breaks c.fail_on.ensures.rests (fails_alone _ _ _ _ (emptied c.args.self.now) c.take_payload-polled.new.self c.args.self.now.reader.waiting c.take_payload-polled.result c.take_payload-polled.ensures.fails)
-
-pub returns-clause-drawn : goal.returns-clause-drawn
-returns-clause-drawn g c = first_answer c.args.self.now c.take_payload-polled.new.self c.fail_on.new.self _ _ c.take_payload-polled.result c.fail_on.ensures.same c.fail_on.ensures.rests c.fail_on.ensures.breaks c.take_payload-polled.ensures.drawn
-
-pub returns-then-self-clause-drawn : goal.returns-then-self-clause-drawn
-returns-then-self-clause-drawn g c = first_still _ (standing_of c.args.self.now) _
-
-pub returns-clause-serves : goal.returns-clause-serves
-returns-clause-serves g c = serves_answer _ _ _ _ _ c.args.self.now c.take_payload-polled.new.self c.fail_on.new.self c.take_payload-polled.result c.fail_on.result c.fail_on.ensures.result c.fail_on.ensures.same c.take_payload-polled.ensures.asks
+returns-clause-polled g c = polled_call _ c.args.self.now c.take_kept-polled.new.self c.fail_on.new.self c.take_kept-polled.result c.fail_on.result c.if-self.false c.fail_on.ensures.result c.fail_on.ensures.ends c.take_kept-polled.ensures

@@ -1,57 +1,37 @@
-use Rattle.std.proofs.Common.{Bool, [], Ok, drop, ap, ◌∙◌}
-use Rattle.ssh_kex.specs.declared.config.Config.{Config}
-use Rattle.ssh_transport.specs.States.{emptied, reading_spot, with_more}
+use Rattle.std.proofs.Common.{[], ap}
+use Rattle.ssh_packet.specs.Reading.{Reader}
 use Rattle.std.proofs.lemmas.Result.{err_from_is_err_and}
-use Rattle.ssh_transport.proofs.Asking.{between_heard, to_later, to_still, untested, where_ok}
-use Rattle.ssh_transport.proofs.Drawing.{first_awaited, first_read, first_unheard}
-use Rattle.ssh_transport.proofs.Failing.{fails_kept, fails_read}
-use Rattle.ssh_transport.proofs.Heard.{all_kept, hears_all, hears_kept, part_nothing}
-use Rattle.ssh_transport.proofs.Inputs.{kept_all, takes_none, takes_read}
-use Rattle.ssh_transport.proofs.Kept.{live_with}
-use Rattle.ssh_transport.proofs.Refusing.{from_err, if_err}
-use Rattle.ssh_transport.proofs.Serving.{serves_join, serves_wrote, wrote_from}
-use Rattle.ssh_transport.proofs.Turning.{reads_sliced, slice_behind, stops_sliced}
+use Rattle.ssh_transport.proofs.Kept.{live_reader, live_with}
+use Rattle.ssh_transport.proofs.Turning.{begin_refused, slice_behind, turn_heard, turn_smaller, turns_begin, turns_end, turns_on, turns_refused}
 use Rattle.ssh_transport.proofs.connection.Connection.take.Goals as goal
-use Rattle.ssh_kex.specs.Stepping.{says_of}
 
-pub hear-requires : goal.hear-requires
-hear-requires g c = live_with c.args.self.now c.keep-kept.new.self _ [] _ c.keep-kept.ensures.rest c.keep-kept.ensures.taken c.requires.live
+pub take_kept-requires : goal.take_kept-requires
+take_kept-requires g c = record { live = live_with c.args.self.now c.keep-taken.new.self _ [] _ c.keep-taken.ensures.rest c.keep-taken.ensures.taken c.requires.live; within = c.keep-taken.ensures.kept }
 
-pub returns-then-is_heard-clause-within : goal.returns-then-is_heard-clause-within
-returns-then-is_heard-clause-within g c = kept_all _ (with_more c.hear.new.self _) c.read_all.new.self c.read_all.result (c.hear.ensures.whole (c.in_ok-is_heard.was ∙ ap (λ (b : Bool). Ok b) c.if-is_heard.true)) c.read_all.ensures.begins c.read_all.ensures.live c.read_all.ensures.reads c.read_all.ensures.part
+pub turns-init : goal.turns-init
+turns-init g c = turns_begin _ c.args.self.now c.keep-taken.new.self c.args.piece.now c.keep-taken.result _ c.in_ok-take_kept.field-0 c.take_kept.new.self c.keep-taken.ensures.rest c.keep-taken.ensures.taken c.keep-taken.ensures.within c.keep-taken.ensures.all c.in_ok-take_kept.ensures
 
-pub returns-then-is_heard-clause-took : goal.returns-then-is_heard-clause-took
-returns-then-is_heard-clause-took g c = takes_read (λ (x : Config). says_of g.A.Agreement g.H.HostKeys g.G.GroupLookup x c.args.parts.now.agreement c.args.parts.now.hosts c.args.parts.now.groups) (emptied c.args.self.now) (with_more c.hear.new.self (drop c.keep-kept.result c.args.piece.now)) c.read_all.new.self _ c.read_all.result (hears_kept c.args.self.now c.keep-kept.new.self (with_more c.hear.new.self (drop c.keep-kept.result c.args.piece.now)) c.args.piece.now [] c.keep-kept.result _ c.keep-kept.ensures.rest c.keep-kept.ensures.taken (c.hear.ensures.more (c.in_ok-is_heard.was ∙ ap (λ (b : Bool). Ok b) c.if-is_heard.true) (drop c.keep-kept.result c.args.piece.now)))
-    (c.hear.ensures.whole (c.in_ok-is_heard.was ∙ ap (λ (b : Bool). Ok b) c.if-is_heard.true)) (reads_sliced _ c.hear.new.self c.read_all.new.self c.read_all.result _ (drop c.keep-kept.result c.args.piece.now) (slice_behind c.keep-kept.result c.args.piece.now) c.read_all.ensures.reads) c.read_all.ensures.part
+pub read_on-requires : goal.read_on-requires
+read_on-requires g c = record {
+  live = live_reader c.turns.self c.take-taken.new.self (ap (λ (r : Reader). r.number) c.take-taken.ensures.taken) (ap (λ (r : Reader). r.count) c.take-taken.ensures.taken) (ap (λ (r : Reader). r.failed) c.take-taken.ensures.taken) (ap (λ (r : Reader). r.window) c.take-taken.ensures.taken) c.turns.invariant.live;
+  heard = turn_heard _ c.args.self.now c.args.piece.now c.turns.taken c.turns.self c.turns-test.true c.turns.invariant;
+}
 
-pub returns-clause-took : goal.returns-clause-took
-returns-clause-took g c = takes_none _ (emptied c.args.self.now) c.hear.new.self _ (hears_all c.args.self.now c.keep-kept.new.self c.hear.new.self c.args.piece.now [] c.keep-kept.result _ c.keep-kept.ensures.rest c.keep-kept.ensures.taken (all_kept c.args.self.now c.keep-kept.new.self c.args.piece.now [] c.keep-kept.result _ c.keep-kept.ensures.rest c.keep-kept.ensures.taken c.keep-kept.ensures.within c.keep-kept.ensures.all (c.hear.ensures.part (c.in_ok-is_heard.was ∙ ap (λ (b : Bool). Ok b) c.if-is_heard.false)).1) c.in_ok-is_heard.ensures.heard) (part_nothing (reading_spot c.hear.new.self) c.hear.new.self.reader.waiting (c.hear.ensures.part (c.in_ok-is_heard.was ∙ ap (λ (b : Bool). Ok b) c.if-is_heard.false)).0)
+pub turns-smaller : goal.turns-smaller
+turns-smaller g c = turn_smaller c.turns.self c.args.piece.now _ c.turns.taken c.take-taken.result (slice_behind c.turns.taken c.args.piece.now) c.take-taken.ensures.count c.turns.invariant.part c.turns.invariant.live.windowed c.turns-test.true
 
-pub returns-in_err-is_heard-clause-fails : goal.returns-in_err-is_heard-clause-fails
-returns-in_err-is_heard-clause-fails g c =
+pub turns-preserved : goal.turns-preserved
+turns-preserved g c = turns_on g.A.Agreement g.H.HostKeys g.G.GroupLookup g.R.Rng c.args.parts.now c.turns.parts c.read_on.new.parts c.args.self.now c.turns.self c.take-taken.new.self c.read_on.new.self c.args.piece.now _ c.turns.taken c.take-taken.result _ c.in_ok-read_on.field-0 c.turns-test.true (slice_behind c.turns.taken c.args.piece.now) c.take-taken.ensures.count c.take-taken.ensures.taken c.turns.invariant c.in_ok-read_on.ensures
+
+pub returns : goal.returns
+returns g c = turns_end _ c.args.self.now c.args.piece.now c.turns.taken c.turns.self c.turns-test.false c.turns.invariant
+
+pub returns-in_err-take_kept : goal.returns-in_err-take_kept
+returns-in_err-take_kept g c =
     let p = err_from_is_err_and c.from_residual.result c.from_residual.ensures.1 in
-    from_err c.from_residual.result _ c.in_err-is_heard.field-0.0 p.0 p.1 p.2 (fails_kept _ _ _ _ c.args.self.now c.keep-kept.new.self c.hear.new.self c.args.piece.now [] c.keep-kept.result _ c.keep-kept.ensures.rest c.keep-kept.ensures.taken c.in_err-is_heard.field-0.0 (to_still c.args.self.now.session _ _ _) c.requires.live c.in_err-is_heard.ensures.fails)
+    begin_refused _ c.args.self.now c.keep-taken.new.self c.args.piece.now c.keep-taken.result _ c.from_residual.result c.take_kept.new.self p.0 c.in_err-take_kept.field-0.0 p.1 p.2 c.keep-taken.ensures.rest c.keep-taken.ensures.taken c.in_err-take_kept.ensures
 
-pub returns-then-is_heard-clause-fails : goal.returns-then-is_heard-clause-fails
-returns-then-is_heard-clause-fails g c = if_err c.read_all.result _ _ (λ e h. fails_read (λ (x : Config). says_of g.A.Agreement g.H.HostKeys g.G.GroupLookup x c.args.parts.now.agreement c.args.parts.now.hosts c.args.parts.now.groups) _ _ _ _
-    (emptied c.args.self.now) (with_more c.hear.new.self (drop c.keep-kept.result c.args.piece.now)) c.read_all.new.self _ e (to_later c.args.self.now.session c.hear.new.self.session (untested _) (untested _) _ (c.hear.ensures.fixed.0.0 ∙ ap (λ x. x.session.side) c.keep-kept.ensures.rest) (between_heard (emptied c.args.self.now) (with_more c.hear.new.self (drop c.keep-kept.result c.args.piece.now)) _ _ (hears_kept c.args.self.now c.keep-kept.new.self (with_more c.hear.new.self (drop c.keep-kept.result c.args.piece.now)) c.args.piece.now [] c.keep-kept.result _ c.keep-kept.ensures.rest c.keep-kept.ensures.taken (c.hear.ensures.more (c.in_ok-is_heard.was ∙ ap (λ (b : Bool). Ok b) c.if-is_heard.true) (drop c.keep-kept.result c.args.piece.now))))) (hears_kept c.args.self.now c.keep-kept.new.self (with_more c.hear.new.self (drop c.keep-kept.result c.args.piece.now)) c.args.piece.now [] c.keep-kept.result _ c.keep-kept.ensures.rest c.keep-kept.ensures.taken (c.hear.ensures.more (c.in_ok-is_heard.was ∙ ap (λ (b : Bool). Ok b) c.if-is_heard.true) (drop c.keep-kept.result c.args.piece.now)))
-    (c.hear.ensures.whole (c.in_ok-is_heard.was ∙ ap (λ (b : Bool). Ok b) c.if-is_heard.true)) (stops_sliced _ _ _ _ c.hear.new.self c.read_all.new.self _ (drop c.keep-kept.result c.args.piece.now) e (slice_behind c.keep-kept.result c.args.piece.now) h)) c.read_all.ensures.stops
-
-pub returns-then-is_heard-clause-asks : goal.returns-then-is_heard-clause-asks
-returns-then-is_heard-clause-asks g c = where_ok c.read_all.result _ _ (λ a. serves_join _ c.args.self.now.session c.hear.new.self.session c.read_all.new.self.session _ _ _ _ _ _ (c.hear.ensures.fixed.0.0 ∙ ap (λ x. x.session.side) c.keep-kept.ensures.rest, c.hear.ensures.fixed.0.1 ∙ ap (λ x. x.session.config) c.keep-kept.ensures.rest) (serves_wrote _ c.args.self.now.session c.hear.new.self.session _ _ _ _ (between_heard (emptied c.args.self.now) (with_more c.hear.new.self (drop c.keep-kept.result c.args.piece.now)) _ _ (hears_kept c.args.self.now c.keep-kept.new.self (with_more c.hear.new.self (drop c.keep-kept.result c.args.piece.now)) c.args.piece.now [] c.keep-kept.result _ c.keep-kept.ensures.rest c.keep-kept.ensures.taken (c.hear.ensures.more (c.in_ok-is_heard.was ∙ ap (λ (b : Bool). Ok b) c.if-is_heard.true) (drop c.keep-kept.result c.args.piece.now)))) (wrote_from c.args.self.now.session c.keep-kept.new.self.session c.hear.new.self.session _ _ (ap (λ x. x.session) c.keep-kept.ensures.rest) c.in_ok-is_heard.ensures.wrote)) a) c.read_all.ensures.asks
-
-pub returns-clause-asks : goal.returns-clause-asks
-returns-clause-asks g c = serves_wrote _ c.args.self.now.session c.hear.new.self.session _ _ _ _ (between_heard (emptied c.args.self.now) c.hear.new.self _ _ (hears_all c.args.self.now c.keep-kept.new.self c.hear.new.self c.args.piece.now [] c.keep-kept.result _ c.keep-kept.ensures.rest c.keep-kept.ensures.taken (all_kept c.args.self.now c.keep-kept.new.self c.args.piece.now [] c.keep-kept.result _ c.keep-kept.ensures.rest c.keep-kept.ensures.taken c.keep-kept.ensures.within c.keep-kept.ensures.all (c.hear.ensures.part (c.in_ok-is_heard.was ∙ ap (λ (b : Bool). Ok b) c.if-is_heard.false)).1) c.in_ok-is_heard.ensures.heard)) (wrote_from c.args.self.now.session c.keep-kept.new.self.session c.hear.new.self.session _ _ (ap (λ x. x.session) c.keep-kept.ensures.rest) c.in_ok-is_heard.ensures.wrote)
-
-pub returns-then-is_heard-clause-drawn : goal.returns-then-is_heard-clause-drawn
-returns-then-is_heard-clause-drawn g c = first_read (says_of g.A.Agreement g.H.HostKeys g.G.GroupLookup c.hear.new.self.session.config.now c.args.parts.now.agreement c.args.parts.now.hosts c.args.parts.now.groups) _ _ _ c.args.self.now c.keep-kept.new.self c.hear.new.self c.read_all.new.self _ _ _ c.read_all.result c.keep-kept.ensures.rest (c.hear.ensures.drawn (c.in_ok-is_heard.was ∙ ap (λ (b : Bool). Ok b) c.if-is_heard.true)) c.read_all.ensures.reads c.read_all.ensures.stops
-
-pub returns-clause-drawn : goal.returns-clause-drawn
-returns-clause-drawn g c =
-    let s = c.hear.ensures.still (c.in_ok-is_heard.was ∙ ap (λ (b : Bool). Ok b) c.if-is_heard.false) in
-    first_awaited _ c.args.self.now c.keep-kept.new.self c.hear.new.self _ _ c.keep-kept.ensures.rest s.0 (ap (λ (r : g.row.R.Denot). g.R.Rng.stream r) s.1)
-
-pub returns-in_err-is_heard-clause-drawn : goal.returns-in_err-is_heard-clause-drawn
-returns-in_err-is_heard-clause-drawn g c =
-    let p = err_from_is_err_and c.from_residual.result c.from_residual.ensures.1 in
-    first_unheard c.from_residual.result p.0 c.args.self.now c.keep-kept.new.self c.hear.new.self _ _ p.1 c.keep-kept.ensures.rest c.in_err-is_heard.ensures.fails.not.0
+pub returns-in_err-read_on : goal.returns-in_err-read_on
+returns-in_err-read_on g c =
+    let p = err_from_is_err_and c.from_residual-in_err-read_on.result c.from_residual-in_err-read_on.ensures.1 in
+    turns_refused g.A.Agreement g.H.HostKeys g.G.GroupLookup g.R.Rng c.args.parts.now c.turns.parts c.read_on.new.parts c.args.self.now c.turns.self c.take-taken.new.self c.read_on.new.self c.args.piece.now _ c.turns.taken c.take-taken.result _ c.from_residual-in_err-read_on.result p.0 c.in_err-read_on.field-0.0 p.1 p.2 c.turns-test.true (slice_behind c.turns.taken c.args.piece.now) c.take-taken.ensures.taken c.turns.invariant c.in_err-read_on.ensures
