@@ -27,11 +27,13 @@ found_in {A} p (y ∷ ys) x e = by (p y) e (found_in p ys x) where
   by true f later = inl (let h : y ≡ x = cc in sym h)
   by false f later = inr (later f)
 
-own_in : {A : Type 0} (text : A → List ℕ) (own : List A) (o : Option (List ℕ)) (x : A) → own_with text own o ≡ Some x → In x own
+own_in : {A : Type 0} (text : A → List ℕ) (own : List A) (o : Option (List ℕ)) (x : A) → own_with text own o ≡ Some x
+    → In x own
 own_in text own None x e = cc
 own_in text own (Some t) x e = found_in _ own x e
 
-common_in : {A : Type 0} (text : A → List ℕ) (side : Side) (own : List A) (peer : List (List ℕ)) (x : A) → common text side own peer ≡ Some x → In x own
+common_in : {A : Type 0} (text : A → List ℕ) (side : Side) (own : List A) (peer : List (List ℕ)) (x : A)
+    → common text side own peer ≡ Some x → In x own
 unfolding common
 common_in text Client own peer x e = found_in _ own x e
 common_in text Server own peer x e = own_in text own _ x e
@@ -41,17 +43,21 @@ unfolding or_err
 or_ok d None x e = cc
 or_ok d (Some y) x e = let h : y ≡ x = cc in ap Some h
 
-select_in : {A : Type 0} (text : A → List ℕ) (side : Side) (kind : AlgorithmKind) (own : List A) (peer : List (List ℕ)) (p : Bool × A) → select text side kind own peer ≡ Ok p → In p.1 own
+select_in : {A : Type 0} (text : A → List ℕ) (side : Side) (kind : AlgorithmKind) (own : List A) (peer : List (List ℕ))
+    (p : Bool × A) → select text side kind own peer ≡ Ok p → In p.1 own
 unfolding select
 select_in {A} text side kind own peer p e =
-    let one = bind_ok (or_err (NoCommon kind (map text own) peer) (common text side own peer)) (λ a. Ok (same_first (map text own) peer, a)) p e in
+    let one = bind_ok (or_err (NoCommon kind (map text own) peer) (common text side own peer))
+        (λ a. Ok (same_first (map text own) peer, a)) p e in
     let h : one.0 ≡ p.1 = ap (λ q. q.1) (plain (same_first (map text own) peer) one.0 p one.2) in
     subst (λ a. In a own) h (common_in text side own peer one.0 (or_ok _ (common text side own peer) one.0 one.1))
   where
-    plain : (b : Bool) (a : A) (p : Bool × A) → (let r : Result (Bool × A) KexinitFault = Ok (b, a) in r) ≡ Ok p → (let q : Bool × A = (b, a) in q) ≡ p
+    plain : (b : Bool) (a : A) (p : Bool × A) → (let r : Result (Bool × A) KexinitFault = Ok (b, a) in r) ≡ Ok p
+        → (let q : Bool × A = (b, a) in q) ≡ p
     plain b a p e = cc
 
-kex_in : (side : Side) (own : Offers) (still : Bool) (bytes : List ℕ) (n : Names) → read_fields side own still bytes ≡ Ok n → In n.kex (without_extensions own.kex)
+kex_in : (side : Side) (own : Offers) (still : Bool) (bytes : List ℕ) (n : Names)
+    → read_fields side own still bytes ≡ Ok n → In n.kex (without_extensions own.kex)
 unfolding read_fields
 kex_in side own still bytes n e =
     let a = field_ok (names_at bytes) _ n e in
@@ -70,12 +76,15 @@ kex_in side own still bytes n e =
     let p = field_ok _ _ n o.2 in
     let q = bind_ok _ _ n p.1 in
     let r = rest_ok _ _ n q.2 in
-    subst (λ (x : kexes.Name). In x (without_extensions own.kex)) (ap (λ (x : Names). x.kex) r.1) (select_in kex_text side Kex (without_extensions own.kex) _ b.0 b.1)
+    subst (λ (x : kexes.Name). In x (without_extensions own.kex)) (ap (λ (x : Names). x.kex) r.1)
+        (select_in kex_text side Kex (without_extensions own.kex) _ b.0 b.1)
 
-read_in : (side : Side) (own : Offers) (still : Bool) (payload : List ℕ) (n : Names) → names_read side own still payload ≡ Ok n → In n.kex (without_extensions own.kex)
+read_in : (side : Side) (own : Offers) (still : Bool) (payload : List ℕ) (n : Names)
+    → names_read side own still payload ≡ Ok n → In n.kex (without_extensions own.kex)
 unfolding names_read
 read_in side own still payload n e = by (nat_lt (length payload) 17) e where
-  by : (b : Bool) → (if b then Err Inconsistent else read_fields side own still (drop 17 payload)) ≡ Ok n → In n.kex (without_extensions own.kex)
+  by : (b : Bool) → (if b then Err Inconsistent else read_fields side own still (drop 17 payload)) ≡ Ok n
+      → In n.kex (without_extensions own.kex)
   by true f = cc
   by false f = kex_in side own still (drop 17 payload) n f
 
@@ -83,7 +92,8 @@ plain_in : (names : List kexes.Name) (x : kexes.Name) → In x (without_extensio
 unfolding without_extensions
 plain_in names x h = (in_filter (λ n. not (is_extension n)) x names h).0
 
-offered_in : (side : Side) (config : Config) (x : kexes.Name) → In x (offers_of side config).kex → In x config.preferred.kex
+offered_in : (side : Side) (config : Config) (x : kexes.Name) → In x (offers_of side config).kex
+    → In x config.preferred.kex
 unfolding offers_with
 offered_in side config x h = (in_filter (λ n. not (is_foreign side n)) x config.preferred.kex h).0
 
@@ -110,9 +120,13 @@ skips_none ExtInfoS e = cc
 skips_none StrictC e = cc
 skips_none StrictS e = cc
 
-pub never_skips : (side : Side) (config : Config) (still : Bool) (payload : List ℕ) (n : Names) → config_fault side config ≡ None → names_read side (offers_of side config) still payload ≡ Ok n → (shape_of n.kex).skip ≡ true → ⊥
+pub never_skips : (side : Side) (config : Config) (still : Bool) (payload : List ℕ) (n : Names)
+    → config_fault side config ≡ None → names_read side (offers_of side config) still payload ≡ Ok n
+    → (shape_of n.kex).skip ≡ true → ⊥
 never_skips side config still payload n valid e s =
-    let there : In n.kex config.preferred.kex = offered_in side config n.kex (plain_in (offers_of side config).kex n.kex (read_in side (offers_of side config) still payload n e)) in
-    let yes : list_any is_no_kex config.preferred.kex ≡ true = in_any is_no_kex n.kex config.preferred.kex there (skips_none n.kex s) in
+    let there : In n.kex config.preferred.kex = offered_in side config n.kex
+        (plain_in (offers_of side config).kex n.kex (read_in side (offers_of side config) still payload n e)) in
+    let yes : list_any is_no_kex config.preferred.kex ≡ true = in_any is_no_kex n.kex config.preferred.kex there
+        (skips_none n.kex s) in
     let no : list_any is_no_kex config.preferred.kex ≡ false = (tests side config valid).3 in
     let both : true ≡ false = sym yes ∙ no in cc

@@ -17,18 +17,31 @@ reached_by true b m n k l e f h = inl (grind (arith, nat_tests))
 reached_by false true m n k l e f h = inr (grind (arith, nat_tests))
 reached_by false false m n k l e f h = cc
 
-reached : (s : Session) (read : ℕ) (limit : Bool) → limit ≡ (nat_le s.config.now.limits.rekey_write_limit s.writer.count || nat_le s.config.now.limits.rekey_read_limit read) → limit ≡ true → (s.config.now.limits.rekey_write_limit ≤ s.writer.count) ⊎ (s.config.now.limits.rekey_read_limit ≤ read)
-reached s read limit e t = reached_by (nat_le s.config.now.limits.rekey_write_limit s.writer.count) (nat_le s.config.now.limits.rekey_read_limit read) s.config.now.limits.rekey_write_limit s.writer.count s.config.now.limits.rekey_read_limit read Rattle.std.proofs.Common.refl Rattle.std.proofs.Common.refl (sym e ∙ t)
+reached : (s : Session) (read : ℕ) (limit : Bool) → limit ≡
+    (nat_le s.config.now.limits.rekey_write_limit s.writer.count || nat_le s.config.now.limits.rekey_read_limit read)
+    → limit ≡ true → (s.config.now.limits.rekey_write_limit ≤ s.writer.count)
+    ⊎ (s.config.now.limits.rekey_read_limit ≤ read)
+reached s read limit e t = reached_by (nat_le s.config.now.limits.rekey_write_limit s.writer.count)
+    (nat_le s.config.now.limits.rekey_read_limit read) s.config.now.limits.rekey_write_limit s.writer.count
+    s.config.now.limits.rekey_read_limit read Rattle.std.proofs.Common.refl Rattle.std.proofs.Common.refl (sym e ∙ t)
 
-pub wants_keys : (s mid s' : Session) (read : ℕ) (answer : Result (Unit {0}) Error) (limit : Bool) → (HoldsNoneOutside s → mid ≡ s) → stands_of mid.finished.items mid.kex ≡ Outside → limit ≡ (nat_le mid.config.now.limits.rekey_write_limit mid.writer.count || nat_le mid.config.now.limits.rekey_read_limit read) → limit ≡ true → OnErr answer (IsUnsaid mid s') → HoldsNoneOutside s → OnErr answer (WantsKeys s read s')
+pub wants_keys : (s mid s' : Session) (read : ℕ) (answer : Result (Unit {0}) Error) (limit : Bool)
+    → (HoldsNoneOutside s → mid ≡ s) → stands_of mid.finished.items mid.kex ≡ Outside
+    → limit ≡ (nat_le mid.config.now.limits.rekey_write_limit mid.writer.count || nat_le
+    mid.config.now.limits.rekey_read_limit read) → limit ≡ true → OnErr answer (IsUnsaid mid s') → HoldsNoneOutside s
+    → OnErr answer (WantsKeys s read s')
 wants_keys s mid s' read (Ok u) limit same out e t h n = tt
-wants_keys s mid s' read (Err x) limit same out e t h n = subst (λ (y : Session). WantsKeys y read s') (same n) (record { still = record { output = ap (λ (y : Session). y.writer.output) h; records = ap (λ (y : Session). y.finished.items) h }; outside = out; reached = reached mid read limit e t })
+wants_keys s mid s' read (Err x) limit same out e t h n = subst (λ (y : Session). WantsKeys y read s') (same n)
+    (record { still = record { output = ap (λ (y : Session). y.writer.output) h; records = ap
+    (λ (y : Session). y.finished.items) h }; outside = out; reached = reached mid read limit e t })
 
 some_held : (p : List ℕ) (rest : List (List ℕ)) → p ∷ rest ≡ [] → ⊥
 some_held p rest e = cc
 
 -- outside, with nothing held, there is nothing to take
-pub none_taken : (s mid : Session) (p : List ℕ) (rest : List (List ℕ)) → (HoldsNoneOutside s → mid ≡ s) → stands_of mid.finished.items mid.kex ≡ Outside → mid.held.items ≡ p ∷ rest → HoldsNoneOutside s → ⊥
+pub none_taken : (s mid : Session) (p : List ℕ) (rest : List (List ℕ)) → (HoldsNoneOutside s → mid ≡ s)
+    → stands_of mid.finished.items mid.kex ≡ Outside → mid.held.items ≡ p ∷ rest → HoldsNoneOutside s → ⊥
 none_taken s mid p rest same out held n =
     let e = same n in
-    some_held p rest (sym held ∙ ap (λ (y : Session). y.held.items) e ∙ n (sym (ap (λ (y : Session). stands_of y.finished.items y.kex) e) ∙ out))
+    some_held p rest (sym held ∙ ap (λ (y : Session). y.held.items) e
+        ∙ n (sym (ap (λ (y : Session). stands_of y.finished.items y.kex) e) ∙ out))

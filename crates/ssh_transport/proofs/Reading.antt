@@ -5,7 +5,8 @@ use Rattle.ssh_packet.specs.Sealing.{Sealing}
 use Rattle.ssh_packet.specs.declared.error.OpenError.{OpenError}
 use Rattle.ssh_packet.specs.declared.reader.Incoming.{Incoming}
 
-pub none_count : (old new : Reader) (k k' : Sealing) (result : Result (Option Incoming) OpenError) (o : Option Incoming) → LeavesNext old k k' result new → result ≡ Ok o → o ≡ None → new.count ≡ old.count
+pub none_count : (old new : Reader) (k k' : Sealing) (result : Result (Option Incoming) OpenError) (o : Option Incoming)
+    → LeavesNext old k k' result new → result ≡ Ok o → o ≡ None → new.count ≡ old.count
 none_count old new k k' result o h e f =
     let P : Result (Option Incoming) OpenError → Type 0 = λ r. LeavesNext old k k' r new in
     let Q : Option Incoming → Type 0 = λ x. LeavesNext old k k' (Ok x) new in

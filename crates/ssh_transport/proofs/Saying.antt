@@ -50,13 +50,16 @@ pub record IsSilentLog (es : List Event) : Type 0 where
   pub hears_none : HearsNone es
 
 pub only_silent : (es : List Event) → OnlyWrites es → IsSilentLog es
-only_silent [] h = record { handled_none = refl; delivered_none = refl; submitted_none = refl; unasked = refl; hears_none = tt }
+only_silent [] h = record { handled_none = refl; delivered_none = refl; submitted_none = refl; unasked = refl;
+    hears_none = tt }
 only_silent (ExchangeBegun cause i ∷ es) h =
     let r = only_silent es h.1 in
-    record { handled_none = r.handled_none; delivered_none = r.delivered_none; submitted_none = r.submitted_none; unasked = (let a = h.0 in let u = r.unasked in omega (arith, a, u)); hears_none = r.hears_none }
+    record { handled_none = r.handled_none; delivered_none = r.delivered_none; submitted_none = r.submitted_none;
+        unasked = (let a = h.0 in let u = r.unasked in omega (arith, a, u)); hears_none = r.hears_none }
 only_silent (PayloadSent i ∷ es) h =
     let r = only_silent es h in
-    record { handled_none = r.handled_none; delivered_none = r.delivered_none; submitted_none = r.submitted_none; unasked = r.unasked; hears_none = r.hears_none }
+    record { handled_none = r.handled_none; delivered_none = r.delivered_none; submitted_none = r.submitted_none;
+        unasked = r.unasked; hears_none = r.hears_none }
 only_silent (IdHeard id ∷ es) h = absurd h
 only_silent (PayloadSubmitted p ∷ es) h = absurd h
 only_silent (AnswerSent i again ∷ es) h = absurd h
@@ -70,13 +73,20 @@ cons_nil : {A : Type 0} (x : A) (xs : List A) → x ∷ xs ≡ [] → ⊥
 cons_nil x xs e = cc
 
 -- where no packet is read, nothing is asked of the parts
-pub unread_steps : (says says' : Says) (side : Side) (config : Config) (own : List ℕ) (es : List Event) (st st' : SideState) → handled es ≡ [] → Steps says side config own st es st' → Steps says' side config own st es st'
+pub unread_steps : (says says' : Says) (side : Side) (config : Config) (own : List ℕ) (es : List Event)
+    (st st' : SideState) → handled es ≡ [] → Steps says side config own st es st'
+    → Steps says' side config own st es st'
 unread_steps says says' side config own [] st st' e h = h
-unread_steps says says' side config own (ExchangeBegun cause i ∷ es) st st' e h = (h.0, h.1, unread_steps says says' side config own es h.0 st' e h.2)
-unread_steps says says' side config own (PayloadSent i ∷ es) st st' e h = (h.0, h.1, unread_steps says says' side config own es h.0 st' e h.2)
-unread_steps says says' side config own (IdHeard id ∷ es) st st' e h = (h.0, h.1, unread_steps says says' side config own es h.0 st' e h.2)
-unread_steps says says' side config own (PayloadSubmitted p ∷ es) st st' e h = (h.0, h.1, unread_steps says says' side config own es h.0 st' e h.2)
-unread_steps says says' side config own (AnswerSent i again ∷ es) st st' e h = (h.0, h.1, unread_steps says says' side config own es h.0 st' e h.2)
+unread_steps says says' side config own (ExchangeBegun cause i ∷ es) st st' e h =
+    (h.0, h.1, unread_steps says says' side config own es h.0 st' e h.2)
+unread_steps says says' side config own (PayloadSent i ∷ es) st st' e h =
+    (h.0, h.1, unread_steps says says' side config own es h.0 st' e h.2)
+unread_steps says says' side config own (IdHeard id ∷ es) st st' e h =
+    (h.0, h.1, unread_steps says says' side config own es h.0 st' e h.2)
+unread_steps says says' side config own (PayloadSubmitted p ∷ es) st st' e h =
+    (h.0, h.1, unread_steps says says' side config own es h.0 st' e h.2)
+unread_steps says says' side config own (AnswerSent i again ∷ es) st st' e h =
+    (h.0, h.1, unread_steps says says' side config own es h.0 st' e h.2)
 unread_steps says says' side config own (MessageTaken i ∷ es) st st' e h = absurd (cons_nil i (handled es) e)
 unread_steps says says' side config own (GuessDropped i ∷ es) st st' e h = absurd (cons_nil i (handled es) e)
 unread_steps says says' side config own (PayloadDelivered i ∷ es) st st' e h = absurd (cons_nil i (handled es) e)
@@ -89,16 +99,22 @@ nowhere : Spot
 nowhere = record { sealing = Clear; number = 0 }
 
 pub writes_none : (s : Session) (read : ℕ) → AreGood s.held.items → Writes s read [] s
-writes_none s read g = record { side = refl; config = refl; line = refl; only = tt; steps = λ at. refl; output = sym (append-nil s.writer.output); good = g }
+writes_none s read g = record { side = refl; config = refl; line = refl; only = tt; steps = λ at. refl; output = sym
+    (append-nil s.writer.output); good = g }
 
-pub writes_join : (s mid s' : Session) (read : ℕ) (a b : List Event) → Writes s read a mid → Writes mid read b s' → Writes s read (a ++ b) s'
+pub writes_join : (s mid s' : Session) (read : ℕ) (a b : List Event) → Writes s read a mid → Writes mid read b s'
+    → Writes s read (a ++ b) s'
 writes_join s mid s' read a b h k = record {
   side = k.side ∙ h.side;
   config = k.config ∙ h.config;
   line = k.line ∙ h.line;
   only = only_join a b h.only k.only;
-  steps = λ at. steps_join nothing_said s.side s.config.now (id_text s.config.now.id) a b (state_at s at read) (state_at mid at read) (state_at s' at read) (h.steps at) (moved at);
-  output = k.output ∙ ap (λ (t : List ℕ). t ++ sent_bytes mid.side at_mid b) h.output ∙ append_assoc s.writer.output (sent_bytes s.side at_start a) (sent_bytes mid.side at_mid b) ∙ ap (λ (x : Side). s.writer.output ++ (sent_bytes s.side at_start a ++ sent_bytes x at_mid b)) h.side ∙ ap (λ (t : List ℕ). s.writer.output ++ t) (sym joined);
+  steps = λ at. steps_join nothing_said s.side s.config.now (id_text s.config.now.id) a b (state_at s at read)
+      (state_at mid at read) (state_at s' at read) (h.steps at) (moved at);
+  output = k.output ∙ ap (λ (t : List ℕ). t ++ sent_bytes mid.side at_mid b) h.output
+      ∙ append_assoc s.writer.output (sent_bytes s.side at_start a) (sent_bytes mid.side at_mid b)
+      ∙ ap (λ (x : Side). s.writer.output ++ (sent_bytes s.side at_start a ++ sent_bytes x at_mid b)) h.side
+      ∙ ap (λ (t : List ℕ). s.writer.output ++ t) (sym joined);
   good = k.good;
 } where
   at_start : Spot
@@ -107,11 +123,15 @@ writes_join s mid s' read a b h k = record {
   at_mid : Spot
   at_mid = record { sealing = mid.writer.sealing; number = mid.writer.number }
 
-  moved : (at : Spot) → Steps nothing_said s.side s.config.now (id_text s.config.now.id) (state_at mid at read) b (state_at s' at read)
-  moved at = subst (λ (x : Side). Steps nothing_said x s.config.now (id_text s.config.now.id) (state_at mid at read) b (state_at s' at read)) h.side (subst (λ (c : Bor Config). Steps nothing_said mid.side c.now (id_text c.now.id) (state_at mid at read) b (state_at s' at read)) h.config (k.steps at))
+  moved : (at : Spot) → Steps nothing_said s.side s.config.now (id_text s.config.now.id) (state_at mid at read) b
+      (state_at s' at read)
+  moved at = subst (λ (x : Side). Steps nothing_said x s.config.now (id_text s.config.now.id) (state_at mid at read) b
+      (state_at s' at read)) h.side (subst (λ (c : Bor Config). Steps nothing_said mid.side c.now (id_text c.now.id)
+      (state_at mid at read) b (state_at s' at read)) h.config (k.steps at))
 
   joined : sent_bytes s.side at_start (a ++ b) ≡ sent_bytes s.side at_start a ++ sent_bytes s.side at_mid b
-  joined = sent_join nothing_said s.side s.config.now (id_text s.config.now.id) a b (state_at s nowhere read) (state_at mid nowhere read) (h.steps nowhere)
+  joined = sent_join nothing_said s.side s.config.now (id_text s.config.now.id) a b (state_at s nowhere read)
+      (state_at mid nowhere read) (h.steps nowhere)
 
 -- ---- one packet
 
@@ -130,7 +150,9 @@ stated s held w stands called at read = record {
   read = read;
 }
 
-pub begins_exchange : (s s' : Session) (read : ℕ) (at : Spot) (cause : Cause) (b : Begins s s') → is_answering cause ≡ false → MayBegin s.config.now (state_at s at read) cause → BeginsExchange s.side s.config.now (state_at s at read) cause b.item (state_at s' at read)
+pub begins_exchange : (s s' : Session) (read : ℕ) (at : Spot) (cause : Cause) (b : Begins s s')
+    → is_answering cause ≡ false → MayBegin s.config.now (state_at s at read) cause
+    → BeginsExchange s.side s.config.now (state_at s at read) cause b.item (state_at s' at read)
 begins_exchange s s' read at cause b n m = record {
   may = m;
   owes = refl;
@@ -141,19 +163,25 @@ begins_exchange s s' read at cause b n m = record {
   is_written = record { admissible = b.sends.admissible; padded = b.sends.padded };
   becomes = ap (λ (x : Session). state_at x at read) b.becomes
       ∙ ap (λ (w : Writer). stated s s.held.items w (Inside b.machine.stage) false at read) b.sends.written
-      ∙ ap (λ (stage : Stage). stated s s.held.items (with_item s.writer b.item) (Inside stage) false at read) b.stage_is
-      ∙ ap (λ (called : Bool). stated s s.held.items (with_item s.writer b.item) (Inside (Created b.item.payload)) called at read) (sym n);
+      ∙ ap (λ (stage : Stage). stated s s.held.items (with_item s.writer b.item) (Inside stage) false at read)
+          b.stage_is
+      ∙ ap (λ (called : Bool). stated s s.held.items (with_item s.writer b.item) (Inside (Created b.item.payload))
+          called at read) (sym n);
 }
 
 -- an exchange that is begun at a limit
-pub writes_begun : (s s' : Session) (read : ℕ) (cause : Cause) → is_answering cause ≡ false → asked cause ≡ 0 → ((at : Spot) → MayBegin s.config.now (state_at s at read) cause) → AreGood s.held.items → (b : Begins s s') → Writes s read (ExchangeBegun cause b.item ∷ []) s'
+pub writes_begun : (s s' : Session) (read : ℕ) (cause : Cause) → is_answering cause ≡ false → asked cause ≡ 0
+    → ((at : Spot) → MayBegin s.config.now (state_at s at read) cause) → AreGood s.held.items → (b : Begins s s')
+    → Writes s read (ExchangeBegun cause b.item ∷ []) s'
 writes_begun s s' read cause n a may g b = record {
   side = ap (λ (x : Session). x.side) b.becomes;
   config = ap (λ (x : Session). x.config) b.becomes;
   line = ap (λ (x : Session). x.line) b.becomes;
   only = (a, tt);
   steps = λ at. (state_at s' at read, begins_exchange s s' read at cause b n (may at), refl);
-  output = ap (λ (w : Writer). w.output) b.sends.written ∙ ap (λ (t : List ℕ). s.writer.output ++ t) (sym (append-nil (sealed_packet s.writer.sealing s.writer.number b.item)));
+  output = ap (λ (w : Writer). w.output) b.sends.written
+      ∙ ap (λ (t : List ℕ). s.writer.output ++ t) (sym (append-nil
+      (sealed_packet s.writer.sealing s.writer.number b.item)));
   good = subst AreGood (sym (ap (λ (x : Session). x.held.items) b.becomes)) g;
 }
 
@@ -181,13 +209,15 @@ within : (limit n : ℕ) → nat_lt limit n ≡ false → n ≤ limit
 within limit n h = grind (arith, nat_tests)
 
 pub good_short : (p : List ℕ) → is_good_payload p ≡ true → length p ≤ longest_payload
-good_short p h = within longest_payload (length p) (or_last (length p == 0) (nat_lt longest_payload (length p)) (not_true (is_bad_size (length p)) (and_first (not (is_bad_size (length p))) (is_payload_type (message_type p)) h)))
+good_short p h = within longest_payload (length p) (or_last (length p == 0) (nat_lt longest_payload (length p))
+    (not_true (is_bad_size (length p)) (and_first (not (is_bad_size (length p))) (is_payload_type (message_type p)) h)))
 
 pub good_type : (p : List ℕ) → is_good_payload p ≡ true → is_payload_type (message_type p) ≡ true
 good_type p h = and_last (not (is_bad_size (length p))) (is_payload_type (message_type p)) h
 
 -- the first payload that is held is sealed
-pub record SendsFirst (s : Session) (payload : List ℕ) (more : List (List ℕ)) (stream : Stream) (s' : Session) : Type 0 where
+pub record SendsFirst (s : Session) (payload : List ℕ) (more : List (List ℕ)) (stream : Stream) (s' : Session) : Type 0
+    where
   pub outside : stands_of s.finished.items s.kex ≡ Outside
   pub below_write : s.writer.count < s.config.now.limits.rekey_write_limit
   pub holds : s.held.items ≡ payload ∷ more
@@ -198,7 +228,9 @@ pub record SendsFirst (s : Session) (payload : List ℕ) (more : List (List ℕ)
   pub left : s'.held.items ≡ more
   pub becomes : s' ≡ record s { held = s'.held; writer = s'.writer }
 
-sends_step : (s s' : Session) (read : ℕ) (at : Spot) (payload : List ℕ) (more : List (List ℕ)) (stream : Stream) → read < s.config.now.limits.rekey_read_limit → SendsFirst s payload more stream s' → SendsPayload s.config.now (state_at s at read) (item_of s.writer.sealing payload stream) (state_at s' at read)
+sends_step : (s s' : Session) (read : ℕ) (at : Spot) (payload : List ℕ) (more : List (List ℕ)) (stream : Stream)
+    → read < s.config.now.limits.rekey_read_limit → SendsFirst s payload more stream s'
+    → SendsPayload s.config.now (state_at s at read) (item_of s.writer.sealing payload stream) (state_at s' at read)
 sends_step s s' read at payload more stream r h = record {
   outside = h.outside;
   owes = refl;
@@ -208,17 +240,22 @@ sends_step s s' read at payload more stream r h = record {
   is_written = record { admissible = h.admissible; padded = h.padded };
   becomes = ap (λ (x : Session). state_at x at read) h.becomes
       ∙ ap (λ (q : List (List ℕ)). stated s q s'.writer (stands_of s.finished.items s.kex) false at read) h.left
-      ∙ ap (λ (w : Writer). stated s more w (stands_of s.finished.items s.kex) false at read) (sends_item s.writer s'.writer payload stream h.some h.sends);
+      ∙ ap (λ (w : Writer). stated s more w (stands_of s.finished.items s.kex) false at read)
+          (sends_item s.writer s'.writer payload stream h.some h.sends);
 }
 
-pub writes_first : (s s' : Session) (read : ℕ) (payload : List ℕ) (more : List (List ℕ)) (stream : Stream) → read < s.config.now.limits.rekey_read_limit → AreGood more → SendsFirst s payload more stream s' → Writes s read (PayloadSent (item_of s.writer.sealing payload stream) ∷ []) s'
+pub writes_first : (s s' : Session) (read : ℕ) (payload : List ℕ) (more : List (List ℕ)) (stream : Stream)
+    → read < s.config.now.limits.rekey_read_limit → AreGood more → SendsFirst s payload more stream s'
+    → Writes s read (PayloadSent (item_of s.writer.sealing payload stream) ∷ []) s'
 writes_first s s' read payload more stream r g h = record {
   side = ap (λ (x : Session). x.side) h.becomes;
   config = ap (λ (x : Session). x.config) h.becomes;
   line = ap (λ (x : Session). x.line) h.becomes;
   only = tt;
   steps = λ at. (state_at s' at read, sends_step s s' read at payload more stream r h, refl);
-  output = ap (λ (w : Writer). w.output) (sends_item s.writer s'.writer payload stream h.some h.sends) ∙ ap (λ (t : List ℕ). s.writer.output ++ t) (sym (append-nil (sealed_packet s.writer.sealing s.writer.number (item_of s.writer.sealing payload stream))));
+  output = ap (λ (w : Writer). w.output) (sends_item s.writer s'.writer payload stream h.some h.sends)
+      ∙ ap (λ (t : List ℕ). s.writer.output ++ t) (sym (append-nil
+      (sealed_packet s.writer.sealing s.writer.number (item_of s.writer.sealing payload stream))));
   good = subst AreGood (sym h.left) g;
 }
 
@@ -229,7 +266,8 @@ outside_is Silent e = cc
 outside_is Outside e = refl
 outside_is (Inside stage) e = cc
 
-pub settled_inside : (s : Session) (read : ℕ) → is_outside (stands_of s.finished.items s.kex) ≡ false → (stands_of s.finished.items s.kex ≡ Silent → heard_of s.line ≡ None) → IsSettled s read
+pub settled_inside : (s : Session) (read : ℕ) → is_outside (stands_of s.finished.items s.kex) ≡ false
+    → (stands_of s.finished.items s.kex ≡ Silent → heard_of s.line ≡ None) → IsSettled s read
 settled_inside s read i q at = record {
   owes = refl;
   not_called = refl;
@@ -241,7 +279,9 @@ settled_inside s read i q at = record {
   no : stands_of s.finished.items s.kex ≡ Outside → ⊥
   no o = let e : true ≡ false = sym (ap is_outside o) ∙ i in cc
 
-pub settled_outside : (s : Session) (read : ℕ) → stands_of s.finished.items s.kex ≡ Outside → s.held.items ≡ [] → s.writer.count < s.config.now.limits.rekey_write_limit → read < s.config.now.limits.rekey_read_limit → IsSettled s read
+pub settled_outside : (s : Session) (read : ℕ) → stands_of s.finished.items s.kex ≡ Outside → s.held.items ≡ []
+    → s.writer.count < s.config.now.limits.rekey_write_limit → read < s.config.now.limits.rekey_read_limit
+    → IsSettled s read
 settled_outside s read o e w r at = record {
   owes = refl;
   not_called = refl;
@@ -253,11 +293,20 @@ settled_outside s read o e w r at = record {
 
 -- ---- what calls leave
 
-pub opened : (s : Session) (m m' : Machine) (w' : Writer) (cause : KexCause) (peer : List ℕ) → m ≡ record { setting = setting_between s.side s.config.now peer cause; stage = Created [] } → cause ≡ cause_of s.finished.items → peer ≡ text_heard s.line → (x : Item) × SendsKexinit m.setting.side m.setting.config s.writer x w' × (m' ≡ record m { stage = Created x.payload }) → Opens s m' (record s { writer = w' })
+pub opened : (s : Session) (m m' : Machine) (w' : Writer) (cause : KexCause) (peer : List ℕ)
+    → m ≡ record { setting = setting_between s.side s.config.now peer cause; stage = Created [] }
+    → cause ≡ cause_of s.finished.items → peer ≡ text_heard s.line
+    → (x : Item) × SendsKexinit m.setting.side m.setting.config s.writer x w'
+    × (m' ≡ record m { stage = Created x.payload }) → Opens s m' (record s { writer = w' })
 opened s m m' w' cause peer e c p h = record {
   item = h.0;
-  sends = subst (λ (x : Side). SendsKexinit x s.config.now s.writer h.0 w') (ap (λ (x : Machine). x.setting.side) e ∙ between_side s.side s.config.now peer cause) (subst (λ (x : Config). SendsKexinit m.setting.side x s.writer h.0 w') (ap (λ (x : Machine). x.setting.config) e ∙ between_config s.side s.config.now peer cause) h.1);
-  setting_is = ap (λ (x : Machine). x.setting) h.2 ∙ ap (λ (x : Machine). x.setting) e ∙ ap (λ (x : List ℕ). setting_between s.side s.config.now x cause) p ∙ ap (λ (x : KexCause). setting_between s.side s.config.now (text_heard s.line) x) c;
+  sends = subst (λ (x : Side). SendsKexinit x s.config.now s.writer h.0 w')
+      (ap (λ (x : Machine). x.setting.side) e ∙ between_side s.side s.config.now peer cause)
+      (subst (λ (x : Config). SendsKexinit m.setting.side x s.writer h.0 w')
+      (ap (λ (x : Machine). x.setting.config) e ∙ between_config s.side s.config.now peer cause) h.1);
+  setting_is = ap (λ (x : Machine). x.setting) h.2 ∙ ap (λ (x : Machine). x.setting) e
+      ∙ ap (λ (x : List ℕ). setting_between s.side s.config.now x cause) p
+      ∙ ap (λ (x : KexCause). setting_between s.side s.config.now (text_heard s.line) x) c;
   stage_is = ap (λ (x : Machine). x.stage) h.2;
   becomes = refl;
 }
@@ -271,7 +320,8 @@ flipped r true e f = refl
 flipped r false e f = let g : true ≡ false = sym e ∙ f in cc
 
 -- where a limit is reached an exchange is begun
-reached : (write count limit read : ℕ) → (nat_le write count || nat_le limit read) ≡ true → (write ≤ count) ⊎ (limit ≤ read)
+reached : (write count limit read : ℕ) → (nat_le write count || nat_le limit read) ≡ true
+    → (write ≤ count) ⊎ (limit ≤ read)
 reached write count limit read h = by (nat_le write count) refl h
   where
     at_least : (n m : ℕ) → nat_le n m ≡ true → n ≤ m
@@ -281,8 +331,10 @@ reached write count limit read h = by (nat_le write count) refl h
     by true e k = inl (at_least write count e)
     by false e k = inr (at_least limit read k)
 
-unreached : (write count limit read : ℕ) → (nat_le write count || nat_le limit read) ≡ false → (count < write) × (read < limit)
-unreached write count limit read h = (below write count (first (nat_le write count) (nat_le limit read) h), below limit read (or_last (nat_le write count) (nat_le limit read) h))
+unreached : (write count limit read : ℕ) → (nat_le write count || nat_le limit read) ≡ false
+    → (count < write) × (read < limit)
+unreached write count limit read h = (below write count (first (nat_le write count) (nat_le limit read) h), below limit
+    read (or_last (nat_le write count) (nat_le limit read) h))
   where
     below : (n m : ℕ) → nat_le n m ≡ false → m < n
     below n m k = grind (arith, nat_tests)
@@ -291,31 +343,53 @@ unreached write count limit read h = (below write count (first (nat_le write cou
     first true b e = cc
     first false b e = refl
 
-pub goes_on_begun : (s mid s' : Session) (read : ℕ) (outside limit : Bool) → outside ≡ not (is_outside (stands_of mid.finished.items mid.kex)) → outside ≡ false → limit ≡ (nat_le mid.config.now.limits.rekey_write_limit mid.writer.count || nat_le mid.config.now.limits.rekey_read_limit read) → limit ≡ true → (events : List Event) × Writes s read events mid → Begins mid s' → GoesOn s read s'
-goes_on_begun s mid s' read outside limit oe o le l h b = by (reached mid.config.now.limits.rekey_write_limit mid.writer.count mid.config.now.limits.rekey_read_limit read (sym le ∙ l))
+pub goes_on_begun : (s mid s' : Session) (read : ℕ) (outside limit : Bool)
+    → outside ≡ not (is_outside (stands_of mid.finished.items mid.kex)) → outside ≡ false
+    → limit ≡ (nat_le mid.config.now.limits.rekey_write_limit mid.writer.count || nat_le
+    mid.config.now.limits.rekey_read_limit read) → limit ≡ true → (events : List Event) × Writes s read events mid
+    → Begins mid s' → GoesOn s read s'
+goes_on_begun s mid s' read outside limit oe o le l h b = by
+    (reached mid.config.now.limits.rekey_write_limit mid.writer.count mid.config.now.limits.rekey_read_limit read
+    (sym le ∙ l))
   where
     out : stands_of mid.finished.items mid.kex ≡ Outside
-    out = outside_is (stands_of mid.finished.items mid.kex) (flipped outside (is_outside (stands_of mid.finished.items mid.kex)) oe o)
+    out = outside_is (stands_of mid.finished.items mid.kex)
+        (flipped outside (is_outside (stands_of mid.finished.items mid.kex)) oe o)
 
     stands : stands_of s'.finished.items s'.kex ≡ Inside b.machine.stage
     stands = ap (λ (x : Session). stands_of x.finished.items x.kex) b.becomes
 
     settled : IsSettled s' read
-    settled = settled_inside s' read (ap is_outside stands) (λ k. absurd (let f : Silent ≡ Inside b.machine.stage = sym k ∙ stands in cc))
+    settled = settled_inside s' read (ap is_outside stands)
+        (λ k. absurd (let f : Silent ≡ Inside b.machine.stage = sym k ∙ stands in cc))
 
-    go : (cause : Cause) → is_answering cause ≡ false → asked cause ≡ 0 → ((at : Spot) → MayBegin mid.config.now (state_at mid at read) cause) → GoesOn s read s'
-    go cause n a may = record { events = h.0 ++ ExchangeBegun cause b.item ∷ []; writes = writes_join s mid s' read h.0 (ExchangeBegun cause b.item ∷ []) h.1 (writes_begun mid s' read cause n a may h.1.good b); settled = settled }
+    go : (cause : Cause) → is_answering cause ≡ false → asked cause ≡ 0
+        → ((at : Spot) → MayBegin mid.config.now (state_at mid at read) cause) → GoesOn s read s'
+    go cause n a may = record { events = h.0 ++ ExchangeBegun cause b.item ∷ []; writes = writes_join s mid s' read h.0
+        (ExchangeBegun cause b.item ∷ []) h.1 (writes_begun mid s' read cause n a may h.1.good b); settled = settled }
 
-    by : (mid.config.now.limits.rekey_write_limit ≤ mid.writer.count) ⊎ (mid.config.now.limits.rekey_read_limit ≤ read) → GoesOn s read s'
+    by : (mid.config.now.limits.rekey_write_limit ≤ mid.writer.count) ⊎ (mid.config.now.limits.rekey_read_limit ≤ read)
+        → GoesOn s read s'
     by (inl w) = go WriteLimit refl refl (λ at. (out, w))
     by (inr r) = go ReadLimit refl refl (λ at. (out, r))
 
-pub sends_first : (s mid s' : Session) (read : ℕ) (outside limit : Bool) (payload bytes : List ℕ) (stream : Stream) → outside ≡ not (is_outside (stands_of mid.finished.items mid.kex)) → outside ≡ false → limit ≡ (nat_le mid.config.now.limits.rekey_write_limit mid.writer.count || nat_le mid.config.now.limits.rekey_read_limit read) → limit ≡ false → (events : List Event) × Writes s read events mid → mid.held.items ≡ payload ∷ s'.held.items → bytes ≡ payload → Sends mid.writer bytes stream s'.writer → (0 < length bytes → IsAdmissible mid.writer.sealing (item_of mid.writer.sealing bytes stream)) → (0 < length bytes → IsPadded mid.writer.sealing (item_of mid.writer.sealing bytes stream)) → s' ≡ record mid { held = s'.held; writer = s'.writer } → (events : List Event) × Writes s read events s'
+pub sends_first : (s mid s' : Session) (read : ℕ) (outside limit : Bool) (payload bytes : List ℕ) (stream : Stream)
+    → outside ≡ not (is_outside (stands_of mid.finished.items mid.kex)) → outside ≡ false
+    → limit ≡ (nat_le mid.config.now.limits.rekey_write_limit mid.writer.count || nat_le
+    mid.config.now.limits.rekey_read_limit read) → limit ≡ false → (events : List Event) × Writes s read events mid
+    → mid.held.items ≡ payload ∷ s'.held.items → bytes ≡ payload → Sends mid.writer bytes stream s'.writer
+    → (0 < length bytes → IsAdmissible mid.writer.sealing (item_of mid.writer.sealing bytes stream))
+    → (0 < length bytes → IsPadded mid.writer.sealing (item_of mid.writer.sealing bytes stream))
+    → s' ≡ record mid { held = s'.held; writer = s'.writer } → (events : List Event) × Writes s read events s'
 sends_first s mid s' read outside limit payload bytes stream oe o le l h held e w a d becomes =
-    (h.0 ++ PayloadSent (item_of mid.writer.sealing payload stream) ∷ [], writes_join s mid s' read h.0 (PayloadSent (item_of mid.writer.sealing payload stream) ∷ []) h.1 (writes_first mid s' read payload s'.held.items stream below.1 good.1 sent))
+    (h.0 ++ PayloadSent (item_of mid.writer.sealing payload stream) ∷ [], writes_join s mid s' read h.0
+        (PayloadSent (item_of mid.writer.sealing payload stream) ∷ []) h.1
+        (writes_first mid s' read payload s'.held.items stream below.1 good.1 sent))
   where
-    below : (mid.writer.count < mid.config.now.limits.rekey_write_limit) × (read < mid.config.now.limits.rekey_read_limit)
-    below = unreached mid.config.now.limits.rekey_write_limit mid.writer.count mid.config.now.limits.rekey_read_limit read (sym le ∙ l)
+    below : (mid.writer.count < mid.config.now.limits.rekey_write_limit)
+        × (read < mid.config.now.limits.rekey_read_limit)
+    below = unreached mid.config.now.limits.rekey_write_limit mid.writer.count mid.config.now.limits.rekey_read_limit
+        read (sym le ∙ l)
 
     good : AreGood (payload ∷ s'.held.items)
     good = subst AreGood held h.1.good
@@ -328,11 +402,13 @@ sends_first s mid s' read outside limit payload bytes stream oe o le l h held e 
 
     sent : SendsFirst mid payload s'.held.items stream s'
     sent = record {
-      outside = outside_is (stands_of mid.finished.items mid.kex) (flipped outside (is_outside (stands_of mid.finished.items mid.kex)) oe o);
+      outside = outside_is (stands_of mid.finished.items mid.kex)
+          (flipped outside (is_outside (stands_of mid.finished.items mid.kex)) oe o);
       below_write = below.0;
       holds = held;
       some = some;
-      admissible = subst (λ (x : List ℕ). IsAdmissible mid.writer.sealing (item_of mid.writer.sealing x stream)) e (a there);
+      admissible = subst (λ (x : List ℕ). IsAdmissible mid.writer.sealing (item_of mid.writer.sealing x stream)) e
+          (a there);
       padded = subst (λ (x : List ℕ). IsPadded mid.writer.sealing (item_of mid.writer.sealing x stream)) e (d there);
       sends = subst (λ (x : List ℕ). Sends mid.writer x stream s'.writer) e w;
       left = refl;
@@ -344,12 +420,16 @@ flipped_true r true e f = let g : false ≡ true = sym e ∙ f in cc
 flipped_true r false e f = refl
 
 -- what was written before memory was wanting
-pub goes_part : (s mid s' : Session) (read : ℕ) → (events : List Event) × Writes s read events mid → s'.writer.output ≡ mid.writer.output → s'.finished.items ≡ mid.finished.items → GoesPart s read s'
+pub goes_part : (s mid s' : Session) (read : ℕ) → (events : List Event) × Writes s read events mid
+    → s'.writer.output ≡ mid.writer.output → s'.finished.items ≡ mid.finished.items → GoesPart s read s'
 goes_part s mid s' read w o f = record { events = w.0; mid = mid; writes = w.1; output = o; records = f }
 
-pub begins_part : (s mid s' : Session) (read : ℕ) (answer : Result (Unit {0}) Error) → (events : List Event) × Writes s read events mid → Rattle.std.proofs.Common.OnErr answer (IsUnsaid mid s') → Rattle.std.proofs.Common.OnErr answer (GoesPart s read s')
+pub begins_part : (s mid s' : Session) (read : ℕ) (answer : Result (Unit {0}) Error)
+    → (events : List Event) × Writes s read events mid → Rattle.std.proofs.Common.OnErr answer (IsUnsaid mid s')
+    → Rattle.std.proofs.Common.OnErr answer (GoesPart s read s')
 begins_part s mid s' read (Ok u) w h = tt
-begins_part s mid s' read (Err e) w h = goes_part s mid s' read w (ap (λ (x : Session). x.writer.output) h) (ap (λ (x : Session). x.finished.items) h)
+begins_part s mid s' read (Err e) w h = goes_part s mid s' read w (ap (λ (x : Session). x.writer.output) h)
+    (ap (λ (x : Session). x.finished.items) h)
 
 pub on_err : {T : Type 0} (answer : Result T Error) (P : Type 0) → P → Rattle.std.proofs.Common.OnErr answer P
 on_err (Ok x) P h = tt

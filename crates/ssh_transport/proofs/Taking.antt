@@ -50,7 +50,8 @@ silent_more (ExchangeFinished i x ∷ a) b h k = silent_more a b h k
 pub input_more : (a b : List Event) → IsInput a → IsInput b → IsInput (a ++ b)
 input_more a b h k =
     let s : submitted_in a ++ submitted_in b ≡ [] = ap (λ (x : List (List ℕ)). x ++ submitted_in b) h.0 ∙ k.0 in
-    let n : asked_in (causes_in a ++ causes_in b) ≡ asked_in (causes_in a) + asked_in (causes_in b) = asked_more (causes_in a) (causes_in b) in
+    let n : asked_in (causes_in a ++ causes_in b) ≡ asked_in (causes_in a) + asked_in (causes_in b) = asked_more
+        (causes_in a) (causes_in b) in
     let p = h.1 in
     let q = k.1 in
     (submitted_more a b ∙ s, ap asked_in (causes_more a b) ∙ (omega (arith, n, p, q)))
@@ -74,57 +75,100 @@ own_of : Session → List ℕ
 own_of s = id_text s.config.now.id
 
 pub goes_of : (says : Says) (c c' : Connection) (h : Reads says c c') → Goes says c h.events c'
-goes_of says c c' h = record { side = h.side; config = h.config; line = h.line; steps = h.steps; output = h.output; bytes = h.bytes; input = h.input; silent = h.silent }
+goes_of says c c' h = record { side = h.side; config = h.config; line = h.line; steps = h.steps; output = h.output;
+    bytes = h.bytes; input = h.input; silent = h.silent }
 
-unfoldable pub reads_of : (says : Says) (c c' : Connection) (events : List Event) → Goes says c events c' → c'.delivered.items ≡ c.delivered.items ++ delivered_in events → Reads says c c'
-reads_of says c c' events h d = record { events = events; side = h.side; config = h.config; line = h.line; steps = h.steps; output = h.output; bytes = h.bytes; delivered = d; input = h.input; silent = h.silent }
+unfoldable pub reads_of : (says : Says) (c c' : Connection) (events : List Event) → Goes says c events c'
+    → c'.delivered.items ≡ c.delivered.items ++ delivered_in events → Reads says c c'
+reads_of says c c' events h d = record { events = events; side = h.side; config = h.config; line = h.line; steps =
+    h.steps; output = h.output; bytes = h.bytes; delivered = d; input = h.input; silent = h.silent }
 
 unfoldable pub reads_none : (says : Says) (c : Connection) → Reads says c c
-reads_none says c = record { events = []; side = refl; config = refl; line = refl; steps = refl; output = sym (append-nil c.session.writer.output); bytes = refl; delivered = sym (append-nil c.delivered.items); input = (refl, refl); silent = tt }
+reads_none says c = record { events = []; side = refl; config = refl; line = refl; steps = refl; output = sym
+    (append-nil c.session.writer.output); bytes = refl; delivered = sym (append-nil c.delivered.items); input =
+    (refl, refl); silent = tt }
 
 -- the reader lends nothing any more
 reads_unlent : (says : Says) (c : Connection) → Reads says c (record c { reader = record c.reader { handed = [] } })
-reads_unlent says c = record { events = []; side = refl; config = refl; line = refl; steps = refl; output = sym (append-nil c.session.writer.output); bytes = refl; delivered = sym (append-nil c.delivered.items); input = (refl, refl); silent = tt }
+reads_unlent says c = record { events = []; side = refl; config = refl; line = refl; steps = refl; output = sym
+    (append-nil c.session.writer.output); bytes = refl; delivered = sym (append-nil c.delivered.items); input =
+    (refl, refl); silent = tt }
 
-pub reads_unlent_as : (says : Says) (c c' : Connection) → c' ≡ record c { reader = record c.reader { handed = [] } } → Reads says c c'
+pub reads_unlent_as : (says : Says) (c c' : Connection) → c' ≡ record c { reader = record c.reader { handed = [] } }
+    → Reads says c c'
 reads_unlent_as says c c' e = subst (λ (x : Connection). Reads says c x) (sym e) (reads_unlent says c)
 
-pub goes_join : (says : Says) (c mid c' : Connection) (a b : List Event) → Goes says c a mid → Goes says mid b c' → Goes says c (a ++ b) c'
+pub goes_join : (says : Says) (c mid c' : Connection) (a b : List Event) → Goes says c a mid → Goes says mid b c'
+    → Goes says c (a ++ b) c'
 goes_join says c mid c' a b h k = record {
   side = k.side ∙ h.side;
   config = k.config ∙ h.config;
   line = k.line ∙ h.line;
-  steps = steps_join says c.session.side c.session.config.now (id_text c.session.config.now.id) a b (state_at c.session (reading_spot c) c.reader.count) (state_at mid.session (reading_spot mid) mid.reader.count) (state_at c'.session (reading_spot c') c'.reader.count) h.steps moved;
-  output = k.output ∙ ap (λ (t : List ℕ). t ++ sent_bytes mid.session.side (spot_of mid.session.writer) b) h.output ∙ append_assoc c.session.writer.output (sent_bytes c.session.side (spot_of c.session.writer) a) (sent_bytes mid.session.side (spot_of mid.session.writer) b)
-      ∙ ap (λ (x : Side). c.session.writer.output ++ (sent_bytes c.session.side (spot_of c.session.writer) a ++ sent_bytes x (spot_of mid.session.writer) b)) h.side
-      ∙ ap (λ (t : List ℕ). c.session.writer.output ++ t) (sym (sent_join says c.session.side c.session.config.now (id_text c.session.config.now.id) a b (state_at c.session (reading_spot c) c.reader.count) (state_at mid.session (reading_spot mid) mid.reader.count) h.steps));
-  bytes = h.bytes ∙ ap (λ (t : List ℕ). read_bytes c.session.side (reading_spot c) a ++ t) (k.bytes ∙ ap (λ (x : Side). read_bytes x (reading_spot mid) b ++ c'.reader.waiting) h.side)
-      ∙ sym (append_assoc (read_bytes c.session.side (reading_spot c) a) (read_bytes c.session.side (reading_spot mid) b) c'.reader.waiting)
-      ∙ ap (λ (t : List ℕ). t ++ c'.reader.waiting) (sym (read_join says c.session.side c.session.config.now (id_text c.session.config.now.id) a b (state_at c.session (reading_spot c) c.reader.count) (state_at mid.session (reading_spot mid) mid.reader.count) h.steps));
+  steps = steps_join says c.session.side c.session.config.now (id_text c.session.config.now.id) a b
+      (state_at c.session (reading_spot c) c.reader.count) (state_at mid.session (reading_spot mid) mid.reader.count)
+      (state_at c'.session (reading_spot c') c'.reader.count) h.steps moved;
+  output = k.output ∙ ap (λ (t : List ℕ). t ++ sent_bytes mid.session.side (spot_of mid.session.writer) b) h.output
+      ∙ append_assoc c.session.writer.output (sent_bytes c.session.side (spot_of c.session.writer) a)
+      (sent_bytes mid.session.side (spot_of mid.session.writer) b)
+      ∙ ap (λ (x : Side). c.session.writer.output ++ (sent_bytes c.session.side (spot_of c.session.writer) a ++
+          sent_bytes x (spot_of mid.session.writer) b)) h.side
+      ∙ ap (λ (t : List ℕ). c.session.writer.output ++ t) (sym
+          (sent_join says c.session.side c.session.config.now (id_text c.session.config.now.id) a b
+          (state_at c.session (reading_spot c) c.reader.count)
+          (state_at mid.session (reading_spot mid) mid.reader.count) h.steps));
+  bytes = h.bytes ∙ ap (λ (t : List ℕ). read_bytes c.session.side (reading_spot c) a ++ t)
+      (k.bytes ∙ ap (λ (x : Side). read_bytes x (reading_spot mid) b ++ c'.reader.waiting) h.side)
+      ∙ sym (append_assoc (read_bytes c.session.side (reading_spot c) a)
+          (read_bytes c.session.side (reading_spot mid) b) c'.reader.waiting)
+      ∙ ap (λ (t : List ℕ). t ++ c'.reader.waiting) (sym (read_join says c.session.side c.session.config.now
+          (id_text c.session.config.now.id) a b (state_at c.session (reading_spot c) c.reader.count)
+          (state_at mid.session (reading_spot mid) mid.reader.count) h.steps));
   input = input_more a b h.input k.input;
   silent = silent_more a b h.silent k.silent;
 } where
-  moved : Steps says c.session.side c.session.config.now (id_text c.session.config.now.id) (state_at mid.session (reading_spot mid) mid.reader.count) b (state_at c'.session (reading_spot c') c'.reader.count)
-  moved = subst (λ (x : Side). Steps says x c.session.config.now (id_text c.session.config.now.id) (state_at mid.session (reading_spot mid) mid.reader.count) b (state_at c'.session (reading_spot c') c'.reader.count)) h.side
-      (subst (λ (x : Bor Config). Steps says mid.session.side x.now (id_text x.now.id) (state_at mid.session (reading_spot mid) mid.reader.count) b (state_at c'.session (reading_spot c') c'.reader.count)) h.config k.steps)
+  moved : Steps says c.session.side c.session.config.now (id_text c.session.config.now.id)
+      (state_at mid.session (reading_spot mid) mid.reader.count) b
+      (state_at c'.session (reading_spot c') c'.reader.count)
+  moved = subst (λ (x : Side). Steps says x c.session.config.now (id_text c.session.config.now.id)
+      (state_at mid.session (reading_spot mid) mid.reader.count) b
+      (state_at c'.session (reading_spot c') c'.reader.count)) h.side
+      (subst (λ (x : Bor Config). Steps says mid.session.side x.now (id_text x.now.id)
+          (state_at mid.session (reading_spot mid) mid.reader.count) b
+          (state_at c'.session (reading_spot c') c'.reader.count)) h.config k.steps)
 
 pub reads_join : (says : Says) (c mid c' : Connection) → Reads says c mid → Reads says mid c' → Reads says c c'
-reads_join says c mid c' h k = reads_of says c c' (h.events ++ k.events) (goes_join says c mid c' h.events k.events (goes_of says c mid h) (goes_of says mid c' k))
-    (k.delivered ∙ ap (λ (t : List (List ℕ)). t ++ delivered_in k.events) h.delivered ∙ append_assoc c.delivered.items (delivered_in h.events) (delivered_in k.events) ∙ ap (λ (t : List (List ℕ)). c.delivered.items ++ t) (sym (delivered_more h.events k.events)))
+reads_join says c mid c' h k = reads_of says c c' (h.events ++ k.events)
+    (goes_join says c mid c' h.events k.events (goes_of says c mid h) (goes_of says mid c' k))
+    (k.delivered ∙ ap (λ (t : List (List ℕ)). t ++ delivered_in k.events) h.delivered
+        ∙ append_assoc c.delivered.items (delivered_in h.events) (delivered_in k.events)
+        ∙ ap (λ (t : List (List ℕ)). c.delivered.items ++ t) (sym (delivered_more h.events k.events)))
 
 -- with more behind what waits
-pub goes_more : (says : Says) (c c' : Connection) (events : List Event) (more : List ℕ) → Goes says c events c' → Goes says (with_more c more) events (with_more c' more)
-goes_more says c c' events more h = record { side = h.side; config = h.config; line = h.line; steps = h.steps; output = h.output; bytes = ap (λ (t : List ℕ). t ++ more) h.bytes ∙ append_assoc (read_bytes c.session.side (reading_spot c) events) c'.reader.waiting more; input = h.input; silent = h.silent }
+pub goes_more : (says : Says) (c c' : Connection) (events : List Event) (more : List ℕ) → Goes says c events c'
+    → Goes says (with_more c more) events (with_more c' more)
+goes_more says c c' events more h = record { side = h.side; config = h.config; line = h.line; steps = h.steps; output =
+    h.output; bytes = ap (λ (t : List ℕ). t ++ more) h.bytes
+    ∙ append_assoc (read_bytes c.session.side (reading_spot c) events) c'.reader.waiting more; input = h.input; silent =
+    h.silent }
 
-pub reads_more : (says : Says) (c c' : Connection) (more : List ℕ) → Reads says c c' → Reads says (with_more c more) (with_more c' more)
-reads_more says c c' more h = reads_of says (with_more c more) (with_more c' more) h.events (goes_more says c c' h.events more (goes_of says c c' h)) h.delivered
+pub reads_more : (says : Says) (c c' : Connection) (more : List ℕ) → Reads says c c'
+    → Reads says (with_more c more) (with_more c' more)
+reads_more says c c' more h = reads_of says (with_more c more) (with_more c' more) h.events
+    (goes_more says c c' h.events more (goes_of says c c' h)) h.delivered
 
 -- nothing is behind it
-pub reads_plain : (says : Says) (c c' : Connection) (more : List ℕ) → more ≡ [] → Reads says c (with_more c' more) → Reads says c c'
-reads_plain says c c' more e h = record { events = h.events; side = h.side; config = h.config; line = h.line; steps = h.steps; output = h.output; bytes = h.bytes ∙ ap (λ (x : List ℕ). read_bytes c.session.side (reading_spot c) h.events ++ (c'.reader.waiting ++ x)) e ∙ ap (λ (x : List ℕ). read_bytes c.session.side (reading_spot c) h.events ++ x) (append-nil c'.reader.waiting); delivered = h.delivered; input = h.input; silent = h.silent }
+pub reads_plain : (says : Says) (c c' : Connection) (more : List ℕ) → more ≡ [] → Reads says c (with_more c' more)
+    → Reads says c c'
+reads_plain says c c' more e h = record { events = h.events; side = h.side; config = h.config; line = h.line; steps =
+    h.steps; output = h.output; bytes = h.bytes ∙ ap (λ (x : List ℕ). read_bytes c.session.side (reading_spot c)
+    h.events ++ (c'.reader.waiting ++ x)) e ∙ ap (λ (x : List ℕ). read_bytes c.session.side (reading_spot c) h.events ++
+    x) (append-nil c'.reader.waiting); delivered = h.delivered; input = h.input; silent = h.silent }
 
 pub reads_weaker : (a b : Says) → Weaker a b → (c c' : Connection) → Reads a c c' → Reads b c c'
-reads_weaker a b w c c' h = record { events = h.events; side = h.side; config = h.config; line = h.line; steps = steps_weaker a b w c.session.side c.session.config.now (id_text c.session.config.now.id) h.events (state_at c.session (reading_spot c) c.reader.count) (state_at c'.session (reading_spot c') c'.reader.count) h.steps; output = h.output; bytes = h.bytes; delivered = h.delivered; input = h.input; silent = h.silent }
+reads_weaker a b w c c' h = record { events = h.events; side = h.side; config = h.config; line = h.line; steps =
+    steps_weaker a b w c.session.side c.session.config.now (id_text c.session.config.now.id) h.events
+    (state_at c.session (reading_spot c) c.reader.count) (state_at c'.session (reading_spot c') c'.reader.count)
+    h.steps; output = h.output; bytes = h.bytes; delivered = h.delivered; input = h.input; silent = h.silent }
 
 -- ---- one packet
 
@@ -135,53 +179,79 @@ pub record Handed (c : Connection) (item : Item) (answer : Disposition) (c' : Co
   pub bytes : c.reader.waiting ≡ sealed_packet (opening_of c.opening) c.reader.number item ++ c'.reader.waiting
   pub delivered : c'.delivered.items ≡ c.delivered.items ++ delivered_by answer item
 
-pub goes_packet : (says : Says) (c c' : Connection) (seqn : ℕ) (payload : List ℕ) (item : Item) (answer : Disposition) → IsFixed c.session c'.session → c'.session.line ≡ c.session.line → reading_spot c' ≡ spot_behind answer (reading_spot c) item → c'.reader.count ≡ read_behind answer c.reader.count item → c.reader.waiting ≡ sealed_packet (opening_of c.opening) c.reader.number item ++ c'.reader.waiting → (d : DoesWith says c.session (reading_spot c) c.reader.count item answer c'.session) → Goes says c d.events c'
+pub goes_packet : (says : Says) (c c' : Connection) (seqn : ℕ) (payload : List ℕ) (item : Item) (answer : Disposition)
+    → IsFixed c.session c'.session → c'.session.line ≡ c.session.line
+    → reading_spot c' ≡ spot_behind answer (reading_spot c) item
+    → c'.reader.count ≡ read_behind answer c.reader.count item
+    → c.reader.waiting ≡ sealed_packet (opening_of c.opening) c.reader.number item ++ c'.reader.waiting
+    → (d : DoesWith says c.session (reading_spot c) c.reader.count item answer c'.session) → Goes says c d.events c'
 goes_packet says c c' seqn payload item answer fixed line reading count bytes d = record {
   side = fixed.0;
   config = fixed.1;
   line = line;
-  steps = subst (λ (n : ℕ). Steps says c.session.side c.session.config.now (id_text c.session.config.now.id) (state_at c.session (reading_spot c) c.reader.count) d.events (state_at c'.session (reading_spot c') n)) (sym count)
-      (subst (λ (x : Spot). Steps says c.session.side c.session.config.now (id_text c.session.config.now.id) (state_at c.session (reading_spot c) c.reader.count) d.events (state_at c'.session x (read_behind answer c.reader.count item))) (sym reading) d.steps);
+  steps = subst (λ (n : ℕ). Steps says c.session.side c.session.config.now (id_text c.session.config.now.id)
+      (state_at c.session (reading_spot c) c.reader.count) d.events (state_at c'.session (reading_spot c') n))
+      (sym count)
+      (subst (λ (x : Spot). Steps says c.session.side c.session.config.now (id_text c.session.config.now.id)
+          (state_at c.session (reading_spot c) c.reader.count) d.events
+          (state_at c'.session x (read_behind answer c.reader.count item))) (sym reading) d.steps);
   output = d.output;
   bytes = bytes ∙ ap (λ (t : List ℕ). t ++ c'.reader.waiting) (sym d.bytes);
   input = d.input;
   silent = d.silent;
 }
 
-pub reads_packet : (says : Says) (c c' : Connection) (seqn : ℕ) (payload : List ℕ) (item : Item) (answer : Disposition) → IsLive c → IsReadAt (reading_spot c) seqn payload item → Handles says c.session seqn payload answer c'.session → IsFixed c.session c'.session → c'.session.line ≡ c.session.line → Handed c item answer c' → Reads says c c'
+pub reads_packet : (says : Says) (c c' : Connection) (seqn : ℕ) (payload : List ℕ) (item : Item) (answer : Disposition)
+    → IsLive c → IsReadAt (reading_spot c) seqn payload item → Handles says c.session seqn payload answer c'.session
+    → IsFixed c.session c'.session → c'.session.line ≡ c.session.line → Handed c item answer c' → Reads says c c'
 reads_packet says c c' seqn payload item answer live at h fixed line g =
-    let d : DoesWith says c.session (reading_spot c) c.reader.count item answer c'.session = h (reading_spot c) c.reader.count item at live.settled in
-    reads_of says c c' d.events (goes_packet says c c' seqn payload item answer fixed line g.reading g.count g.bytes d) (g.delivered ∙ ap (λ (t : List (List ℕ)). c.delivered.items ++ t) (sym d.delivered))
+    let d : DoesWith says c.session (reading_spot c) c.reader.count item answer c'.session = h (reading_spot c)
+        c.reader.count item at live.settled in
+    reads_of says c c' d.events (goes_packet says c c' seqn payload item answer fixed line g.reading g.count g.bytes d)
+        (g.delivered ∙ ap (λ (t : List (List ℕ)). c.delivered.items ++ t) (sym d.delivered))
 
 -- and what a side writes of itself
-pub goes_written : (says : Says) (c : Connection) (s' : Session) (read : ℕ) (events : List Event) → read ≡ c.reader.count → Writes c.session read events s' → Goes says c events (record c { session = s' })
+pub goes_written : (says : Says) (c : Connection) (s' : Session) (read : ℕ) (events : List Event)
+    → read ≡ c.reader.count → Writes c.session read events s' → Goes says c events (record c { session = s' })
 goes_written says c s' read events e h =
     let log = only_silent events h.only in
     record {
       side = h.side;
       config = h.config;
       line = h.line;
-      steps = subst (λ (n : ℕ). Steps says c.session.side c.session.config.now (id_text c.session.config.now.id) (state_at c.session (reading_spot c) n) events (state_at s' (reading_spot c) n)) e
-          (unread_steps nothing_said says c.session.side c.session.config.now (id_text c.session.config.now.id) events (state_at c.session (reading_spot c) read) (state_at s' (reading_spot c) read) log.handled_none (h.steps (reading_spot c)));
+      steps = subst (λ (n : ℕ). Steps says c.session.side c.session.config.now (id_text c.session.config.now.id)
+          (state_at c.session (reading_spot c) n) events (state_at s' (reading_spot c) n)) e
+          (unread_steps nothing_said says c.session.side c.session.config.now (id_text c.session.config.now.id) events
+              (state_at c.session (reading_spot c) read) (state_at s' (reading_spot c) read) log.handled_none
+              (h.steps (reading_spot c)));
       output = h.output;
-      bytes = ap (λ (t : List ℕ). t ++ c.reader.waiting) (sym (only_unread events c.session.side (reading_spot c) h.only));
+      bytes = ap (λ (t : List ℕ). t ++ c.reader.waiting) (sym
+          (only_unread events c.session.side (reading_spot c) h.only));
       input = (log.submitted_none, log.unasked);
       silent = log.hears_none;
     }
 
-pub reads_written : (says : Says) (c : Connection) (s' : Session) (read : ℕ) (events : List Event) → read ≡ c.reader.count → Writes c.session read events s' → Reads says c (record c { session = s' })
+pub reads_written : (says : Says) (c : Connection) (s' : Session) (read : ℕ) (events : List Event)
+    → read ≡ c.reader.count → Writes c.session read events s' → Reads says c (record c { session = s' })
 reads_written says c s' read events e h =
     reads_of says c (record c { session = s' }) events (goes_written says c s' read events e h)
-    (sym (ap (λ (t : List (List ℕ)). c.delivered.items ++ t) (only_silent events h.only).delivered_none ∙ append-nil c.delivered.items))
+    (sym (ap (λ (t : List (List ℕ)). c.delivered.items ++ t) (only_silent events h.only).delivered_none
+        ∙ append-nil c.delivered.items))
 
-pub reads_on : (says : Says) (c : Connection) (s' : Session) (read : ℕ) → read ≡ c.reader.count → GoesOn c.session read s' → Reads says c (record c { session = s' })
+pub reads_on : (says : Says) (c : Connection) (s' : Session) (read : ℕ) → read ≡ c.reader.count
+    → GoesOn c.session read s' → Reads says c (record c { session = s' })
 reads_on says c s' read e h = reads_written says c s' read h.events e h.writes
 
 -- where the parts were asked before, what they say later is what they said then
-pub reads_after : (says later : Config → Says) → ((x : Config) → Weaker (later x) (says x)) → (c mid c' : Connection) → mid.session.config ≡ c.session.config → Reads (says c.session.config.now) c mid → Reads (later mid.session.config.now) mid c' → Reads (says c.session.config.now) c c'
-reads_after says later w c mid c' e h k = reads_join (says c.session.config.now) c mid c' h (reads_weaker (later c.session.config.now) (says c.session.config.now) (w c.session.config.now) mid c' (subst (λ (b : Bor Config). Reads (later b.now) mid c') e k))
+pub reads_after : (says later : Config → Says) → ((x : Config) → Weaker (later x) (says x)) → (c mid c' : Connection)
+    → mid.session.config ≡ c.session.config → Reads (says c.session.config.now) c mid
+    → Reads (later mid.session.config.now) mid c' → Reads (says c.session.config.now) c c'
+reads_after says later w c mid c' e h k = reads_join (says c.session.config.now) c mid c' h
+    (reads_weaker (later c.session.config.now) (says c.session.config.now) (w c.session.config.now) mid c'
+    (subst (λ (b : Bor Config). Reads (later b.now) mid c') e k))
 
-delivered_kept : (answer : Disposition) (payload : List ℕ) (item : Item) → payload ≡ item.payload → kept_by answer payload ≡ delivered_by answer item
+delivered_kept : (answer : Disposition) (payload : List ℕ) (item : Item) → payload ≡ item.payload
+    → kept_by answer payload ≡ delivered_by answer item
 delivered_kept Delivers payload item e = ap (λ (x : List ℕ). x ∷ []) e
 delivered_kept Done payload item e = refl
 delivered_kept (Rekeys opening again) payload item e = refl
@@ -190,7 +260,12 @@ pub items_of : (a b : Connection) → a.delivered ≡ b.delivered → a.delivere
 items_of a b e = ap (λ v. v.items) e
 
 -- a packet was opened, and done with what it asks for by itself
-pub handles_one : (says : Says) (c c' : Connection) (result : Result (Option Incoming) OpenError) (o : Option Incoming) (incoming : Incoming) (answer : Disposition) → LeavesNext c.reader (opening_of c.opening) (opening_of c'.opening) result c'.reader → result ≡ Ok o → o ≡ Some incoming → c.reader.number < 2 ^ 32 → Handles says c.session incoming.seqn incoming.payload.now answer c'.session → c'.delivered ≡ c.delivered → (answer ≡ Delivers → c'.session ≡ c.session) → (is_kex (message_type incoming.payload.now) ≡ false → c'.session ≡ c.session) → HandlesOne says c answer c'
+pub handles_one : (says : Says) (c c' : Connection) (result : Result (Option Incoming) OpenError) (o : Option Incoming)
+    (incoming : Incoming) (answer : Disposition) → LeavesNext c.reader (opening_of c.opening) (opening_of c'.opening)
+    result c'.reader → result ≡ Ok o → o ≡ Some incoming → c.reader.number < 2 ^ 32
+    → Handles says c.session incoming.seqn incoming.payload.now answer c'.session → c'.delivered ≡ c.delivered
+    → (answer ≡ Delivers → c'.session ≡ c.session) → (is_kex (message_type incoming.payload.now) ≡ false
+    → c'.session ≡ c.session) → HandlesOne says c answer c'
 handles_one says c c' result o incoming answer l e f small h d still others = record {
   seqn = incoming.seqn;
   item = k.0;
@@ -210,18 +285,31 @@ handles_one says c c' result o incoming answer l e f small h d still others = re
   others = λ n. others (ap (λ (p : List ℕ). is_kex (message_type p)) (k.1).payload ∙ n);
 } where
   k : LeavesNext c.reader (opening_of c.opening) (opening_of c'.opening) (Ok (Some incoming)) c'.reader
-  k = subst (λ (x : Option Incoming). LeavesNext c.reader (opening_of c.opening) (opening_of c'.opening) (Ok x) c'.reader) f (subst (λ (r : Result (Option Incoming) OpenError). LeavesNext c.reader (opening_of c.opening) (opening_of c'.opening) r c'.reader) e l)
+  k = subst (λ (x : Option Incoming). LeavesNext c.reader (opening_of c.opening) (opening_of c'.opening) (Ok x)
+      c'.reader) f (subst (λ (r : Result (Option Incoming) OpenError). LeavesNext c.reader (opening_of c.opening)
+      (opening_of c'.opening) r c'.reader) e l)
 
-took_with : (says : Says) (c c1 c2 : Connection) (answer : Disposition) (t : HandlesOne says c answer c1) → c2 ≡ record c1 { delivered = c2.delivered } → c2.delivered.items ≡ c.delivered.items ++ delivered_by answer t.item → Took says c answer c2
-took_with says c c1 c2 answer t e d = subst (λ (x : Connection). Took says c answer x) (sym e) (record { seqn = t.seqn; item = t.item; at = t.at; handles = t.handles; number = t.number; count = t.count; sealing = t.sealing; bytes = t.bytes; shorter = t.shorter; unbroken = t.unbroken; window = t.window; delivered = d })
+took_with : (says : Says) (c c1 c2 : Connection) (answer : Disposition) (t : HandlesOne says c answer c1)
+    → c2 ≡ record c1 { delivered = c2.delivered } → c2.delivered.items ≡ c.delivered.items ++ delivered_by answer t.item
+    → Took says c answer c2
+took_with says c c1 c2 answer t e d = subst (λ (x : Connection). Took says c answer x) (sym e)
+    (record { seqn = t.seqn; item = t.item; at = t.at; handles = t.handles; number = t.number; count = t.count; sealing
+    = t.sealing; bytes = t.bytes; shorter = t.shorter; unbroken = t.unbroken; window = t.window; delivered = d })
 
 -- and its payload was queued
-pub took_queued : (says : Says) (c c1 c2 : Connection) (answer : Disposition) → HandlesOne says c answer c1 → c2 ≡ record c1 { delivered = c2.delivered } → c2.delivered.items ≡ c1.delivered.items ++ kept_by answer c1.reader.handed → Took says c answer c2
-took_queued says c c1 c2 answer t e d = took_with says c c1 c2 answer t e (d ∙ ap (λ (t : List (List ℕ)). t ++ kept_by answer c1.reader.handed) (items_of c1 c t.delivered) ∙ ap (λ (x : List (List ℕ)). c.delivered.items ++ x) (delivered_kept answer c1.reader.handed t.item t.handed))
+pub took_queued : (says : Says) (c c1 c2 : Connection) (answer : Disposition) → HandlesOne says c answer c1
+    → c2 ≡ record c1 { delivered = c2.delivered } → c2.delivered.items ≡ c1.delivered.items ++ kept_by answer
+    c1.reader.handed → Took says c answer c2
+took_queued says c c1 c2 answer t e d = took_with says c c1 c2 answer t e
+    (d ∙ ap (λ (t : List (List ℕ)). t ++ kept_by answer c1.reader.handed) (items_of c1 c t.delivered)
+    ∙ ap (λ (x : List (List ℕ)). c.delivered.items ++ x) (delivered_kept answer c1.reader.handed t.item t.handed))
 
 -- or nothing of it is delivered
-pub took_nothing : (says : Says) (c c1 : Connection) (answer : Disposition) (t : HandlesOne says c answer c1) → delivered_by answer t.item ≡ [] → Took says c answer c1
-took_nothing says c c1 answer t n = took_with says c c1 c1 answer t refl (items_of c1 c t.delivered ∙ sym (ap (λ (x : List (List ℕ)). c.delivered.items ++ x) n ∙ append-nil c.delivered.items))
+pub took_nothing : (says : Says) (c c1 : Connection) (answer : Disposition) (t : HandlesOne says c answer c1)
+    → delivered_by answer t.item ≡ [] → Took says c answer c1
+took_nothing says c c1 answer t n = took_with says c c1 c1 answer t refl
+    (items_of c1 c t.delivered ∙ sym (ap (λ (x : List (List ℕ)). c.delivered.items ++ x) n
+    ∙ append-nil c.delivered.items))
 
 number_after : (n : ℕ) → next_number n < 2 ^ 32
 number_after n = omega arith
@@ -235,26 +323,35 @@ up_small Delivers at h = h
 up_small Done at h = h
 up_small (Rekeys opening again) at h = renumbered_small again (record at { sealing = opening_of opening }) h
 
-up_behind : (answer : Disposition) (at at' : Spot) (item : Item) → at' ≡ spot_after at item → spot_up answer at' ≡ spot_behind answer at item
+up_behind : (answer : Disposition) (at at' : Spot) (item : Item) → at' ≡ spot_after at item
+    → spot_up answer at' ≡ spot_behind answer at item
 up_behind Delivers at at' item e = e
 up_behind Done at at' item e = e
-up_behind (Rekeys opening again) at at' item e = ap (λ (x : Spot). spot_renumbered again (record x { sealing = opening_of opening })) e
+up_behind (Rekeys opening again) at at' item e = ap (λ (x : Spot). spot_renumbered again
+    (record x { sealing = opening_of opening })) e
 
-up_read : (answer : Disposition) (n n' : ℕ) (item : Item) → n' ≡ count_after n (length item.payload) → count_up answer n' ≡ read_behind answer n item
+up_read : (answer : Disposition) (n n' : ℕ) (item : Item) → n' ≡ count_after n (length item.payload)
+    → count_up answer n' ≡ read_behind answer n item
 up_read Delivers n n' item e = e
 up_read Done n n' item e = e
 up_read (Rekeys opening again) n n' item e = refl
 
-spot_moved : (c c1 : Connection) (item : Item) → c1.reader.number ≡ next_number c.reader.number → opening_of c1.opening ≡ moved_on (opening_of c.opening) item → reading_spot c1 ≡ spot_after (reading_spot c) item
-spot_moved c c1 item n k = ap (λ (x : Sealing). record { sealing = x; number = c1.reader.number }) k ∙ ap (λ (m : ℕ). record { sealing = moved_on (opening_of c.opening) item; number = m }) n
+spot_moved : (c c1 : Connection) (item : Item) → c1.reader.number ≡ next_number c.reader.number
+    → opening_of c1.opening ≡ moved_on (opening_of c.opening) item → reading_spot c1 ≡ spot_after (reading_spot c) item
+spot_moved c c1 item n k = ap (λ (x : Sealing). record { sealing = x; number = c1.reader.number }) k
+    ∙ ap (λ (m : ℕ). record { sealing = moved_on (opening_of c.opening) item; number = m }) n
 
-took_spot : (says : Says) (c c1 : Connection) (answer : Disposition) (t : Took says c answer c1) → reading_spot c1 ≡ spot_after (reading_spot c) t.item
+took_spot : (says : Says) (c c1 : Connection) (answer : Disposition) (t : Took says c answer c1)
+    → reading_spot c1 ≡ spot_after (reading_spot c) t.item
 took_spot says c c1 answer t = spot_moved c c1 t.item t.number t.sealing
 
-pub numbered_up : (c c1 c2 : Connection) (answer : Disposition) → c1.reader.number ≡ next_number c.reader.number → TakesUp answer c1 c2 → c2.reader.number < 2 ^ 32
-numbered_up c c1 c2 answer n u = subst (λ (x : Spot). x.number < 2 ^ 32) (sym u.reading) (up_small answer (reading_spot c1) (subst (λ (m : ℕ). m < 2 ^ 32) (sym n) (number_after c.reader.number)))
+pub numbered_up : (c c1 c2 : Connection) (answer : Disposition) → c1.reader.number ≡ next_number c.reader.number
+    → TakesUp answer c1 c2 → c2.reader.number < 2 ^ 32
+numbered_up c c1 c2 answer n u = subst (λ (x : Spot). x.number < 2 ^ 32) (sym u.reading)
+    (up_small answer (reading_spot c1) (subst (λ (m : ℕ). m < 2 ^ 32) (sym n) (number_after c.reader.number)))
 
-pub reads_up : (says : Says) (c c1 c2 : Connection) (answer : Disposition) → IsLive c → Took says c answer c1 → IsFixed c.session c1.session → c1.session.line ≡ c.session.line → TakesUp answer c1 c2 → Reads says c c2
+pub reads_up : (says : Says) (c c1 c2 : Connection) (answer : Disposition) → IsLive c → Took says c answer c1
+    → IsFixed c.session c1.session → c1.session.line ≡ c.session.line → TakesUp answer c1 c2 → Reads says c c2
 reads_up says c c1 c2 answer live t fixed line u =
     reads_packet says c c2 t.seqn t.item.payload t.item answer live t.at
     (subst (λ (s : Session). Handles says c.session t.seqn t.item.payload answer s) same t.handles)
@@ -263,15 +360,19 @@ reads_up says c c1 c2 answer live t fixed line u =
     (record {
       reading = u.reading ∙ up_behind answer (reading_spot c) (reading_spot c1) t.item (took_spot says c c1 answer t);
       count = u.count ∙ up_read answer c.reader.count c1.reader.count t.item t.count;
-      bytes = t.bytes ∙ ap (λ (x : List ℕ). sealed_packet (opening_of c.opening) c.reader.number t.item ++ x) (sym u.waiting);
+      bytes = t.bytes ∙ ap (λ (x : List ℕ). sealed_packet (opening_of c.opening) c.reader.number t.item ++ x)
+          (sym u.waiting);
       delivered = ap (λ (x : Connection). x.delivered.items) u.rest ∙ t.delivered;
     })
   where
     same : c1.session ≡ c2.session
     same = sym (ap (λ (x : Connection). x.session) u.rest)
 
-pub reads_taken : (says : Says) (c c1 c2 : Connection) (s' : Session) (read : ℕ) (answer : Disposition) → IsLive c → Took says c answer c1 → IsFixed c.session c1.session → c1.session.line ≡ c.session.line → TakesUp answer c1 c2 → read ≡ c2.reader.count → GoesOn c2.session read s' → Reads says c (record c2 { session = s' })
-reads_taken says c c1 c2 s' read answer live t fixed line u e h = reads_join says c c2 (record c2 { session = s' }) (reads_up says c c1 c2 answer live t fixed line u) (reads_on says c2 s' read e h)
+pub reads_taken : (says : Says) (c c1 c2 : Connection) (s' : Session) (read : ℕ) (answer : Disposition) → IsLive c
+    → Took says c answer c1 → IsFixed c.session c1.session → c1.session.line ≡ c.session.line → TakesUp answer c1 c2
+    → read ≡ c2.reader.count → GoesOn c2.session read s' → Reads says c (record c2 { session = s' })
+reads_taken says c c1 c2 s' read answer live t fixed line u e h = reads_join says c c2 (record c2 { session = s' })
+    (reads_up says c c1 c2 answer live t fixed line u) (reads_on says c2 s' read e h)
 
 -- ---- a payload that is lent
 
@@ -282,15 +383,21 @@ nothing_more (x ∷ xs) ys e = nothing_more xs ys (tail_of x xs (xs ++ ys) e)
     tail_of : (y : List ℕ) (a b : List (List ℕ)) → y ∷ a ≡ y ∷ b → a ≡ b
     tail_of y a b f = cc
 
-lends_packet : (says : Says) (c c1 c2 : Connection) (s' : Session) (read : ℕ) → IsLive c → HandlesOne says c Delivers c1 → IsFixed c.session c1.session → c1.session.line ≡ c.session.line → TakesUp Delivers c1 c2 → read ≡ c2.reader.count → GoesOn c2.session read s' → Lends says c c2.reader.handed (record c2 { session = s' })
+lends_packet : (says : Says) (c c1 c2 : Connection) (s' : Session) (read : ℕ) → IsLive c → HandlesOne says c Delivers c1
+    → IsFixed c.session c1.session → c1.session.line ≡ c.session.line → TakesUp Delivers c1 c2 → read ≡ c2.reader.count
+    → GoesOn c2.session read s' → Lends says c c2.reader.handed (record c2 { session = s' })
 lends_packet says c c1 c2 s' read live t fixed line u e g = record {
   events = d.events ++ g.events;
-  goes = goes_join says c c2 (record c2 { session = s' }) d.events g.events (subst (λ (x : Connection). Goes says c d.events x) (sym same) first) (goes_written says c2 s' read g.events e g.writes);
+  goes = goes_join says c c2 (record c2 { session = s' }) d.events g.events
+      (subst (λ (x : Connection). Goes says c d.events x) (sym same) first)
+      (goes_written says c2 s' read g.events e g.writes);
   unqueued = ap (λ (x : Connection). x.delivered) same ∙ t.delivered;
-  lent = delivered_more d.events g.events ∙ ap (λ (x : List (List ℕ)). x ++ delivered_in g.events) d.delivered ∙ ap (λ (x : List (List ℕ)). t.item.payload ∷ x) log.delivered_none ∙ ap (λ (x : List ℕ). x ∷ []) lent;
+  lent = delivered_more d.events g.events ∙ ap (λ (x : List (List ℕ)). x ++ delivered_in g.events) d.delivered
+      ∙ ap (λ (x : List (List ℕ)). t.item.payload ∷ x) log.delivered_none ∙ ap (λ (x : List ℕ). x ∷ []) lent;
   before = [];
   item = t.item;
-  last = handled_more d.events g.events ∙ ap (λ (x : List Event). handled x ++ handled g.events) (d.alone refl) ∙ ap (λ (x : List Item). t.item ∷ x) log.handled_none;
+  last = handled_more d.events g.events ∙ ap (λ (x : List Event). handled x ++ handled g.events) (d.alone refl)
+      ∙ ap (λ (x : List Item). t.item ∷ x) log.handled_none;
   payload_is = lent;
 } where
   d : DoesWith says c.session (reading_spot c) c.reader.count t.item Delivers c1.session
@@ -306,55 +413,90 @@ lends_packet says c c1 c2 s' read live t fixed line u e g = record {
   log = only_silent g.events g.writes.only
 
   first : Goes says c d.events c1
-  first = goes_packet says c c1 t.seqn t.item.payload t.item Delivers fixed line (spot_moved c c1 t.item t.number t.sealing) t.count t.bytes d
+  first = goes_packet says c c1 t.seqn t.item.payload t.item Delivers fixed line
+      (spot_moved c c1 t.item t.number t.sealing) t.count t.bytes d
 
-read_on : (says : Says) (c c1 c2 : Connection) (s' : Session) (read : ℕ) (answer : Disposition) (t : HandlesOne says c answer c1) → delivered_by answer t.item ≡ [] → IsLive c → IsFixed c.session c1.session → c1.session.line ≡ c.session.line → TakesUp answer c1 c2 → read ≡ c2.reader.count → GoesOn c2.session read s' → Reads says c (record c2 { session = s' }) × (c2.delivered ≡ c.delivered)
-read_on says c c1 c2 s' read answer t n live fixed line u e g = (reads_taken says c c1 c2 s' read answer live (took_nothing says c c1 answer t n) fixed line u e g, ap (λ (x : Connection). x.delivered) u.rest ∙ t.delivered)
+read_on : (says : Says) (c c1 c2 : Connection) (s' : Session) (read : ℕ) (answer : Disposition)
+    (t : HandlesOne says c answer c1) → delivered_by answer t.item ≡ [] → IsLive c → IsFixed c.session c1.session
+    → c1.session.line ≡ c.session.line → TakesUp answer c1 c2 → read ≡ c2.reader.count → GoesOn c2.session read s'
+    → Reads says c (record c2 { session = s' }) × (c2.delivered ≡ c.delivered)
+read_on says c c1 c2 s' read answer t n live fixed line u e g =
+    (reads_taken says c c1 c2 s' read answer live (took_nothing says c c1 answer t n) fixed line u e g, ap
+    (λ (x : Connection). x.delivered) u.rest ∙ t.delivered)
 
 -- by what is done with it
-polls_taken : (says : Says) (c c1 c2 : Connection) (s' : Session) (read : ℕ) (answer : Disposition) → IsLive c → HandlesOne says c answer c1 → IsFixed c.session c1.session → c1.session.line ≡ c.session.line → TakesUp answer c1 c2 → read ≡ c2.reader.count → GoesOn c2.session read s' → PollsOne says c (read_as answer) (record c2 { session = s' })
-polls_taken says c c1 c2 s' read Delivers live t fixed line u e g = lends_packet says c c1 c2 s' read live t fixed line u e g
-polls_taken says c c1 c2 s' read Done live t fixed line u e g = read_on says c c1 c2 s' read Done t refl live fixed line u e g
-polls_taken says c c1 c2 s' read (Rekeys opening again) live t fixed line u e g = read_on says c c1 c2 s' read (Rekeys opening again) t refl live fixed line u e g
+polls_taken : (says : Says) (c c1 c2 : Connection) (s' : Session) (read : ℕ) (answer : Disposition) → IsLive c
+    → HandlesOne says c answer c1 → IsFixed c.session c1.session → c1.session.line ≡ c.session.line
+    → TakesUp answer c1 c2 → read ≡ c2.reader.count → GoesOn c2.session read s'
+    → PollsOne says c (read_as answer) (record c2 { session = s' })
+polls_taken says c c1 c2 s' read Delivers live t fixed line u e g = lends_packet says c c1 c2 s' read live t fixed line
+    u e g
+polls_taken says c c1 c2 s' read Done live t fixed line u e g = read_on says c c1 c2 s' read Done t refl live fixed line
+    u e g
+polls_taken says c c1 c2 s' read (Rekeys opening again) live t fixed line u e g = read_on says c c1 c2 s' read
+    (Rekeys opening again) t refl live fixed line u e g
 
-pub polls_as : (says : Says) (c c1 c2 : Connection) (s' : Session) (n : ℕ) (answer : Disposition) (read : PacketRead) → read ≡ read_as answer → IsLive c → HandlesOne says c answer c1 → IsFixed c.session c1.session → c1.session.line ≡ c.session.line → TakesUp answer c1 c2 → n ≡ c2.reader.count → GoesOn c2.session n s' → PollsOne says c read (record c2 { session = s' })
-polls_as says c c1 c2 s' n answer read r live t fixed line u e g = subst (λ (x : PacketRead). PollsOne says c x (record c2 { session = s' })) (sym r) (polls_taken says c c1 c2 s' n answer live t fixed line u e g)
+pub polls_as : (says : Says) (c c1 c2 : Connection) (s' : Session) (n : ℕ) (answer : Disposition) (read : PacketRead)
+    → read ≡ read_as answer → IsLive c → HandlesOne says c answer c1 → IsFixed c.session c1.session
+    → c1.session.line ≡ c.session.line → TakesUp answer c1 c2 → n ≡ c2.reader.count → GoesOn c2.session n s'
+    → PollsOne says c read (record c2 { session = s' })
+polls_as says c c1 c2 s' n answer read r live t fixed line u e g = subst
+    (λ (x : PacketRead). PollsOne says c x (record c2 { session = s' })) (sym r)
+    (polls_taken says c c1 c2 s' n answer live t fixed line u e g)
 
-pub polls_none : (says : Says) (c c' : Connection) → c' ≡ record c { reader = record c.reader { handed = [] } } → c'.delivered ≡ c.delivered → WaitsInPart (reading_spot c) c.reader.waiting → PollsOne says c Nothing c'
-polls_none says c c' e d p = (reads_unlent_as says c c' e, d, subst (λ (x : Connection). WaitsInPart (reading_spot x) x.reader.waiting) (sym e) p)
+pub polls_none : (says : Says) (c c' : Connection) → c' ≡ record c { reader = record c.reader { handed = [] } }
+    → c'.delivered ≡ c.delivered → WaitsInPart (reading_spot c) c.reader.waiting → PollsOne says c Nothing c'
+polls_none says c c' e d p = (reads_unlent_as says c c' e, d, subst
+    (λ (x : Connection). WaitsInPart (reading_spot x) x.reader.waiting) (sym e) p)
 
 -- behind packets that were read
-goes_weaker : (a b : Says) → Weaker a b → (c c' : Connection) (events : List Event) → Goes a c events c' → Goes b c events c'
-goes_weaker a b w c c' events h = record { side = h.side; config = h.config; line = h.line; steps = steps_weaker a b w c.session.side c.session.config.now (id_text c.session.config.now.id) events (state_at c.session (reading_spot c) c.reader.count) (state_at c'.session (reading_spot c') c'.reader.count) h.steps; output = h.output; bytes = h.bytes; input = h.input; silent = h.silent }
+goes_weaker : (a b : Says) → Weaker a b → (c c' : Connection) (events : List Event) → Goes a c events c'
+    → Goes b c events c'
+goes_weaker a b w c c' events h = record { side = h.side; config = h.config; line = h.line; steps = steps_weaker a b w
+    c.session.side c.session.config.now (id_text c.session.config.now.id) events
+    (state_at c.session (reading_spot c) c.reader.count) (state_at c'.session (reading_spot c') c'.reader.count)
+    h.steps; output = h.output; bytes = h.bytes; input = h.input; silent = h.silent }
 
-lends_behind : (says : Says) (c mid c' : Connection) (payload : List ℕ) → Reads says c mid → mid.delivered ≡ c.delivered → Lends says mid payload c' → Lends says c payload c'
+lends_behind : (says : Says) (c mid c' : Connection) (payload : List ℕ) → Reads says c mid → mid.delivered ≡ c.delivered
+    → Lends says mid payload c' → Lends says c payload c'
 lends_behind says c mid c' payload h d k = record {
   events = h.events ++ k.events;
   goes = goes_join says c mid c' h.events k.events (goes_of says c mid h) k.goes;
   unqueued = k.unqueued ∙ d;
-  lent = delivered_more h.events k.events ∙ ap (λ (x : List (List ℕ)). x ++ delivered_in k.events) (nothing_more c.delivered.items (delivered_in h.events) (sym (items_of mid c d) ∙ h.delivered)) ∙ k.lent;
+  lent = delivered_more h.events k.events ∙ ap (λ (x : List (List ℕ)). x ++ delivered_in k.events)
+      (nothing_more c.delivered.items (delivered_in h.events) (sym (items_of mid c d) ∙ h.delivered)) ∙ k.lent;
   before = handled h.events ++ k.before;
   item = k.item;
-  last = handled_more h.events k.events ∙ ap (λ (x : List Item). handled h.events ++ x) k.last ∙ sym (append_assoc (handled h.events) k.before (k.item ∷ []));
+  last = handled_more h.events k.events ∙ ap (λ (x : List Item). handled h.events ++ x) k.last
+      ∙ sym (append_assoc (handled h.events) k.before (k.item ∷ []));
   payload_is = k.payload_is;
 }
 
-lends_weaker : (a b : Says) → Weaker a b → (c c' : Connection) (payload : List ℕ) → Lends a c payload c' → Lends b c payload c'
-lends_weaker a b w c c' payload h = record { events = h.events; goes = goes_weaker a b w c c' h.events h.goes; unqueued = h.unqueued; lent = h.lent; before = h.before; item = h.item; last = h.last; payload_is = h.payload_is }
+lends_weaker : (a b : Says) → Weaker a b → (c c' : Connection) (payload : List ℕ) → Lends a c payload c'
+    → Lends b c payload c'
+lends_weaker a b w c c' payload h = record { events = h.events; goes = goes_weaker a b w c c' h.events h.goes; unqueued
+    = h.unqueued; lent = h.lent; before = h.before; item = h.item; last = h.last; payload_is = h.payload_is }
 
-pub polls_after : (says later : Config → Says) → ((x : Config) → Weaker (later x) (says x)) → (c mid c' : Connection) (read : PacketRead) → mid.session.config ≡ c.session.config → Reads (says c.session.config.now) c mid → mid.delivered ≡ c.delivered → PollsOne (later mid.session.config.now) mid read c' → PollsOne (says c.session.config.now) c read c'
+pub polls_after : (says later : Config → Says) → ((x : Config) → Weaker (later x) (says x))
+    → (c mid c' : Connection) (read : PacketRead) → mid.session.config ≡ c.session.config
+    → Reads (says c.session.config.now) c mid → mid.delivered ≡ c.delivered
+    → PollsOne (later mid.session.config.now) mid read c' → PollsOne (says c.session.config.now) c read c'
 polls_after says later w c mid c' Nothing e h d k = (reads_after says later w c mid c' e h k.0, k.1 ∙ d, k.2)
 polls_after says later w c mid c' Packet e h d k = (reads_after says later w c mid c' e h k.0, k.1 ∙ d)
-polls_after says later w c mid c' Payload e h d k = lends_behind (says c.session.config.now) c mid c' c'.reader.handed h d (lends_weaker (later c.session.config.now) (says c.session.config.now) (w c.session.config.now) mid c' c'.reader.handed (subst (λ (b : Bor Config). Lends (later b.now) mid c'.reader.handed c') e k))
+polls_after says later w c mid c' Payload e h d k = lends_behind (says c.session.config.now) c mid c' c'.reader.handed h
+    d (lends_weaker (later c.session.config.now) (says c.session.config.now) (w c.session.config.now) mid c'
+    c'.reader.handed (subst (λ (b : Bor Config). Lends (later b.now) mid c'.reader.handed c') e k))
 
 pub some_is : {A : Type 0} (o : Option A) (x : A) (P : A → Type 0) → IfSome o P → o ≡ Some x → P x
 some_is {A} o x P h e = subst (λ (y : Option A). IfSome y P) e h
 
 -- what was made of a packet, by the answer
-pub polls_at : (says : Says) (c c' : Connection) (got read : PacketRead) → got ≡ read → PollsOne says c got c' → PollsOne says c read c'
+pub polls_at : (says : Says) (c c' : Connection) (got read : PacketRead) → got ≡ read → PollsOne says c got c'
+    → PollsOne says c read c'
 polls_at says c c' got read e h = subst (λ (x : PacketRead). PollsOne says c x c') e h
 
-pub packet_shorter : (got read : PacketRead) (a b n : ℕ) → got ≡ read → read ≡ Packet → IfPacket got (a < b) → b ≤ n → a ≤ n
+pub packet_shorter : (got read : PacketRead) (a b n : ℕ) → got ≡ read → read ≡ Packet → IfPacket got (a < b) → b ≤ n
+    → a ≤ n
 packet_shorter got read a b n e f h k =
     let l : a < b = subst (λ (x : PacketRead). IfPacket x (a < b)) (e ∙ f) h in
     omega (arith, l, k)

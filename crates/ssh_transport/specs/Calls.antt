@@ -76,7 +76,8 @@ call_of ma mh mg mr p q = record {
 }
 
 -- a message was taken
-pub record TakesMessage (p : PartsCall) (s : Session) (i : Incoming) (handled : Disposition) (s' : Session) : Type 0 where
+pub record TreatsMessage (p : PartsCall) (s : Session) (i : Incoming) (handled : Disposition) (s' : Session) : Type 0
+    where
   pub stays : Stays s s'
   pub keeps : p.keeps
   pub unheard : IsUnheard s'
@@ -87,7 +88,7 @@ pub record TakesMessage (p : PartsCall) (s : Session) (i : Incoming) (handled : 
   pub others : is_kex (message_type i.payload.now) ≡ false → s' ≡ s
 
 -- a message was refused, which leaves this
-pub record RefusesMessage (Leaves : Session → Session → Type 0) (p : PartsCall) (s : Session) (i : Incoming)
+pub record FailsMessage (Leaves : Session → Session → Type 0) (p : PartsCall) (s : Session) (i : Incoming)
     (error : Error) (s' : Session) : Type 0 where
   pub stays : Stays s s'
   pub keeps : p.keeps
@@ -99,8 +100,8 @@ pub record RefusesMessage (Leaves : Session → Session → Type 0) (p : PartsCa
 -- what is done with a message
 abbrev pub Treats : (Leaves : Session → Session → Type 0) → PartsCall → Session → Incoming → Result Disposition Error
     → Session → Type 0
-Treats Leaves p s i (Ok handled) s' = TakesMessage p s i handled s'
-Treats Leaves p s i (Err error) s' = RefusesMessage Leaves p s i error s'
+Treats Leaves p s i (Ok handled) s' = TreatsMessage p s i handled s'
+Treats Leaves p s i (Err error) s' = FailsMessage Leaves p s i error s'
 
 -- with what a message can be handled
 pub record CanTreat (s : Session) (i : Incoming) : Type 0 where
@@ -136,7 +137,8 @@ pub record OpensPacket (p : PartsCall) (c : Connection) (handled : Disposition) 
 
 -- A packet was refused, or memory was wanting. Where payloads aren't queued, it was wanting for no more than a call
 -- that lends them may want it for.
-pub record StopsReading (queues : Bool) (p : PartsCall) (c : Connection) (error : Error) (c' : Connection) : Type 0 where
+pub record StopsReading (queues : Bool) (p : PartsCall) (c : Connection) (error : Error) (c' : Connection) : Type 0
+    where
   pub begins : CanBegin c'.session
   pub fixed : IsFixedIn c c'
   pub keeps : p.keeps
@@ -146,10 +148,10 @@ pub record StopsReading (queues : Bool) (p : PartsCall) (c : Connection) (error 
   pub unqueued : queues ≡ false → c'.delivered ≡ c.delivered
 
 -- what was made of the next packet
-abbrev pub TakesNext : PartsCall → Connection → Result (Option Disposition) Error → Connection → Type 0
-TakesNext p c (Ok None) c' = StaysInPart p c c'
-TakesNext p c (Ok (Some handled)) c' = OpensPacket p c handled c'
-TakesNext p c (Err error) c' = StopsReading false p c error c'
+abbrev pub OpensNext : PartsCall → Connection → Result (Option Disposition) Error → Connection → Type 0
+OpensNext p c (Ok None) c' = StaysInPart p c c'
+OpensNext p c (Ok (Some handled)) c' = OpensPacket p c handled c'
+OpensNext p c (Err error) c' = StopsReading false p c error c'
 
 -- by what was made of the last packet, where payloads are queued or handed up
 abbrev pub ReadsFor : (queues : Bool) → Says → Connection → PacketRead → Connection → Type 0
@@ -159,7 +161,7 @@ ReadsFor true says c Packet c' = Reads says c c'
 ReadsFor true says c Payload c' = ⊥
 
 -- packets were read, and all that they ask for was done
-pub record ReadsOn (queues : Bool) (p : PartsCall) (c : Connection) (read : PacketRead) (c' : Connection) : Type 0 where
+pub record ReadSome (queues : Bool) (p : PartsCall) (c : Connection) (read : PacketRead) (c' : Connection) : Type 0 where
   pub live : IsLive c'
   pub line : c'.session.line ≡ c.session.line
   pub fixed : IsFixedIn c c'
@@ -170,14 +172,14 @@ pub record ReadsOn (queues : Bool) (p : PartsCall) (c : Connection) (read : Pack
   pub shorter : length c'.reader.waiting ≤ length c.reader.waiting
 
 -- of one packet, and of all up to one whose payload is handed up
-abbrev pub Advances : (queues : Bool) → PartsCall → Connection → Result PacketRead Error → Connection → Type 0
-Advances queues p c (Ok read) c' = ReadsOn queues p c read c'
+abbrev pub HandlesNext : (queues : Bool) → PartsCall → Connection → Result PacketRead Error → Connection → Type 0
+HandlesNext queues p c (Ok read) c' = ReadSome queues p c read c'
     × IfPacket read (length c'.reader.waiting < length c.reader.waiting)
-Advances queues p c (Err error) c' = StopsReading queues p c error c'
+HandlesNext queues p c (Err error) c' = StopsReading queues p c error c'
 
-abbrev pub ReadsAll : (queues : Bool) → PartsCall → Connection → Result Bool Error → Connection → Type 0
-ReadsAll queues p c (Ok lends) c' = ReadsOn queues p c (read_by lends) c'
-ReadsAll queues p c (Err error) c' = StopsReading queues p c error c'
+abbrev pub ReadsWaiting : (queues : Bool) → PartsCall → Connection → Result Bool Error → Connection → Type 0
+ReadsWaiting queues p c (Ok lends) c' = ReadSome queues p c (read_by lends) c'
+ReadsWaiting queues p c (Err error) c' = StopsReading queues p c error c'
 
 -- what becomes of a payload that is delivered
 abbrev pub HandsUp : (queues : Bool) → Connection → Disposition → PacketRead → Connection → Type 0
@@ -186,7 +188,8 @@ HandsUp true c handled read c' = (read ≡ Packet) × (c' ≡ record c { deliver
     × (c'.delivered.items ≡ c.delivered.items ++ kept_by handled c.reader.handed)
 
 -- or memory was wanting to queue it
-pub record KeepsNot (queues : Bool) (c : Connection) (handled : Disposition) (error : Error) (c' : Connection) : Type 0 where
+pub record KeepsNot (queues : Bool) (c : Connection) (handled : Disposition) (error : Error) (c' : Connection) : Type 0
+    where
   pub error_is : error ≡ errors.Memory
   pub queueing : queues ≡ true
   pub delivering : handled ≡ Delivers
@@ -207,7 +210,7 @@ TakesFor true says c false c' = Takes says (emptied c) c.reader.waiting c' × Ha
 TakesFor true says c true c' = ⊥
 
 -- what waited was taken, so
-pub record HasTaken (p : PartsCall) (c c' : Connection) (Takes : Type 0) : Type 0 where
+pub record TookInput (p : PartsCall) (c c' : Connection) (Takes : Type 0) : Type 0 where
   pub live : IsLive c'
   pub within : IsKept c'
   pub settled : WaitsBehind c'.session.line c'.reader.waiting
@@ -217,7 +220,8 @@ pub record HasTaken (p : PartsCall) (c c' : Connection) (Takes : Type 0) : Type 
   pub drawn : DrawsFirst (true ≡ true) (standing_of c) (standing_of c') p.stream p.left
   pub takes : Takes
 
--- Of what waits and a piece behind it some was refused, or memory was wanting. If payloads aren't queued, it was wanting
+-- Of what waits and a piece behind it some was refused, or memory was wanting. If payloads aren't queued, it was
+-- wanting
 -- for no more than a call that lends them may want it for.
 pub record FailsTaking (queues : Bool) (p : PartsCall) (c : Connection) (piece : List ℕ) (error : Error)
     (c' : Connection) : Type 0 where
@@ -232,14 +236,14 @@ pub record FailsTaking (queues : Bool) (p : PartsCall) (c : Connection) (piece :
 
 -- What waited was taken. Whatever comes behind it, it is refused for the same.
 abbrev pub TakesKept : (queues : Bool) → PartsCall → Connection → Result Bool Error → Connection → Type 0
-TakesKept queues p c (Ok lends) c' = HasTaken p c c' (TakesFor queues (p.says c.session.config.now) c lends c')
+TakesKept queues p c (Ok lends) c' = TookInput p c c' (TakesFor queues (p.says c.session.config.now) c lends c')
 TakesKept queues p c (Err error) c' = (more : List ℕ) → FailsTaking queues p c more error c'
 
 -- what waited was taken, and a piece behind it
-abbrev pub TakesPiece : PartsCall → Connection → List ℕ → Result (Unit {0}) Error → Connection → Type 0
-TakesPiece p c piece (Ok done) c' =
-    HasTaken p c c' (Takes (p.says c.session.config.now) (emptied c) (c.reader.waiting ++ piece) c')
-TakesPiece p c piece (Err error) c' = FailsTaking true p c piece error c'
+abbrev pub TakesWholePiece : PartsCall → Connection → List ℕ → Result (Unit {0}) Error → Connection → Type 0
+TakesWholePiece p c piece (Ok done) c' =
+    TookInput p c c' (Takes (p.says c.session.config.now) (emptied c) (c.reader.waiting ++ piece) c')
+TakesWholePiece p c piece (Err error) c' = FailsTaking true p c piece error c'
 
 -- with what it can be taken
 pub record CanTake (c : Connection) : Type 0 where
@@ -274,7 +278,7 @@ pub record PollsPayload (p : PartsCall) (c : Connection) (result : Result Bool E
   pub unqueued : c'.delivered.items ≡ c.delivered.items
 
 -- an error is the end of a connection: nothing is kept of its input
-pub record Ends (c c' : Connection) : Type 0 where
+pub record BrokeOff (c c' : Connection) : Type 0 where
   pub kept : IsKept c'
   pub fixed : IsFixed c.session c'.session
   pub breaks : Breaks (standing_of c) (standing_of c')
@@ -282,7 +286,7 @@ pub record Ends (c c' : Connection) : Type 0 where
 
 abbrev pub EndsOn : {T : Type 0} → Result T Error → Connection → Connection → Type 0
 EndsOn {T} (Ok x) c c' = c' ≡ c
-EndsOn {T} (Err error) c c' = Ends c c'
+EndsOn {T} (Err error) c c' = BrokeOff c c'
 
 -- ---- what a connection hears
 
@@ -312,7 +316,7 @@ abbrev pub AnswersOnly : (still : Type 0) → Result (Unit {0}) Error → Result
 AnswersOnly still answer result c c' = (result ≡ answer) × (c' ≡ c) × still
 
 -- a payload was submitted
-pub record SubmitsPayload (stream left : Stream) (still : Type 0) (c : Connection) (payload : List ℕ)
+pub record SubmitsTo (stream left : Stream) (still : Type 0) (c : Connection) (payload : List ℕ)
     (result : Result (Unit {0}) Error) (c' : Connection) : Type 0 where
   pub kept : IsKept c'
   pub dead : c.failed ≡ true → AnswersOnly still (Err errors.Disconnect) result c c'
@@ -344,6 +348,7 @@ pub record AsksExchange (stream left : Stream) (still : Type 0) (c : Connection)
   pub sends : OnOk result (SendsBetween NoneMade (standing_of c) (standing_of c') stream left)
   pub leaves : c.failed ≡ false → OnErr result (((standing_of c').state.records ≡ (standing_of c).state.records)
       × ((standing_of c').output ≡ (standing_of c).output))
-  pub inside : c.failed ≡ false → is_outside (standing_of c).state.stands ≡ false → AnswersOnly still (Ok tt) result c c'
+  pub inside : c.failed ≡ false → is_outside (standing_of c).state.stands ≡ false
+      → AnswersOnly still (Ok tt) result c c'
   pub memory : c.failed ≡ false → OnErr result ((result ≡ Err errors.Memory)
       × Breaks (standing_of c) (standing_of c'))

@@ -43,13 +43,15 @@ AtMostNext old packet new = (new ≡ old) ⊎ (new ≡ old ++ packet)
 
 -- A session wrote its KEXINIT and no more, drawn so.
 abbrev pub WritesKexinit : Session → Session → Stream → Type 0
-WritesKexinit s s' stream = s'.writer.output ≡ s.writer.output ++ kexinit_packet s.side s.config.now (writing_at s.writer) stream
+WritesKexinit s s' stream = s'.writer.output ≡ s.writer.output ++ kexinit_packet s.side s.config.now
+    (writing_at s.writer) stream
 
 -- Where a session had begun no exchange, it did so.
 abbrev pub OpensDrawn : Session → Session → Stream → Type 0
 OpensDrawn s s' stream = is_silent (stands_of s.finished.items s.kex) ≡ true → WritesKexinit s s' stream
 
--- Nothing was written. Where the call is done, no exchange is begun, the next number is as before, and nothing was drawn.
+-- Nothing was written. Where the call is done, no exchange is begun, the next number is as before, and nothing was
+-- drawn.
 pub record IsUndrawn (done : Type 0) (old new : Standing) (stream stream' : Stream) : Type 0 where
   pub output : new.output ≡ old.output
   pub silent : done → is_silent new.state.stands ≡ true
@@ -77,7 +79,8 @@ BeginsDrawn side config stream wire = (wire ≡ id_line config.id)
     ⊎ GoesNext (id_line config.id) (kexinit_packet side config first_state.writing stream) wire
 
 -- of both sides of a link
-pub record AreDrawn (client server : Config) (of_client of_server : Stream) (client_wire server_wire : List ℕ) : Type 0 where
+pub record AreDrawn (client server : Config) (of_client of_server : Stream) (client_wire server_wire : List ℕ) : Type 0
+    where
   pub from_client : BeginsDrawn Client client of_client client_wire
   pub from_server : BeginsDrawn Server server of_server server_wire
 

@@ -108,7 +108,8 @@ delivered_by Done i = []
 delivered_by (Rekeys opening again) i = []
 
 -- the events of one packet
-pub record DoesWith (says : Says) (s : Session) (at : Spot) (read : ℕ) (i : Item) (answer : Disposition) (s' : Session) : Type 0 where
+pub record DoesWith (says : Says) (s : Session) (at : Spot) (read : ℕ) (i : Item) (answer : Disposition) (s' : Session)
+    : Type 0 where
   pub events : List Event
   pub steps : Steps says s.side s.config.now (id_text s.config.now.id) (state_at s at read) events
       (state_at s' (spot_behind answer at i) (read_behind answer read i))
@@ -147,11 +148,13 @@ pub record Awaits (says : Says) (s : Session) (m : Machine) (i : Incoming) (s' :
   pub reset : Bool
   pub written : Writer
   pub does : DropsGuess m s.writer next reset written ⊎ TakesOne says m i s.writer next reset written
-  pub writer_is : s'.writer ≡ record written { number = (spot_renumbered reset (record { sealing = written.sealing; number = written.number })).number }
+  pub writer_is : s'.writer ≡ record written { number = (spot_renumbered reset
+      (record { sealing = written.sealing; number = written.number })).number }
   pub becomes : s' ≡ record s { writer = s'.writer; kex = InProgress next }
 
 -- the machine is at its end
-pub record Ended (says : Says) (s : Session) (m : Machine) (i : Incoming) (answer : Disposition) (s' : Session) : Type 0 where
+pub record Ended (says : Says) (s : Session) (m : Machine) (i : Incoming) (answer : Disposition) (s' : Session) : Type 0
+    where
   pub host : Option ServerHost
   pub newkeys : NewKeys
   pub written : Writer

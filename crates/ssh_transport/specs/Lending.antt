@@ -31,19 +31,23 @@ IsRefusedWith {A} (Err e) error = e.now ≡ error
 -- What a call that lends the next payload leaves, when the loan is over. The parts had been asked and had answered so
 -- often before and so often behind it, and its generator was at one stream and then at the other.
 pub record PollsAs (says : Says) (denies : Denies) (untrusted : ServerHost → Type 0) (n n' : PartTally)
-    (Made : Side → Stream → Stream → Type 0) (stream stream' : Stream) (old : Standing) (result : Result (Option (Bor (List ℕ))) (Bor Error)) (new : Standing) : Type 0 where
+    (Made : Side → Stream → Stream → Type 0) (stream stream' : Stream) (old : Standing)
+        (result : Result (Option (Bor (List ℕ))) (Bor Error)) (new : Standing) : Type 0 where
   pub dead : old.failed ≡ true → IsRefusedWith result Disconnect × (new ≡ old)
   pub stays : (new.side ≡ old.side) × (new.config ≡ old.config)
   pub lives : old.failed ≡ false → OnOk result (new.failed ≡ false)
   pub ends : old.failed ≡ false → OnErr result ((new.failed ≡ true) × (unfinished new ≡ []))
   pub unqueued : new.delivered ≡ old.delivered
   pub polled : IfOk result (λ lent. Polls says old (payload_in lent) new)
-  pub refused : old.failed ≡ false → IfErr result (λ e. RefusesPieceAsking says denies untrusted old [] e.now new n.calls n'.calls)
+  pub refused : old.failed ≡ false → IfErr result (λ e. RefusesPieceAsking says denies untrusted old [] e.now new
+      n.calls n'.calls)
   pub serves : OnOk result (ServesCall Made old new n n' stream stream')
   pub drawn : DrawsFirst (new.failed ≡ false) old new stream stream'
 
-abbrev pub LendsPoll : Says → Denies → (ServerHost → Type 0) → (n n' : PartTally) → (Made : Side → Stream → Stream → Type 0)
+abbrev pub LendsPoll : Says → Denies → (ServerHost → Type 0) → (n n' : PartTally)
+    → (Made : Side → Stream → Stream → Type 0)
     → (stream stream' : Stream)
     → MutBor Standing → Result (Option (Bor (List ℕ))) (Bor Error) → Fml
-LendsPoll says denies untrusted n n' Made stream stream' s result = Rests (the_row (record { mir = named 1; lft = [] })) s
+LendsPoll says denies untrusted n n' Made stream stream' s result = Rests (the_row (record { mir = named 1; lft = [] }))
+    s
     (PollsAs says denies untrusted n n' Made stream stream' s.now result)

@@ -80,14 +80,16 @@ MaySend Made w OfNumbers = Unit {0}
 
 abbrev pub SendsOn : (Made : Stream → Stream → Type 0) → Side → Config → Sender → List Sent → Sender → Type 0
 SendsOn Made side config w [] w' = w' ≡ w
-SendsOn Made side config w (x ∷ sent) w' = MaySend Made w x × SendsOn Made side config (sent_next side config w x) sent w'
+SendsOn Made side config w (x ∷ sent) w' = MaySend Made w x
+    × SendsOn Made side config (sent_next side config w x) sent w'
 
 -- A side sent some things, one after the other: each cookie and each padding is what its generator gave next.
 abbrev pub SendsDrawn : (Made : Stream → Stream → Type 0) → Side → Config → Sender → Sender → Type 0
 SendsDrawn Made side config w w' = (sent : List Sent) × SendsOn Made side config w sent w'
 
 -- so of a transport, by what draws its side's values
-abbrev pub SendsBetween : (Made : Side → Stream → Stream → Type 0) → (old new : Standing) → (stream stream' : Stream) → Type 0
+abbrev pub SendsBetween : (Made : Side → Stream → Stream → Type 0) → (old new : Standing) → (stream stream' : Stream)
+    → Type 0
 SendsBetween Made old new stream stream' =
     SendsDrawn (Made old.side) old.side old.config (sender_in old stream) (sender_in new stream')
 
@@ -119,7 +121,8 @@ DrawnBySide by_client by_server Server before stage next behind = DrawnByServer 
 
 -- of itself a side draws no value
 abbrev pub WritesDrawn : Session → Session → Stream → Stream → Type 0
-WritesDrawn s s' stream stream' = SendsDrawn (NoneMade s.side) s.side s.config.now (sender_of s stream) (sender_of s' stream')
+WritesDrawn s s' stream stream' = SendsDrawn (NoneMade s.side) s.side s.config.now (sender_of s stream)
+    (sender_of s' stream')
 
 -- a KEXINIT went behind the output, with its cookie and its padding from this stream, up to what is left of it
 abbrev pub PutsKexinit : Side → Config → Writer → Stream → Writer → Stream → Type 0
@@ -132,7 +135,8 @@ pub record OpensWith (s s' : Session) (stream stream' : Stream) : Type 0 where
   pub wrote : WritesDrawn s s' stream stream'
 
 -- how often the parts were asked, and what was drawn
-pub record ServesBetween (Made : Side → Stream → Stream → Type 0) (s s' : Session) (n n' : PartTally) (stream stream' : Stream)
+pub record ServesBetween (Made : Side → Stream → Stream → Type 0) (s s' : Session) (n n' : PartTally)
+    (stream stream' : Stream)
     : Type 0 where
   pub asks : AsksBetween s s' n n'
   pub drawn : SendsDrawn (Made s.side) s.side s.config.now (sender_of s stream) (sender_of s' stream')

@@ -56,8 +56,10 @@ pub record StepsMachine (p : PartsCall) (m : Machine) (i : Incoming) (w : Writer
 
 -- ---- an exchange begins
 
--- The KEXINIT of the exchange that is due was sent, and its machine handed out. If memory was wanting, nothing was sent.
-pub record OpensExchange (s : Session) (stream left : Stream) (result : Result Machine Error) (s' : Session) : Type 0 where
+-- The KEXINIT of the exchange that is due was sent, and its machine handed out. If memory was wanting, nothing was
+-- sent.
+pub record OpensExchange (s : Session) (stream left : Stream) (result : Result Machine Error) (s' : Session) : Type 0
+    where
   pub opens : IfOk result (λ m. Opens s m s')
   pub drawn : OnOk result (OpensWith s s' stream left)
   pub begins : CanBegin s'
@@ -67,7 +69,8 @@ pub record OpensExchange (s : Session) (stream left : Stream) (result : Result M
   pub fixed : IsFixed s s'
 
 -- The machine is kept.
-pub record BeginsExchange (s : Session) (stream left : Stream) (result : Result (Unit {0}) Error) (s' : Session) : Type 0 where
+pub record StartsExchange (s : Session) (stream left : Stream) (result : Result (Unit {0}) Error) (s' : Session) : Type
+    0 where
   pub begun : OnOk result (Begins s s')
   pub drawn : OnOk result (OpensWith s s' stream left)
   pub begins : CanBegin s'
@@ -77,7 +80,8 @@ pub record BeginsExchange (s : Session) (stream left : Stream) (result : Result 
   pub fixed : IsFixed s s'
 
 -- The machine that a message of this type is for was handed out.
-pub record TakesMachine (s : Session) (type : ℕ) (stream left : Stream) (result : Result Machine Error) (s' : Session) : Type 0 where
+pub record TakesMachine (s : Session) (type : ℕ) (stream left : Stream) (result : Result Machine Error) (s' : Session) :
+    Type 0 where
   pub stays : Stays s s'
   pub taken : IfOk result (λ m. IsFor s m s')
   pub kexinit : OnOk result (BeginsAt s type)
@@ -111,7 +115,8 @@ pub record TrustsHost {H : Type 0} (mh : HostKeysMembers H) (hosts hosts' : H) (
       × IsDistrusted (untrusted_of mh hosts hosts') host))
 
 -- The exchange is recorded, and its keys are taken up.
-pub record FinishesExchange (s : Session) (newkeys : NewKeys) (result : Result Disposition Error) (s' : Session) : Type 0 where
+pub record RecordsExchange (s : Session) (newkeys : NewKeys) (result : Result Disposition Error) (s' : Session) : Type 0
+    where
   pub stays : Stays s s'
   pub unheard : OnOk result (IsUnheard s')
   pub installs : IfOk result (λ h. Installs s newkeys h s')
@@ -119,7 +124,8 @@ pub record FinishesExchange (s : Session) (newkeys : NewKeys) (result : Result D
   pub rests : OnErr result (IsAsBefore s s')
 
 -- Its host was asked for before.
-pub record EndsExchange {H : Type 0} (mh : HostKeysMembers H) (hosts hosts' : H) (s : Session) (host : Option ServerHost)
+pub record EndsExchange {H : Type 0} (mh : HostKeysMembers H) (hosts hosts' : H) (s : Session)
+    (host : Option ServerHost)
     (newkeys : NewKeys) (result : Result Disposition Error) (s' : Session) : Type 0 where
   pub stays : Stays s s'
   pub unheard : OnOk result (IsUnheard s')
@@ -153,7 +159,7 @@ pub record HearsPiece (s : Session) (piece : List ℕ) (stream left : Stream) (s
   pub ended : IsUnheard s → result ≡ Err errors.Memory → EndsBy s.side s.line piece
 
 -- A payload was sealed or held.
-pub record TakesPayload (s : Session) (read : ℕ) (payload : List ℕ) (stream left : Stream) (still : Type 0)
+pub record SealsOrHolds (s : Session) (read : ℕ) (payload : List ℕ) (stream left : Stream) (still : Type 0)
     (result : Result (Unit {0}) Error) (s' : Session) : Type 0 where
   pub opened : OnOk result (IsOpen s')
   pub sent : OnOk result (Submits s read payload s')

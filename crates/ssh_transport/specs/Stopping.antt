@@ -64,7 +64,8 @@ pub record Stops (says : Says) (denies : Denies) (untrusted : ServerHost → Typ
   pub steps : Steps says c.session.side c.session.config.now (id_text c.session.config.now.id)
       (state_at c.session (reading_spot c) c.reader.count) events state
   pub output : c'.session.writer.output ≡ c.session.writer.output
-      ++ sent_bytes c.session.side (record { sealing = c.session.writer.sealing; number = c.session.writer.number }) events
+      ++ sent_bytes c.session.side (record { sealing = c.session.writer.sealing; number = c.session.writer.number })
+          events
   pub delivered : c'.delivered.items ≡ c.delivered.items ++ delivered_in events
   pub records : c'.session.finished.items ≡ state.records
   pub input : IsInput events
@@ -87,7 +88,8 @@ pub record Fails (says : Says) (denies : Denies) (untrusted : ServerHost → Typ
   pub steps : Steps says c.session.side c.session.config.now (id_text c.session.config.now.id)
       (state_at c.session (reading_spot c) c.reader.count) events state
   pub output : c'.session.writer.output ≡ c.session.writer.output
-      ++ sent_bytes c.session.side (record { sealing = c.session.writer.sealing; number = c.session.writer.number }) events
+      ++ sent_bytes c.session.side (record { sealing = c.session.writer.sealing; number = c.session.writer.number })
+          events
   pub delivered : c'.delivered.items ≡ c.delivered.items ++ delivered_in events
   pub records : c'.session.finished.items ≡ state.records
   pub input : IsInput events
@@ -114,7 +116,8 @@ pub record WantsKeys (s : Session) (read : ℕ) (s' : Session) : Type 0 where
 
 -- no version line came, or memory was wanting for the exchange that it begins
 abbrev pub HearsNot : Session → List ℕ → Error → Session → Type 0
-HearsNot s piece error s' = IsAsBefore s s' × (((line : IdReading) × Feeds (lets_pass s.side) s.line piece (Err error) line) ⊎ (error ≡ errors.Memory))
+HearsNot s piece error s' = IsAsBefore s s' × (((line : IdReading)
+    × Feeds (lets_pass s.side) s.line piece (Err error) line) ⊎ (error ≡ errors.Memory))
 
 -- the exchange that runs holds no machine, which can't be where it is open
 abbrev pub HoldsNone : SessionKexState Machine → Type 0
@@ -135,8 +138,10 @@ pub record IsForNone (s : Session) (type : ℕ) : Type 0 where
 abbrev pub BreaksAt : Session → ℕ → ℕ → Error → Type 0
 BreaksAt s seqn type error = (number : ℕ) → number < 2 ^ 32 → seqn ≡ next_number number
     → (is_ordered s.finished.items (names_now (stands_of s.finished.items s.kex)) ≡ true)
-    × (is_violation (other_side s.side) type (number - (if counts_guess (names_now (stands_of s.finished.items s.kex)) then 1 else 0)) ≡ true)
-    × (error ≡ errors.StrictKeyExchangeViolation type (number - (if counts_guess (names_now (stands_of s.finished.items s.kex)) then 1 else 0)))
+    × (is_violation (other_side s.side) type (number - (if counts_guess (names_now (stands_of s.finished.items s.kex))
+        then 1 else 0)) ≡ true)
+    × (error ≡ errors.StrictKeyExchangeViolation type (number -
+        (if counts_guess (names_now (stands_of s.finished.items s.kex)) then 1 else 0)))
 
 -- a host is there, and isn't trusted
 abbrev pub IsDistrusted : (ServerHost → Type 0) → Option ServerHost → Type 0

@@ -33,7 +33,8 @@ pub record Breaks (old new : Standing) : Type 0 where
   pub nothing : unfinished new ≡ []
 
 -- a call answered this, and nothing changed
-abbrev pub AnswersAlone : {T A P : Type 0} → (answer result : Result T Error) → (old new : A) → (parts parts' : P) → Type 0
+abbrev pub AnswersAlone : {T A P : Type 0} → (answer result : Result T Error) → (old new : A) → (parts parts' : P)
+    → Type 0
 AnswersAlone answer result old new parts parts' = (result ≡ answer) × (new ≡ old) × (parts' ≡ parts)
 
 -- Nothing was written. In Ok what is held is all that changed.
@@ -43,4 +44,5 @@ HoldsAlone result old new = (new.output ≡ old.output)
 
 -- no part was asked: they changed by what was drawn alone
 abbrev pub DrawsAlone : {A H G R : Type 0} → Parts A H G R → Parts A H G R → Type 0
-DrawsAlone parts parts' = (parts'.agreement ≡ parts.agreement) × (parts'.hosts ≡ parts.hosts) × (parts'.groups ≡ parts.groups)
+DrawsAlone parts parts' = (parts'.agreement ≡ parts.agreement) × (parts'.hosts ≡ parts.hosts)
+    × (parts'.groups ≡ parts.groups)

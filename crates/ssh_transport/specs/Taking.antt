@@ -24,9 +24,11 @@ pub record Goes (says : Says) (c : Connection) (events : List Event) (c' : Conne
   pub config : c'.session.config ≡ c.session.config
   pub line : c'.session.line ≡ c.session.line
   pub steps : Steps says c.session.side c.session.config.now (id_text c.session.config.now.id)
-      (state_at c.session (reading_spot c) c.reader.count) events (state_at c'.session (reading_spot c') c'.reader.count)
+      (state_at c.session (reading_spot c) c.reader.count) events
+          (state_at c'.session (reading_spot c') c'.reader.count)
   pub output : c'.session.writer.output ≡ c.session.writer.output
-      ++ sent_bytes c.session.side (record { sealing = c.session.writer.sealing; number = c.session.writer.number }) events
+      ++ sent_bytes c.session.side (record { sealing = c.session.writer.sealing; number = c.session.writer.number })
+          events
   pub bytes : c.reader.waiting ≡ read_bytes c.session.side (reading_spot c) events ++ c'.reader.waiting
   pub input : IsInput events
   pub silent : HearsNone events
@@ -38,9 +40,11 @@ pub record Reads (says : Says) (c c' : Connection) : Type 0 where
   pub config : c'.session.config ≡ c.session.config
   pub line : c'.session.line ≡ c.session.line
   pub steps : Steps says c.session.side c.session.config.now (id_text c.session.config.now.id)
-      (state_at c.session (reading_spot c) c.reader.count) events (state_at c'.session (reading_spot c') c'.reader.count)
+      (state_at c.session (reading_spot c) c.reader.count) events
+          (state_at c'.session (reading_spot c') c'.reader.count)
   pub output : c'.session.writer.output ≡ c.session.writer.output
-      ++ sent_bytes c.session.side (record { sealing = c.session.writer.sealing; number = c.session.writer.number }) events
+      ++ sent_bytes c.session.side (record { sealing = c.session.writer.sealing; number = c.session.writer.number })
+          events
   pub bytes : c.reader.waiting ≡ read_bytes c.session.side (reading_spot c) events ++ c'.reader.waiting
   pub delivered : c'.delivered.items ≡ c.delivered.items ++ delivered_in events
   pub input : IsInput events
@@ -114,9 +118,11 @@ pub record Hears (c : Connection) (piece : List ℕ) (c' : Connection) : Type 0 
   pub side : c'.session.side ≡ c.session.side
   pub config : c'.session.config ≡ c.session.config
   pub steps : Steps nothing_said c.session.side c.session.config.now (id_text c.session.config.now.id)
-      (state_at c.session (reading_spot c) c.reader.count) events (state_at c'.session (reading_spot c') c'.reader.count)
+      (state_at c.session (reading_spot c) c.reader.count) events
+          (state_at c'.session (reading_spot c') c'.reader.count)
   pub output : c'.session.writer.output ≡ c.session.writer.output
-      ++ sent_bytes c.session.side (record { sealing = c.session.writer.sealing; number = c.session.writer.number }) events
+      ++ sent_bytes c.session.side (record { sealing = c.session.writer.sealing; number = c.session.writer.number })
+          events
   pub unread : handled events ≡ []
   pub bytes : (at : Spot) → read_bytes c.session.side at events ≡ []
   pub delivered : c'.delivered.items ≡ c.delivered.items ++ delivered_in events
@@ -166,7 +172,8 @@ IfPacket Payload P = P
 
 -- by what one packet was: there was none that is whole, it was handled, or it is delivered
 abbrev pub PollsOne : Says → Connection → PacketRead → Connection → Type 0
-PollsOne says c Nothing c' = Reads says c c' × (c'.delivered ≡ c.delivered) × WaitsInPart (reading_spot c') c'.reader.waiting
+PollsOne says c Nothing c' = Reads says c c' × (c'.delivered ≡ c.delivered)
+    × WaitsInPart (reading_spot c') c'.reader.waiting
 PollsOne says c Packet c' = Reads says c c' × (c'.delivered ≡ c.delivered)
 PollsOne says c Payload c' = Lends says c c'.reader.handed c'
 

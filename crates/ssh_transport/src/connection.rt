@@ -1,9 +1,7 @@
 //! One side of a connection, with the packets that it reads.
 
 ghost use Rattle.std.specs.Prelude.{◌≡◌, ◌⊎◌, ◌+◌, ◌<◌, ◌≤◌, ◌^◌, ◌++◌, ℕ, List, take, true, false, [], None, Some, Err, Ok, IfErr, IfOk, IfSome, IsTrue, OnErr, OnOk, length};
-ghost use Rattle.ssh_packet.specs.Stream.{message_type};
-ghost use Rattle.ssh_rules.specs.MessageTypes.{is_payload_type};
-ghost use Rattle.ssh_rules.specs.Valid.{config_fault, is_bad_size, is_good_payload};
+ghost use Rattle.ssh_rules.specs.Valid.{config_fault};
 ghost use Rattle.ssh_transport.specs.Taking.{kept_by, read_as};
 ghost use Rattle.ssh_transport.specs.declared.session.Disposition.TheVariants.{Delivers};
 ghost use Rattle.ssh_wire.specs.declared.error.ConfigFault.{ConfigFault};
@@ -11,7 +9,7 @@ ghost use Rattle.ssh_wire.specs.declared.error.Error.TheVariants.{Disconnect, In
 
 use crate::config::config_fault;
 use crate::message::{LONGEST_INPUT, LONGEST_PAYLOAD, is_payload, type_of};
-use crate::served::Calling;
+use crate::calls::Calling;
 use crate::session::{Disposition, Session};
 use rand_core::Rng;
 use ssh_kex::{Agreement, Config, GroupLookup, Handed, HostKeys, Parts};
@@ -30,34 +28,29 @@ pub(crate) struct Connection<'c> {
     pub failed: bool,
 }
 
-/// What was made of the next packet.
+/// What became of the next packet.
 #[derive(Clone, Copy)]
 pub(crate) enum PacketRead {
-    /// None is whole.
+    /// No packet is whole.
     Nothing,
-    /// It was handled, and nothing of it is handed up.
+    /// It was handled, and no payload of it is lent.
     Packet,
-    /// Its payload is handed up: the reader lends it.
+    /// Its payload is delivered: the reader lends it.
     Payload,
 }
 
 impl<'c> Connection<'c> {
     ghost use Rattle.ssh_packet.specs.Reading.{window_length};
-    ghost use Rattle.ssh_rules.specs.Standing.{IsNew, Rekeyed, Submitted, WaitsInPart, input_room, is_outside, nothing_said, unfinished, with_input};
+    ghost use Rattle.ssh_rules.specs.Standing.{IsNew, input_room, unfinished, with_input};
     ghost use Rattle.ssh_wire.specs.Reading.{waiting_length};
-    ghost use Rattle.ssh_transport.specs.Calls.{Advances, AsksExchange, CanRead, CanTake, EndsOn, FeedsPiece, HandsUp, HearsInput, KeepsNot, PollsPayload, ReadsAll, SubmitsPayload, TakesKept, TakesNext, TakesPiece};
-    ghost use Rattle.ssh_transport.specs.Drawing.{AtMostNext, DrawsFirstIn, DrawsFirstOn, GoesNext, OpensDrawn, kexinit_packet, packet_with};
-    ghost use Rattle.ssh_transport.specs.Handling.{IsHeard, IsOpen};
-    ghost use Rattle.ssh_transport.specs.Hearing.{EndsBy};
+    ghost use Rattle.ssh_transport.specs.Calls.{HandlesNext, AsksExchange, CanRead, CanTake, EndsOn, FeedsPiece, HandsUp, HearsInput, KeepsNot, PollsPayload, ReadsWaiting, SubmitsTo, TakesKept, OpensNext, TakesWholePiece};
     ghost use Rattle.ssh_transport.specs.Kept.{IsKept, IsLive};
-    ghost use Rattle.ssh_transport.specs.Saying.{IsFixed, IsFixedIn};
-    ghost use Rattle.ssh_transport.specs.Sending.{NoneMade, SendsBetween, WritesDrawn};
-    ghost use Rattle.ssh_transport.specs.States.{CanBegin, IsUnheard, WaitsBehind, emptied, reading_spot, standing_of, with_more};
-    ghost use Rattle.ssh_transport.specs.Stopping.{HearsNothing, IsAsBefore};
-    ghost use Rattle.ssh_transport.specs.Submitting.{AnswersAlone, Breaks, DrawsAlone, HoldsAlone};
-    ghost use Rattle.ssh_transport.specs.Taking.{Hears, IfPacket, Reads, Takes, TakesUp, read_by};
+    ghost use Rattle.ssh_transport.specs.States.{CanBegin, standing_of};
+    ghost use Rattle.ssh_transport.specs.Submitting.{AnswersAlone, DrawsAlone};
+    ghost use Rattle.ssh_transport.specs.Taking.{TakesUp};
 
-    /// A side that has written its version line. InvalidConfig where the configuration may not be used; Memory.
+    /// A side that has written its version line. Fails with `InvalidConfig` if the configuration may not be used, and
+    /// otherwise with `Memory`.
     #[tactic(auto, using(crate::proofs::Opened::open_fresh, crate::proofs::Opened::short_fresh, crate::proofs::Opened::heeds_fresh))]
     pub(crate) fn new(
         alloc: Global,
@@ -86,7 +79,7 @@ impl<'c> Connection<'c> {
         })
     }
 
-    /// Takes the next bytes of the other side.
+    /// Takes the next bytes that the peer sent, and handles all packets that are whole. Payloads are queued.
     pub(crate) fn feed<A: Agreement, H: HostKeys, G: GroupLookup, R: Rng>(
         &mut self,
         parts: &mut Parts<A, H, G, R>,
@@ -105,8 +98,8 @@ impl<'c> Connection<'c> {
         self.fail_on(taken)
     }
 
-    /// Handles what is kept of the input up to a payload that is handed up, which the reader then lends: whether there
-    /// is one.
+    /// Handles what is kept of the input, up to a payload that is delivered: the reader then lends it. Returns whether
+    /// there is one.
     pub(crate) fn poll<A: Agreement, H: HostKeys, G: GroupLookup, R: Rng>(
         &mut self,
         parts: &mut Parts<A, H, G, R>,
@@ -124,101 +117,14 @@ impl<'c> Connection<'c> {
         self.fail_on(polled)
     }
 
-    /// Takes what is kept of the input, where payloads aren't queued up to one that is handed up, which the reader then
-    /// lends: whether there is one. A refusal leaves what is kept.
-    fn take_kept<A: Agreement, H: HostKeys, G: GroupLookup, R: Rng>(
-        &mut self,
-        parts: &mut Parts<A, H, G, R>,
-        queues: bool,
-    ) -> Result<bool, Error>
-        requires { CanTake self.old }
-        ensures { TakesKept queues (⟦<Parts<A, H, G, R> as Calling>⟧.call parts.old parts.new) self.old result self.new }
-    {
-        let is_heard = self.hear(&mut parts.rng)?;
-        if is_heard {
-            return self.read_on(parts, queues);
-        }
-        Ok(false)
-    }
-
-    /// Handles the packets that are whole, where payloads aren't queued up to one that is handed up: whether there is
-    /// one.
-    fn read_on<A: Agreement, H: HostKeys, G: GroupLookup, R: Rng>(
-        &mut self,
-        parts: &mut Parts<A, H, G, R>,
-        queues: bool,
-    ) -> Result<bool, Error>
-        requires { CanRead self.old }
-        ensures { ReadsAll queues (⟦<Parts<A, H, G, R> as Calling>⟧.call parts.old parts.new) self.old result self.new }
-    {
-        'packets: loop {
-            match self.next_packet(parts, queues)? {
-                PacketRead::Nothing => return Ok(false),
-                PacketRead::Packet => {}
-                PacketRead::Payload => return Ok(true),
-            }
-        }
-    }
-
-    /// Handles the next packet, where one is whole. Its payload is queued before a limit begins an exchange behind it,
-    /// or handed up after that.
-    fn next_packet<A: Agreement, H: HostKeys, G: GroupLookup, R: Rng>(
-        &mut self,
-        parts: &mut Parts<A, H, G, R>,
-        queues: bool,
-    ) -> Result<PacketRead, Error>
-        requires { CanRead self.old }
-        ensures { Advances queues (⟦<Parts<A, H, G, R> as Calling>⟧.call parts.old parts.new) self.old result self.new }
-    {
-        let Some(handled) = self.take_packet(parts)? else {
-            return Ok(PacketRead::Nothing);
-        };
-        let read = self.hand_up(&handled, queues)?;
-        self.take_up(handled);
-        self.session.go_on(&mut parts.rng, self.reader.bytes())?;
-        Ok(read)
-    }
-
-    /// Opens the next packet, where one is whole, and does what it asks for by itself. The reader lends its payload.
-    fn take_packet<A: Agreement, H: HostKeys, G: GroupLookup, R: Rng>(
-        &mut self,
-        parts: &mut Parts<A, H, G, R>,
-    ) -> Result<Option<Disposition>, Error>
-        requires { CanRead self.old }
-        ensures { TakesNext (⟦<Parts<A, H, G, R> as Calling>⟧.call parts.old parts.new) self.old result self.new }
-    {
-        let Some(incoming) = self.reader.next(&mut self.opening)? else {
-            return Ok(None);
-        };
-        let handled = self.session.handle(parts, incoming)?;
-        Ok(Some(handled))
-    }
-
-    /// What is made of a packet: a payload that is delivered is queued, or handed up. Memory.
-    fn hand_up(&mut self, handled: &Disposition, queues: bool) -> Result<PacketRead, Error>
-        ensures done { IfOk result (λ read. HandsUp queues self.old handled.now read self.new) }
-        ensures err { IfErr result (λ e. KeepsNot queues self.old handled.now e self.new) }
-    {
-        if !queues {
-            return Ok(read_of(handled));
-        }
-        queue_payload(
-            self.alloc,
-            &mut self.delivered,
-            handled,
-            self.reader.handed(),
-        )?;
-        Ok(PacketRead::Packet)
-    }
-
-    /// Seals a payload, or holds it.
+    /// Seals a payload outside an exchange, and holds it inside one.
     pub(crate) fn submit<A: Agreement, H: HostKeys, G: GroupLookup, R: Rng>(
         &mut self,
         parts: &mut Parts<A, H, G, R>,
         payload: &[u8],
     ) -> Result<(), Error>
         requires { IsKept self.old }
-        ensures submits { SubmitsPayload (R.stream parts.old.rng) (R.stream parts.new.rng) (parts.new ≡ parts.old)
+        ensures submits { SubmitsTo (R.stream parts.old.rng) (R.stream parts.new.rng) (parts.new ≡ parts.old)
             self.old payload.now result self.new }
         ensures parts { DrawsAlone parts.old parts.new }
     {
@@ -236,7 +142,7 @@ impl<'c> Connection<'c> {
         self.fail_on(sent)
     }
 
-    /// Begins an exchange outside one.
+    /// Begins an exchange, unless one runs.
     pub(crate) fn rekey<A: Agreement, H: HostKeys, G: GroupLookup, R: Rng>(
         &mut self,
         parts: &mut Parts<A, H, G, R>,
@@ -256,7 +162,146 @@ impl<'c> Connection<'c> {
         self.fail_on(begun)
     }
 
-    /// A refusal is the end: nothing is kept of the input.
+    /// Takes a piece of what the peer sent, and handles all packets that are whole. The piece goes through the window:
+    /// what is whole is handled before more is taken.
+    fn take<A: Agreement, H: HostKeys, G: GroupLookup, R: Rng>(
+        &mut self,
+        parts: &mut Parts<A, H, G, R>,
+        piece: &[u8],
+    ) -> Result<(), Error>
+        requires { CanTake self.old }
+        ensures { TakesWholePiece (⟦<Parts<A, H, G, R> as Calling>⟧.call parts.old parts.new) self.old piece.now result
+            self.new }
+    {
+        let mut taken = self.keep(piece);
+        self.take_kept(parts, true)?;
+        'turns: while taken < piece.len() {
+            taken += self.reader.take(&piece[taken..]);
+            self.read_on(parts, true)?;
+        }
+        Ok(())
+    }
+
+    /// Handles what is kept of the input. If payloads aren't queued, it stops after one that is delivered, which the
+    /// reader then lends. Returns whether there is one. An error leaves what is kept of the input.
+    fn take_kept<A: Agreement, H: HostKeys, G: GroupLookup, R: Rng>(
+        &mut self,
+        parts: &mut Parts<A, H, G, R>,
+        queues: bool,
+    ) -> Result<bool, Error>
+        requires { CanTake self.old }
+        ensures { TakesKept queues (⟦<Parts<A, H, G, R> as Calling>⟧.call parts.old parts.new) self.old result
+            self.new }
+    {
+        let is_heard = self.hear(&mut parts.rng)?;
+        if is_heard {
+            return self.read_on(parts, queues);
+        }
+        Ok(false)
+    }
+
+    /// Reads what waits of the peer's version line, and begins the first exchange once the line has ended. Returns
+    /// whether the line is read. Fails with `Version` if it is no version line, and with `Memory`.
+    fn hear<R: Rng>(&mut self, rng: &mut R) -> Result<bool, Error>
+        requires { IsLive self.old }
+        ensures { HearsInput self.old (R.stream rng.old) (R.stream rng.new) (rng.new ≡ rng.old) result self.new }
+    {
+        let Some(used) = self.session.hear(rng, self.reader.unread())? else {
+            self.reader.skip(self.reader.waiting());
+            return Ok(false);
+        };
+        self.reader.skip(used);
+        Ok(true)
+    }
+
+    /// Handles the packets that are whole. If payloads aren't queued, it stops after one that is delivered. Returns
+    /// whether there is one.
+    fn read_on<A: Agreement, H: HostKeys, G: GroupLookup, R: Rng>(
+        &mut self,
+        parts: &mut Parts<A, H, G, R>,
+        queues: bool,
+    ) -> Result<bool, Error>
+        requires { CanRead self.old }
+        ensures { ReadsWaiting queues (⟦<Parts<A, H, G, R> as Calling>⟧.call parts.old parts.new) self.old result self.new }
+    {
+        'packets: loop {
+            match self.next_packet(parts, queues)? {
+                PacketRead::Nothing => return Ok(false),
+                PacketRead::Packet => {}
+                PacketRead::Payload => return Ok(true),
+            }
+        }
+    }
+
+    /// Handles the next packet, if one is whole. A payload is queued before a limit begins an exchange, so that it is
+    /// kept if memory runs out for that exchange; a payload that is lent isn't.
+    fn next_packet<A: Agreement, H: HostKeys, G: GroupLookup, R: Rng>(
+        &mut self,
+        parts: &mut Parts<A, H, G, R>,
+        queues: bool,
+    ) -> Result<PacketRead, Error>
+        requires { CanRead self.old }
+        ensures { HandlesNext queues (⟦<Parts<A, H, G, R> as Calling>⟧.call parts.old parts.new) self.old result self.new }
+    {
+        let Some(handled) = self.take_packet(parts)? else {
+            return Ok(PacketRead::Nothing);
+        };
+        let read = self.hand_up(&handled, queues)?;
+        self.take_up(handled);
+        self.session.go_on(&mut parts.rng, self.reader.bytes())?;
+        Ok(read)
+    }
+
+    /// Opens the next packet, if one is whole, and does what it asks for by itself. The reader lends its payload.
+    fn take_packet<A: Agreement, H: HostKeys, G: GroupLookup, R: Rng>(
+        &mut self,
+        parts: &mut Parts<A, H, G, R>,
+    ) -> Result<Option<Disposition>, Error>
+        requires { CanRead self.old }
+        ensures { OpensNext (⟦<Parts<A, H, G, R> as Calling>⟧.call parts.old parts.new) self.old result self.new }
+    {
+        let Some(incoming) = self.reader.next(&mut self.opening)? else {
+            return Ok(None);
+        };
+        let handled = self.session.handle(parts, incoming)?;
+        Ok(Some(handled))
+    }
+
+    /// Queues a payload that is delivered, or leaves it to be lent. Fails with `Memory`.
+    fn hand_up(&mut self, handled: &Disposition, queues: bool) -> Result<PacketRead, Error>
+        ensures done { IfOk result (λ read. HandsUp queues self.old handled.now read self.new) }
+        ensures err { IfErr result (λ e. KeepsNot queues self.old handled.now e self.new) }
+    {
+        if !queues {
+            return Ok(read_of(handled));
+        }
+        queue_payload(
+            self.alloc,
+            &mut self.delivered,
+            handled,
+            self.reader.handed(),
+        )?;
+        Ok(PacketRead::Packet)
+    }
+
+    /// Takes up the keys of an exchange that a packet ended: those of the packets that follow it.
+    fn take_up(&mut self, handled: Disposition)
+        ensures { TakesUp handled self.old self.new }
+    {
+        if let Disposition::Rekeys {
+            opening,
+            reset_seqn,
+        } = handled
+        {
+            self.opening = opening;
+            self.reader.reset_bytes();
+            if reset_seqn {
+                self.reader.reset_seqn();
+            }
+        }
+    }
+
+    /// After an error the connection has failed, and nothing is kept of the input.
     fn fail_on<T>(&mut self, done: Result<T, Error>) -> Result<T, Error>
         requires begins { CanBegin self.old.session }
         requires live { OnOk done (IsKept self.old) }
@@ -271,34 +316,7 @@ impl<'c> Connection<'c> {
         done
     }
 
-    /// Takes a piece of what the other side sent, and handles what is whole. It goes through the window: what is whole
-    /// is handled before more is taken.
-    fn take<A: Agreement, H: HostKeys, G: GroupLookup, R: Rng>(
-        &mut self,
-        parts: &mut Parts<A, H, G, R>,
-        piece: &[u8],
-    ) -> Result<(), Error>
-        requires { CanTake self.old }
-        ensures { TakesPiece (⟦<Parts<A, H, G, R> as Calling>⟧.call parts.old parts.new) self.old piece.now result self.new }
-    {
-        let mut taken = self.keep(piece);
-        self.take_kept(parts, true)?;
-        'turns: while taken < piece.len() {
-            taken += self.reader.take(&piece[taken..]);
-            self.read_on(parts, true)?;
-        }
-        Ok(())
-    }
-
-    /// How many bytes are kept of the input.
-    pub(crate) fn unfinished(&self) -> usize
-        requires { IsKept self.now }
-        ensures { result ≡ length (unfinished (standing_of self.now)) }
-    {
-        self.session.line.waiting() + self.reader.waiting()
-    }
-
-    /// Keeps the first bytes of a piece, as many as there is room for: how many they are.
+    /// Keeps the first bytes of a piece, as many as there is room for, and returns how many.
     pub(crate) fn keep(&mut self, piece: &[u8]) -> usize
         requires kept { IsKept self.old }
         requires windowed { self.old.reader.window ≡ window_length }
@@ -317,39 +335,16 @@ impl<'c> Connection<'c> {
         self.reader.take(&piece[..n])
     }
 
-    /// Reads of the peer's version line what waits, and begins the first exchange behind it: whether the line is read.
-    /// Version; Memory.
-    fn hear<R: Rng>(&mut self, rng: &mut R) -> Result<bool, Error>
-        requires { IsLive self.old }
-        ensures { HearsInput self.old (R.stream rng.old) (R.stream rng.new) (rng.new ≡ rng.old) result self.new }
+    /// The number of bytes that are kept of the input.
+    pub(crate) fn unfinished(&self) -> usize
+        requires { IsKept self.now }
+        ensures { result ≡ length (unfinished (standing_of self.now)) }
     {
-        let Some(used) = self.session.hear(rng, self.reader.unread())? else {
-            self.reader.skip(self.reader.waiting());
-            return Ok(false);
-        };
-        self.reader.skip(used);
-        Ok(true)
-    }
-
-    /// Takes up the key of what comes behind a packet that ended an exchange.
-    fn take_up(&mut self, handled: Disposition)
-        ensures { TakesUp handled self.old self.new }
-    {
-        if let Disposition::Rekeys {
-            opening,
-            reset_seqn,
-        } = handled
-        {
-            self.opening = opening;
-            self.reader.reset_bytes();
-            if reset_seqn {
-                self.reader.reset_seqn();
-            }
-        }
+        self.session.line.waiting() + self.reader.waiting()
     }
 }
 
-/// Queues a payload that is to be handed up. Memory.
+/// Queues a payload that is delivered. Fails with `Memory`.
 fn queue_payload(
     alloc: Global,
     delivered: &mut Vec<Payload>,
@@ -369,7 +364,7 @@ fn queue_payload(
     }
 }
 
-/// Whether the payload of a packet is handed up.
+/// Whether the payload of a packet is delivered.
 fn read_of(handled: &Disposition) -> PacketRead
     ensures { result ≡ read_as handled.now }
 {

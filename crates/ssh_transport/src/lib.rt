@@ -1,11 +1,11 @@
 //! One side of the transport (RFC 4253): its version line, its packets, and the exchanges of keys among them.
 #![tactic(auto)]
 
+mod calls;
 mod config;
 mod connection;
 mod machine;
 mod message;
-mod served;
 mod session;
 mod transport;
 

@@ -1,20 +1,15 @@
 //! The machine of an exchange, of either side.
 
 ghost use Rattle.std.specs.Prelude.{◌≡◌, ◌+◌, ◌≤◌, ◌<◌, ◌^◌, [], Some, IfErr, IfOk, OnErr, OnOk, length, is_some};
-ghost use Rattle.ssh_kex.specs.Drawing.{StepDraws};
 ghost use Rattle.ssh_kex.specs.Refusals.{IsCreated};
 ghost use Rattle.ssh_kex.specs.Stages.{Created, is_strict, names_in_stage, has_ignored};
-ghost use Rattle.ssh_kex.specs.Stepping.{Progresses, RefusesStep, next_of};
-ghost use Rattle.ssh_packet.specs.Sealing.{Item};
-ghost use Rattle.ssh_packet.specs.Writing.{SameButRoom};
 ghost use Rattle.ssh_transport.specs.Kexinits.{setting_between};
 ghost use Rattle.ssh_transport.specs.SessionCalls.{SaysKexinit, StepsMachine};
-ghost use Rattle.ssh_transport.specs.Sending.{DrawnBySide, PutsKexinit};
 ghost use Rattle.ssh_transport.specs.Usable.{IsUsable};
 ghost use Rattle.ssh_wire.specs.declared.error.Error.TheVariants.{Memory};
 ghost use Rattle.ssh_wire.specs.declared.side.Side.TheVariants.{Client as client_side, Server as server_side};
 
-use crate::served::Calling;
+use crate::calls::Calling;
 use rand_core::Rng;
 use ssh_client_kex::ClientKex;
 use ssh_kex::{Agreement, Config, GroupLookup, Handed, HostKeys, KexProgress, Parts};

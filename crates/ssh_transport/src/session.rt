@@ -2,25 +2,19 @@
 
 ghost use Rattle.std.specs.Prelude.{◌≡◌, [], ◌++◌, ◌+◌, ◌<◌, ◌≤◌, ◌-◌, if◌then◌else◌, ◌^◌, ◌||◌, ◌&&◌, ◌⊎◌, ℕ, nat_le, not, List, None, Some, Ok, Err, true, false, IfErr, IfOk, IfSome, OnErr, OnOk, length, take};
 ghost use Rattle.ssh_rules.specs.MessageTypes.{is_payload_type, is_violation};
-ghost use Rattle.ssh_transport.specs.Asking.{asks_trust};
-ghost use Rattle.ssh_transport.specs.Drawing.{AtMostNext, GoesNext, OpensDrawn, packet_with, writing_at};
-ghost use Rattle.ssh_transport.specs.Sending.{OpensWith, WritesDrawn};
-ghost use Rattle.ssh_transport.specs.Stopping.{IsDistrusted};
 ghost use Rattle.ssh_packet.specs.Sealing.{next_number};
 ghost use Rattle.ssh_packet.specs.Stream.{message_type as message_type_of};
 ghost use Rattle.ssh_wire.specs.Orders.{is_kex};
-ghost use Rattle.ssh_rules.specs.Machine.{Outside, cause_of, names_now};
-ghost use Rattle.ssh_rules.specs.Refusing.{untrusted_of};
+ghost use Rattle.ssh_rules.specs.Machine.{cause_of, names_now};
 ghost use Rattle.ssh_rules.specs.Standing.{is_outside, lets_pass};
 ghost use Rattle.ssh_rules.specs.Valid.{config_fault, is_good_payload};
 ghost use Rattle.ssh_wire.specs.Sides.{other_side};
-ghost use Rattle.ssh_wire.specs.declared.error.Error.TheVariants.{Inconsistent, InvalidConfig, Memory, StrictKeyExchangeViolation, UnknownKey};
+ghost use Rattle.ssh_wire.specs.declared.error.Error.TheVariants.{Inconsistent, Memory, StrictKeyExchangeViolation, UnknownKey};
 ghost use Rattle.ssh_transport.specs.SessionCalls.{TrustsHost};
-ghost use Rattle.ssh_kex.specs.Parts.{Answers};
 
 use crate::machine::SessionKex;
 use crate::message::{is_idle, is_payload, type_of};
-use crate::served::Calling;
+use crate::calls::Calling;
 use rand_core::Rng;
 use ssh_kex::{
     Agreement, Config, FinishedExchange, GroupLookup, Handed, HostKeys, KexProgress, NewKeys,
@@ -63,13 +57,11 @@ pub(crate) enum Disposition {
 
 impl<'c> Session<'c> {
     ghost use Rattle.ssh_transport.specs.Calls.{CanTreat, Treats};
-    ghost use Rattle.ssh_transport.specs.SessionCalls.{BeginsExchange, EndsExchange, FinishesExchange, HearsPiece, OpensExchange, SaysHeld, StepsExchange, TakesMachine, TakesPayload};
-    ghost use Rattle.ssh_transport.specs.Handling.{Installs, IsBegun, IsFor, IsOpen, Passes, counts_guess, is_ordered, may_deliver_by};
-    ghost use Rattle.ssh_transport.specs.Saying.{AreGood, Begins, GoesOn, GoesPart, IsFixed, IsSettled, IsUnsaid, Opens, Stays};
-    ghost use Rattle.ssh_transport.specs.Hearing.{EndsBy, HearsLine};
-    ghost use Rattle.ssh_transport.specs.States.{CanBegin, IsFresh, IsUnheard, WaitsBehind, is_silent, stands_of};
-    ghost use Rattle.ssh_transport.specs.Stopping.{Appends, BeginsAt, BreaksAt, HearsNot, IsAsBefore, IsForNone, WantsKeys};
-    ghost use Rattle.ssh_transport.specs.Submitting.{Submits};
+    ghost use Rattle.ssh_transport.specs.SessionCalls.{StartsExchange, EndsExchange, RecordsExchange, HearsPiece, OpensExchange, SaysHeld, StepsExchange, TakesMachine, SealsOrHolds};
+    ghost use Rattle.ssh_transport.specs.Handling.{IsOpen, Passes, counts_guess, is_ordered, may_deliver_by};
+    ghost use Rattle.ssh_transport.specs.Saying.{AreGood, IsSettled};
+    ghost use Rattle.ssh_transport.specs.States.{CanBegin, IsFresh, IsUnheard, is_silent, stands_of};
+    ghost use Rattle.ssh_transport.specs.Stopping.{Appends, BreaksAt, IsAsBefore};
 
     /// A side with a valid configuration that has sent its version line. Fails with `Memory`.
     pub(crate) fn new(alloc: Global, side: Side, config: &'c Config) -> Result<Session<'c>, Error>
@@ -91,22 +83,8 @@ impl<'c> Session<'c> {
         })
     }
 
-    /// Whether an exchange runs, or the first one is still to come.
-    pub(crate) fn is_inside(&self) -> bool
-        ensures { result ≡ not (is_outside (stands_of self.now.finished.items self.now.kex)) }
-    {
-        self.kex.active() || self.finished.is_empty()
-    }
-
-    /// Whether no exchange was begun yet.
-    fn is_first_due(&self) -> bool
-        ensures { result ≡ is_silent (stands_of self.now.finished.items self.now.kex) }
-    {
-        !self.kex.active() && self.finished.is_empty()
-    }
-
-    /// Reads of the peer's version line, and begins the first exchange behind it: how many bytes of the piece stand
-    /// before packets, once it is read. Version; Memory.
+    /// Reads the peer's version line, and begins the first exchange once the line has ended. Returns the number of
+    /// bytes of the piece before packets, if the line is read. Fails with `Version` or `Memory`.
     #[tactic(auto, using(crate::proofs::Hearing::heard_short, crate::proofs::Hearing::behind_kept, crate::proofs::Hearing::behind_heard))]
     pub(crate) fn hear<R: Rng>(&mut self, rng: &mut R, piece: &[u8]) -> Result<Option<usize>, Error>
         requires { CanBegin self.old }
@@ -124,42 +102,7 @@ impl<'c> Session<'c> {
         }
     }
 
-    /// A machine of the exchange that is due, whose KEXINIT is sent. Memory, and then nothing is sent.
-    #[tactic(auto, using(crate::proofs::Configs::usable))]
-    fn open<R: Rng>(&mut self, rng: &mut R) -> Result<SessionKex<'c>, Error>
-        requires { CanBegin self.old }
-        ensures { OpensExchange self.old (R.stream rng.old) (R.stream rng.new) result self.new }
-    {
-        let cause = self.next_cause();
-        let mut kex = SessionKex::new(self.alloc, self.side, self.config, self.line.id(), cause)?;
-        kex.kexinit(rng, &mut self.writer)?;
-        Ok(kex)
-    }
-
-    /// Begins an exchange. Memory, and then nothing is sent.
-    #[inline(never)]
-    pub(crate) fn begin<R: Rng>(&mut self, rng: &mut R) -> Result<(), Error>
-        requires { CanBegin self.old }
-        ensures { BeginsExchange self.old (R.stream rng.old) (R.stream rng.new) result self.new }
-    {
-        self.kex = SessionKexState::InProgress(self.open(rng)?);
-        Ok(())
-    }
-
-    /// Why the next exchange begins: a later one goes by the first one's strict flag and hash.
-    fn next_cause(&self) -> KexCause
-        ensures { result ≡ cause_of self.now.finished.items }
-    {
-        match self.finished.first() {
-            Some(first) => KexCause::Rekey {
-                strict: first.names.strict_kex,
-                session_id: first.hash,
-            },
-            None => KexCause::Initial,
-        }
-    }
-
-    /// Seals a payload outside an exchange, and holds it inside one. Memory.
+    /// Seals a payload outside an exchange, and holds it inside one. Fails with `Memory`.
     pub(crate) fn submit<R: Rng>(
         &mut self,
         rng: &mut R,
@@ -171,7 +114,7 @@ impl<'c> Session<'c> {
         requires settled { IsSettled self.old read }
         requires payload { is_good_payload payload.now ≡ true }
         requires opened { IsOpen self.old }
-        ensures { TakesPayload self.old read payload.now (R.stream rng.old) (R.stream rng.new) (rng.new ≡ rng.old)
+        ensures { SealsOrHolds self.old read payload.now (R.stream rng.old) (R.stream rng.new) (rng.new ≡ rng.old)
             result self.new }
     {
         if self.is_inside() {
@@ -183,8 +126,8 @@ impl<'c> Session<'c> {
         self.go_on(rng, read)
     }
 
-    /// Outside an exchange: begins one where a limit is reached, and else seals what is held, in order, until one is.
-    /// So many bytes of payload were read since the last exchange. Memory.
+    /// Outside an exchange, begins one if a limit is reached; otherwise seals held payloads, in order, until one is.
+    /// `read` counts the payload bytes read since the last exchange. Fails with `Memory`.
     pub(crate) fn go_on<R: Rng>(&mut self, rng: &mut R, read: usize) -> Result<(), Error>
         requires begins { CanBegin self.old }
         requires good { AreGood self.old.held.items }
@@ -204,7 +147,7 @@ impl<'c> Session<'c> {
         Ok(())
     }
 
-    /// Whether so many bytes were written or read that keys are to be exchanged (RFC 4253 section 9).
+    /// Whether a byte limit is reached at which keys are to be exchanged (RFC 4253 section 9).
     fn is_at_limit(&self, read: usize) -> bool
         ensures { result ≡ (nat_le self.now.config.now.limits.rekey_write_limit self.now.writer.count || nat_le
             self.now.config.now.limits.rekey_read_limit read) }
@@ -213,9 +156,9 @@ impl<'c> Session<'c> {
             || read >= self.config.limits.rekey_read_limit
     }
 
-    /// Does with a packet what its type and the exchange ask for. Disconnect at a DISCONNECT;
-    /// StrictKeyExchangeViolation; Inconsistent where the message is out of place; what the machine and the client's
-    /// host keys refuse; Memory. A refusal sends nothing.
+    /// Does with a packet what its type and the exchange ask for. Fails with `Disconnect` at a DISCONNECT,
+    /// `StrictKeyExchangeViolation`, `Inconsistent` if the message is out of place, any error of the machine,
+    /// `UnknownKey` if the host isn't trusted, or `Memory`. An error sends nothing.
     pub(crate) fn handle<A: Agreement, H: HostKeys, G: GroupLookup, R: Rng>(
         &mut self,
         parts: &mut Parts<A, H, G, R>,
@@ -235,15 +178,7 @@ impl<'c> Session<'c> {
         }
     }
 
-    /// Drops what was written behind so many bytes of output.
-    fn cut_output(&mut self, sent: usize)
-        ensures output { self.new.writer.output ≡ take sent self.old.writer.output }
-        ensures rest { self.new ≡ record self.old { writer = self.new.writer } }
-    {
-        self.writer.buffer().buffer.truncate(sent);
-    }
-
-    /// The same, where a refusal may have sent something.
+    /// Does with a packet what its type and the exchange ask for. After an error more may stand behind the output.
     #[tactic(auto, using(crate::proofs::Parts::agreement_same, crate::proofs::Parts::hosts_same, crate::proofs::Parts::groups_same, crate::proofs::Parts::hosts_after))]
     fn treat<A: Agreement, H: HostKeys, G: GroupLookup, R: Rng>(
         &mut self,
@@ -271,13 +206,109 @@ impl<'c> Session<'c> {
         Err(Error::Inconsistent)
     }
 
-    /// Whether a message of this type is a payload that may come.
-    fn delivers(&self, message_type: u8) -> bool
-        requires { IsOpen self.now }
-        ensures { result ≡ (is_payload_type message_type && may_deliver_by self.now.finished.items
-            (stands_of self.now.finished.items self.now.kex)) }
+    /// Takes a message of an exchange. It isn't inlined, so that packets outside an exchange don't pay for its locals.
+    #[inline(never)]
+    #[tactic(auto, using(crate::proofs::Parts::parts_same))]
+    fn take_message<A: Agreement, H: HostKeys, G: GroupLookup, R: Rng>(
+        &mut self,
+        parts: &mut Parts<A, H, G, R>,
+        incoming: Incoming<'_>,
+        message_type: u8,
+    ) -> Result<Disposition, Error>
+        requires can { CanTreat self.old incoming }
+        requires kind { message_type ≡ message_type_of incoming.payload.now }
+        requires kex { is_kex message_type ≡ true }
+        requires passes { Passes self.old incoming.seqn message_type }
+        ensures { Treats Appends (⟦<Parts<A, H, G, R> as Calling>⟧.call parts.old parts.new) self.old incoming.entry
+            result self.new }
     {
-        is_payload(message_type) && self.may_deliver()
+        let kex = self.take_kex(&mut parts.rng, message_type)?;
+        self.step(kex, parts, incoming)
+    }
+
+    /// The machine that a message is for: that of the open exchange, or outside one, at a KEXINIT, that of an exchange
+    /// which is begun for it. Fails with `Inconsistent` if there is none, or with `Memory`.
+    fn take_kex<R: Rng>(&mut self, rng: &mut R, message_type: u8) -> Result<SessionKex<'c>, Error>
+        requires { CanBegin self.old }
+        ensures { TakesMachine self.old message_type (R.stream rng.old) (R.stream rng.new) result self.new }
+    {
+        if message_type == msg::KEXINIT && !self.is_inside() {
+            return self.open(rng);
+        }
+        match self.kex.take() {
+            SessionKexState::InProgress(kex) => Ok(kex),
+            SessionKexState::Idle | SessionKexState::Taken => Err(Error::Inconsistent),
+        }
+    }
+
+    /// Hands a message to the machine. Fails with any error of the machine, `UnknownKey` or `Memory`.
+    #[tactic(auto, using(crate::proofs::Parts::agreement_same, crate::proofs::Parts::hosts_same, crate::proofs::Parts::groups_same, crate::proofs::Parts::hosts_after))]
+    fn step<A: Agreement, H: HostKeys, G: GroupLookup, R: Rng>(
+        &mut self,
+        kex: SessionKex<'c>,
+        parts: &mut Parts<A, H, G, R>,
+        incoming: Incoming<'_>,
+    ) -> Result<Disposition, Error>
+        requires begins { CanBegin self.old }
+        requires short { length incoming.payload.now < 2 ^ 31 }
+        ensures { StepsExchange (⟦<Parts<A, H, G, R> as Calling>⟧.call parts.old parts.new) self.old kex.entry
+            incoming.entry result self.new }
+    {
+        match kex.step(parts, incoming, &mut self.writer)? {
+            KexProgress::NeedsReply { kex, reset_seqn } => {
+                if reset_seqn {
+                    self.writer.reset_seqn();
+                }
+                self.kex = SessionKexState::InProgress(kex);
+                Ok(Disposition::Done)
+            }
+            KexProgress::Done {
+                server_host,
+                newkeys,
+            } => self.end_exchange(&mut parts.hosts, server_host, newkeys),
+        }
+    }
+
+    /// Ends an exchange whose host is trusted. Fails with `UnknownKey` if it isn't, or with `Memory`.
+    fn end_exchange<H: HostKeys>(
+        &mut self,
+        hosts: &mut H,
+        host: Option<ServerHost>,
+        newkeys: NewKeys,
+    ) -> Result<Disposition, Error>
+        requires { CanBegin self.old }
+        ensures { EndsExchange H.HostKeys hosts.old hosts.new self.old host newkeys result self.new }
+    {
+        check_host(self.alloc, hosts, host)?;
+        self.finish(newkeys)
+    }
+
+    /// Records an exchange, and goes on under its keys. Fails with `Memory`.
+    fn finish(&mut self, newkeys: NewKeys) -> Result<Disposition, Error>
+        requires { CanBegin self.old }
+        ensures { RecordsExchange self.old newkeys result self.new }
+    {
+        let NewKeys {
+            names,
+            hash,
+            session_id,
+            keys,
+            cipher,
+            ..
+        } = newkeys;
+        self.finished.push(FinishedExchange {
+            names,
+            hash,
+            session_id,
+            keys,
+        })?;
+        let cipher = Box::into_inner(cipher);
+        self.writer.set_cipher(cipher.local_to_remote);
+        self.kex = SessionKexState::Idle;
+        Ok(Disposition::Rekeys {
+            opening: cipher.remote_to_local,
+            reset_seqn: names.strict_kex,
+        })
     }
 
     /// Under strict key exchange the first exchange has its messages in order and no other ones (OpenSSH's strict key
@@ -317,6 +348,15 @@ impl<'c> Session<'c> {
         }
     }
 
+    /// Whether a message of this type is a payload that may come.
+    fn delivers(&self, message_type: u8) -> bool
+        requires { IsOpen self.now }
+        ensures { result ≡ (is_payload_type message_type && may_deliver_by self.now.finished.items
+            (stands_of self.now.finished.items self.now.kex)) }
+    {
+        is_payload(message_type) && self.may_deliver()
+    }
+
     /// Whether payloads may come: outside an exchange, or in a later one before the peer's KEXINIT.
     fn may_deliver(&self) -> bool
         requires { IsOpen self.now }
@@ -331,109 +371,61 @@ impl<'c> Session<'c> {
         }
     }
 
-    /// The machine that a message is for: that of the open exchange, or outside one, at a KEXINIT, that of an exchange
-    /// which is begun for it. Inconsistent where there is none; Memory.
-    fn take_kex<R: Rng>(&mut self, rng: &mut R, message_type: u8) -> Result<SessionKex<'c>, Error>
-        requires { CanBegin self.old }
-        ensures { TakesMachine self.old message_type (R.stream rng.old) (R.stream rng.new) result self.new }
+    /// Drops the output after its first `sent` bytes.
+    fn cut_output(&mut self, sent: usize)
+        ensures output { self.new.writer.output ≡ take sent self.old.writer.output }
+        ensures rest { self.new ≡ record self.old { writer = self.new.writer } }
     {
-        if message_type == msg::KEXINIT && !self.is_inside() {
-            return self.open(rng);
-        }
-        match self.kex.take() {
-            SessionKexState::InProgress(kex) => Ok(kex),
-            SessionKexState::Idle | SessionKexState::Taken => Err(Error::Inconsistent),
-        }
+        self.writer.buffer().buffer.truncate(sent);
     }
 
-    /// Takes a message of an exchange. It isn't inlined, so that packets outside an exchange don't pay for its locals.
+    /// Begins an exchange. Fails with `Memory`, and then nothing is sent.
     #[inline(never)]
-    #[tactic(auto, using(crate::proofs::Parts::parts_same))]
-    fn take_message<A: Agreement, H: HostKeys, G: GroupLookup, R: Rng>(
-        &mut self,
-        parts: &mut Parts<A, H, G, R>,
-        incoming: Incoming<'_>,
-        message_type: u8,
-    ) -> Result<Disposition, Error>
-        requires can { CanTreat self.old incoming }
-        requires kind { message_type ≡ message_type_of incoming.payload.now }
-        requires kex { is_kex message_type ≡ true }
-        requires passes { Passes self.old incoming.seqn message_type }
-        ensures { Treats Appends (⟦<Parts<A, H, G, R> as Calling>⟧.call parts.old parts.new) self.old incoming.entry
-            result self.new }
+    pub(crate) fn begin<R: Rng>(&mut self, rng: &mut R) -> Result<(), Error>
+        requires { CanBegin self.old }
+        ensures { StartsExchange self.old (R.stream rng.old) (R.stream rng.new) result self.new }
     {
-        let kex = self.take_kex(&mut parts.rng, message_type)?;
-        self.step(kex, parts, incoming)
+        self.kex = SessionKexState::InProgress(self.open(rng)?);
+        Ok(())
     }
 
-    /// Hands a message to the machine. What the machine refuses; UnknownKey; Memory.
-    #[tactic(auto, using(crate::proofs::Parts::agreement_same, crate::proofs::Parts::hosts_same, crate::proofs::Parts::groups_same, crate::proofs::Parts::hosts_after))]
-    fn step<A: Agreement, H: HostKeys, G: GroupLookup, R: Rng>(
-        &mut self,
-        kex: SessionKex<'c>,
-        parts: &mut Parts<A, H, G, R>,
-        incoming: Incoming<'_>,
-    ) -> Result<Disposition, Error>
-        requires begins { CanBegin self.old }
-        requires short { length incoming.payload.now < 2 ^ 31 }
-        ensures { StepsExchange (⟦<Parts<A, H, G, R> as Calling>⟧.call parts.old parts.new) self.old kex.entry
-            incoming.entry result self.new }
+    /// A machine of the exchange that is due, whose KEXINIT is sent. Fails with `Memory`, and then nothing is sent.
+    #[tactic(auto, using(crate::proofs::Configs::usable))]
+    fn open<R: Rng>(&mut self, rng: &mut R) -> Result<SessionKex<'c>, Error>
+        requires { CanBegin self.old }
+        ensures { OpensExchange self.old (R.stream rng.old) (R.stream rng.new) result self.new }
     {
-        match kex.step(parts, incoming, &mut self.writer)? {
-            KexProgress::NeedsReply { kex, reset_seqn } => {
-                if reset_seqn {
-                    self.writer.reset_seqn();
-                }
-                self.kex = SessionKexState::InProgress(kex);
-                Ok(Disposition::Done)
-            }
-            KexProgress::Done {
-                server_host,
-                newkeys,
-            } => self.end_exchange(&mut parts.hosts, server_host, newkeys),
+        let cause = self.next_cause();
+        let mut kex = SessionKex::new(self.alloc, self.side, self.config, self.line.id(), cause)?;
+        kex.kexinit(rng, &mut self.writer)?;
+        Ok(kex)
+    }
+
+    /// Why the next exchange begins: a later one goes by the first one's strict flag and hash.
+    fn next_cause(&self) -> KexCause
+        ensures { result ≡ cause_of self.now.finished.items }
+    {
+        match self.finished.first() {
+            Some(first) => KexCause::Rekey {
+                strict: first.names.strict_kex,
+                session_id: first.hash,
+            },
+            None => KexCause::Initial,
         }
     }
 
-    /// Ends an exchange whose host is trusted. UnknownKey where it isn't; Memory.
-    fn end_exchange<H: HostKeys>(
-        &mut self,
-        hosts: &mut H,
-        host: Option<ServerHost>,
-        newkeys: NewKeys,
-    ) -> Result<Disposition, Error>
-        requires { CanBegin self.old }
-        ensures { EndsExchange H.HostKeys hosts.old hosts.new self.old host newkeys result self.new }
+    /// Whether no exchange was begun yet.
+    fn is_first_due(&self) -> bool
+        ensures { result ≡ is_silent (stands_of self.now.finished.items self.now.kex) }
     {
-        check_host(self.alloc, hosts, host)?;
-        self.finish(newkeys)
+        !self.kex.active() && self.finished.is_empty()
     }
 
-    /// Records an exchange, and goes on under its keys. Memory.
-    fn finish(&mut self, newkeys: NewKeys) -> Result<Disposition, Error>
-        requires { CanBegin self.old }
-        ensures { FinishesExchange self.old newkeys result self.new }
+    /// Whether an exchange runs, or the first one is still to come.
+    pub(crate) fn is_inside(&self) -> bool
+        ensures { result ≡ not (is_outside (stands_of self.now.finished.items self.now.kex)) }
     {
-        let NewKeys {
-            names,
-            hash,
-            session_id,
-            keys,
-            cipher,
-            ..
-        } = newkeys;
-        self.finished.push(FinishedExchange {
-            names,
-            hash,
-            session_id,
-            keys,
-        })?;
-        let cipher = Box::into_inner(cipher);
-        self.writer.set_cipher(cipher.local_to_remote);
-        self.kex = SessionKexState::Idle;
-        Ok(Disposition::Rekeys {
-            opening: cipher.remote_to_local,
-            reset_seqn: names.strict_kex,
-        })
+        self.kex.active() || self.finished.is_empty()
     }
 }
 
@@ -472,7 +464,8 @@ fn check_place(side: Side, message_type: u8, place: usize) -> Result<(), Error>
     }
 }
 
-/// Asks a client's host keys whether the server's host is trusted. UnknownKey where it isn't; Memory.
+/// Asks a client's host keys whether the server's host is trusted. Fails with `UnknownKey` if it isn't, or with
+/// `Memory`.
 #[tactic(auto, using(crate::proofs::Parts::hosts_same))]
 fn check_host<H: HostKeys>(
     alloc: Global,
