@@ -1,55 +1,39 @@
 #!/usr/bin/env python3
-"""Usage: check/readmes.py [--write]
+"""Usage: check/reference.py [--open]
 
-Makes of the sources what crates/README.md, crates/NAME/README.md and crates/NAME/WORDS.md have: the head of each crate, what
-it stands on, its public items with their comments and contracts, and its definitions with their comments. It prints each page
-that isn't so, and ends with status 1 then. With --write it writes the pages.
+Makes the reference in out/doc/, which isn't committed, from the sources: a page of each crate with the head of the crate,
+what it stands on, and its public items with their contracts and comments; a page with its definitions and which contracts
+cite each of them; and README.md there, the crates by layer. With --open it shows the latter in a browser. The gate makes the
+reference too, so the status is 0 only if every source could be read.
 """
 import itertools
 import pathlib
 import re
 import sys
+import webbrowser
 
 TOP = pathlib.Path(__file__).resolve().parent.parent
 ITEM = re.compile(r"pub (?:const )?(struct|enum|trait|fn|const) (\w+)")
 DEFINED = re.compile(r"(?:abbrev |unfoldable )?pub (?:abbrev |unfoldable )?(?:record |data )?(?!mod\b)([^\s:(]+)")
 CLAUSE = re.compile(r"\s*(?:ensures|requires|decreases|ghost)\b")
-LAYERS = [
-    ("The programs", ["sshlink", "sshservice", "sshaudit", "sshmux", "sshpipe"]),
-    ("Scripts of records, and what is answered to them", ["ssh_audit"]),
-    ("The judge of recorded links", ["ssh_judge"]),
-    ("Recorded wires, read whole", ["ssh_transcript"]),
-    ("Blocks of exchange messages", ["ssh_blocks"]),
-    ("From a script's text to a report's text", ["ssh_link"]),
-    ("Channels over a link, from a script's text to a report's text", ["ssh_mux"]),
-    ("Two sides joined, two sides fed any bytes, scripts and reports", ["ssh_run", "ssh_attack", "ssh_script"]),
-    ("Records of links, without code", ["ssh_record"]),
-    ("A talk with a peer over a pipe", ["ssh_pipe"]),
-    ("Services and extension info: over a transport, and of a script", ["ssh_service"]),
-    ("All channels of two sides: their laws", ["ssh_talks"]),
-    ("Channels with windows: one side, and the laws of both", ["ssh_channels"]),
-    ("One side of a connection", ["ssh_transport"]),
-    ("One exchange of keys", ["ssh_client_kex", "ssh_server_kex"]),
-    ("The rules without code, and parts for tests", ["ssh_rules", "ssh_vectors"]),
-    ("Real parts: finite fields and RSA", ["ssh_modp"]),
-    ("The exchange hash, keys, and what is handed in", ["ssh_kex"]),
-    ("KEXINIT, and the choice of names", ["ssh_negotiate"]),
-    ("Packets", ["ssh_packet"]),
-    ("The lines of scripts, and what is printed", ["ssh_lines"]),
-    ("The outer part of a program", ["ssh_program"]),
-    ("Encodings and version lines, AES, HMAC, powers", ["ssh_wire", "ssh_aes", "ssh_mac", "ssh_power"]),
-    ("Proved callers", ["uses", "uses_above"]),
-    ("Rows of values, and the programs that compare them",
-     ["vector_rows", "machine_rows", "check_vectors", "check_exchange", "check_machines", "check_transport",
-      "check_replay", "check_services", "check_powers", "check_parts"]),
-    ("Programs that are measured", ["speed_aes", "speed_power", "speed_packets", "speed_link"]),
-]
+
+
+def layers():
+    """The layers of crates.txt, lowest first, each with its crates, and what each crate stands on."""
+    lines, found = (TOP / "crates.txt").read_text(encoding="utf-8").split("\n"), []
+    for line, after in zip(lines, [*lines[1:], ""]):
+        if line.startswith("#"):
+            if after and not after.startswith("#"):
+                found.append((line[2:], {}))
+        elif line:
+            name, _, below = line.partition(":")
+            found[-1][1][name.split()[0]] = below.split()
+    return found
 
 
 def crates():
-    """Each crate of crates.txt with what it stands on."""
-    lines = (line.partition(":") for line in (TOP / "crates.txt").read_text(encoding="utf-8").split("\n") if ":" in line)
-    return {name.strip(): below.split() for name, _, below in lines}
+    """Each crate with what it stands on."""
+    return {name: below for _, listed in layers() for name, below in listed.items()}
 
 
 def head_of(lines):
@@ -127,32 +111,31 @@ def code(lines):
     return ["```text", *lines, "```", ""]
 
 
-def item_text(file, lines, name):
+def item_text(source, file, lines, name):
     """The lines on one public item of a file, but for a constant."""
     found = ((i, ITEM.match(line)) for i, line in enumerate(lines))
     at = next((i for i, m in found if m and m.group(2) == name and m.group(1) != "const"), None)
     if at is None:
         return []
     kind = ITEM.match(lines[at]).group(1)
-    out = [f"### `{name}`, in [{file}](src/{file})", "", *comment_before(lines, at)]
-    out += [""] if out[-1] else []
-    if kind == "fn":
-        return out + code(end_of_call(lines, at)[1])
-    out += code(shown(block(lines, at)))
-    for comment, call in calls_of(lines, name):
-        out += [*comment, ""] if comment else []
-        out += code(call)
+    out = [f"### `{name}`, in [{file}]({source}/{file})", ""]
+    out += code(end_of_call(lines, at)[1] if kind == "fn" else shown(block(lines, at)))
+    out += [*comment_before(lines, at), ""]
+    if kind != "fn":
+        for comment, call in calls_of(lines, name):
+            title = re.search(r"fn (\w+::\w+)", call[0]).group(1)
+            out += [f"#### `{title}`", "", *code(call), *comment, ""]
     return out
 
 
-def constants_text(file, lines, names):
+def constants_text(source, file, lines, names):
     """The lines on the constants of a file, in one piece."""
     out = []
     for i, line in enumerate(lines):
         if (m := ITEM.match(line)) and m.group(1) == "const" and m.group(2) in names:
             end = next(j for j in range(i, len(lines)) if lines[j].endswith(";"))
             out += [f"/// {part}" for part in comment_before(lines, i)] + lines[i:end + 1]
-    return [f"### Constants, in [{file}](src/{file})", "", *code(out)] if out else []
+    return [f"### Constants, in [{file}]({source}/{file})", "", *code(out)] if out else []
 
 
 def public_names(folder, top):
@@ -169,37 +152,54 @@ def public_names(folder, top):
 
 def crate_page(crate, below, known):
     folder = TOP / "crates" / crate
+    source = f"../../crates/{crate}/src"
     program = not (folder / "src/lib.rt").exists()
     top = (folder / ("src/main.rt" if program else "src/lib.rt")).read_text(encoding="utf-8").split("\n")
-    own = [f"[`{name}`](../{name}/README.md)" for name in below if name in known]
+    own = [f"[`{name}`]({name}.md)" for name in below if name in known]
     kit = [f"`{name}`" for name in below if name not in known]
     out = [f"# `{crate}`", "", *head_of(top), ""]
     if own or kit:
         out += ["It stands on " + ", ".join(own + kit) + ".", ""]
     if (folder / "specs").is_dir() and any((folder / "specs").glob("*.antt")):
-        out += ["[WORDS](WORDS.md) has the words of its clauses, and [CLAUSES](../../docs/CLAUSES.md) what the clauses say.", ""]
+        out += [f"[Its definitions]({crate}-words.md) are what its contracts cite.", ""]
     if not program:
         passed_on = re.findall(r"^pub use (\w+)(?:::\w+)?::(\{[^}]*\}|\w+);", "\n".join(top), re.M)
         passed_on = [(where, re.findall(r"\w+", listed)) for where, listed in passed_on if where != "crate"]
         for where, names in passed_on:
-            out += [f"It gives {', '.join(f'`{name}`' for name in names)} of [`{where}`](../{where}/README.md) too.", ""]
+            out += [f"It gives {', '.join(f'`{name}`' for name in names)} of [`{where}`]({where}.md) too.", ""]
         out += ["## What it gives", ""]
         seen = set()
         for module, names in public_names(folder, top):
             lines = (folder / f"src/{module}.rt").read_text(encoding="utf-8").split("\n")
             fresh = [name for name in names if (module, name) not in seen]
             seen.update((module, name) for name in fresh)
-            out += constants_text(f"{module}.rt", lines, fresh)
+            out += constants_text(source, f"{module}.rt", lines, fresh)
             for name in fresh:
-                out += item_text(f"{module}.rt", lines, name)
+                out += item_text(source, f"{module}.rt", lines, name)
     return "\n".join(out).rstrip() + "\n"
 
 
-def words_page(crate):
-    """The definitions of a crate, by file; none where it has no definitions."""
-    out = [f"# The words of `{crate}`", "",
-           f"These are the definitions of [`{crate}`](README.md), with their comments.",
-           "[DEFINITIONS](../../docs/DEFINITIONS.md) has those that public clauses rest on.", ""]
+def citations():
+    """The public functions whose contracts cite each name of specs, by crate and name."""
+    found = {}
+    for path in sorted(TOP.glob("crates/*/src/**/*.rt")):
+        lines = path.read_text(encoding="utf-8").split("\n")
+        imported = {}
+        for crate, file, names in re.findall(r"ghost use Rattle\.(\w+)\.specs\.([\w.]+?)\.\{([^}]*)\};", "\n".join(lines)):
+            imported |= {name.split(" as ")[-1].strip(): (crate, name.split(" as ")[0].strip()) for name in names.split(",")}
+        for i, line in enumerate(lines):
+            if call := re.match(r"\s*pub (?:const )?fn (\w+)", line):
+                head = " ".join(end_of_call(lines, i)[1])
+                for word in set(re.findall(r"[\w-]+", head)) & set(imported):
+                    found.setdefault(imported[word], set()).add(call.group(1))
+    return found
+
+
+def words_page(crate, cited):
+    """The definitions of a crate, by file; none if it has no definitions."""
+    out = [f"# The definitions of `{crate}`", "",
+           f"What the contracts of [`{crate}`]({crate}.md) and of the crates above it cite, with the public functions whose",
+           "contracts name each.", ""]
     empty = len(out)
     for path in sorted((TOP / "crates" / crate / "specs").glob("*.antt")):
         lines = path.read_text(encoding="utf-8").split("\n")
@@ -209,13 +209,14 @@ def words_page(crate):
                 comment.append(line.lstrip("-").strip())
                 continue
             if m := DEFINED.match(line):
-                rows.append(f"| `{m.group(1)}` | {' '.join(comment).replace('|', chr(92) + '|')} |")
+                users = ", ".join(f"`{name}`" for name in sorted(cited.get((crate, m.group(1)), ())))
+                rows.append(f"| `{m.group(1)}` | {' '.join(comment).replace('|', chr(92) + '|')} | {users} |")
             comment = []
         if rows and path.stem != "Lib":
             head = itertools.takewhile(lambda line: line.startswith("--"), lines)
             top = " ".join(line.lstrip("-").strip() for line in head)
-            out += [f"## [{path.stem}](specs/{path.name})", "", *([top, ""] if top else [])]
-            out += ["| word | says |", "|---|---|", *rows, ""]
+            out += [f"## [{path.stem}](../../crates/{crate}/specs/{path.name})", "", *([top, ""] if top else [])]
+            out += ["| name | says | cited by |", "|---|---|---|", *rows, ""]
     return "\n".join(out).rstrip() + "\n" if len(out) > empty else None
 
 
@@ -226,38 +227,35 @@ def first_sentence(crate):
     return re.split(r"(?<=[.:]) ", text)[0].rstrip(":").rstrip(".") + "."
 
 
-def layers_page(known):
+def layers_page():
     out = ["# The crates", "",
-           "A crate stands only on crates of the rows below its own. [ARCHITECTURE](../docs/ARCHITECTURE.md) follows a byte",
-           "through them.", ""]
-    out += ["| layer | crate | is |", "|---|---|---|"]
-    for layer, names in LAYERS:
-        for i, name in enumerate(names):
-            out.append(f"| {layer if i == 0 else ''} | [`{name}`]({name}/README.md) | {first_sentence(name)} |")
-    missing = set(known) - {name for _, names in LAYERS for name in names}
-    if missing:
-        raise SystemExit(f"crates/README.md: no layer has {', '.join(sorted(missing))}")
+           "A crate stands only on crates of the rows below it. [ARCHITECTURE](../../docs/ARCHITECTURE.md) follows a byte through",
+           "them.", "", "| layer | crate | is |", "|---|---|---|"]
+    for layer, names in reversed(layers()):
+        for i, name in enumerate(reversed(names)):
+            out.append(f"| {layer if i == 0 else ''} | [`{name}`]({name}.md) | {first_sentence(name)} |")
     return "\n".join(out) + "\n"
 
 
 def main():
-    if sys.argv[1:] not in ([], ["--write"]):
+    if sys.argv[1:] not in ([], ["--open"]):
         print(__doc__)
-        sys.exit(0 if "--help" in sys.argv else 2)
-    known = crates()
-    pages = {TOP / "crates/README.md": layers_page(known)}
-    pages |= {TOP / "crates" / crate / "README.md": crate_page(crate, below, known) for crate, below in known.items()}
-    words = {TOP / "crates" / crate / "WORDS.md": words_page(crate) for crate in known}
-    pages |= {page: text for page, text in words.items() if text}
-    stale = [page for page, text in pages.items() if not page.exists() or page.read_text(encoding="utf-8") != text]
+        return 0 if sys.argv[1:] == ["--help"] else 2
+    known, cited = crates(), citations()
+    pages = {"README.md": layers_page()}
+    pages |= {f"{crate}.md": crate_page(crate, below, known) for crate, below in known.items()}
+    pages |= {f"{crate}-words.md": text for crate in known if (text := words_page(crate, cited))}
+    room = TOP / "out/doc"
+    room.mkdir(parents=True, exist_ok=True)
+    for old in set(room.glob("*.md")) - {room / name for name in pages}:
+        old.unlink()
+    for name, text in pages.items():
+        (room / name).write_text(text, encoding="utf-8")
+    print(f"reference: {len(pages)} pages in out/doc")
     if sys.argv[1:]:
-        for page in stale:
-            page.write_text(pages[page], encoding="utf-8")
-        print(f"readmes: {len(stale)} written")
-        return
-    print("\n".join(f"{page.relative_to(TOP)} isn't what the sources say: check/readmes.py --write" for page in stale)
-          or f"readmes: {len(pages)} pages are what the sources say")
-    sys.exit(1 if stale else 0)
+        webbrowser.open((room / "README.md").as_uri())
+    return 0
 
 
-main()
+if __name__ == "__main__":
+    sys.exit(main())
