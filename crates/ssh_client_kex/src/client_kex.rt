@@ -25,7 +25,7 @@ ghost use Rattle.ssh_kex.specs.Members.{AgreementKept};
 ghost use Rattle.ssh_kex.specs.Setting.{offers_of};
 ghost use Rattle.ssh_kex.specs.Stages.{Created as created, IsStageOf, has_ignored, names_in_stage, is_strict};
 ghost use Rattle.ssh_kex.specs.Stepping.{at_kexinit, answers_agreement, asks_agreement, asks_hosts, asks_groups, kexinit_answers, next_of, Progresses, RefusesStep, Puts};
-ghost use Rattle.ssh_kex.specs.Unasked.{asks_nobody, has_front, is_early};
+ghost use Rattle.ssh_kex.specs.Unasked.{asks_no_host, asks_nobody, has_front, is_early};
 ghost use Rattle.ssh_kex.specs.Views.{HasShortSides};
 
 use crate::client_reply::take_reply;
@@ -146,7 +146,7 @@ impl<'c> ClientKex<'c> {
         ensures unchanged { OnErr result (SameButRoom output.old output.new) }
         ensures unasked_agreement { asks_nobody (has_front self.entry.stage input.entry) result ≡ true
             → parts.new.agreement ≡ parts.old.agreement }
-        ensures unasked_hosts { asks_nobody false result ≡ true → parts.new.hosts ≡ parts.old.hosts }
+        ensures unasked_hosts { asks_no_host result ≡ true → parts.new.hosts ≡ parts.old.hosts }
         ensures unasked_groups { parts.new.groups ≡ parts.old.groups }
         ensures agreed { IfErr result (AgreesFirst (⟦<Parts<A, H, G, R> as Handed>⟧.says
             self.entry.setting.config parts.old) self.entry.stage input.entry) }

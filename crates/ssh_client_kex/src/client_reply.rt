@@ -16,7 +16,7 @@ ghost use Rattle.ssh_kex.specs.Members.{AgreementKept, HostsKept};
 ghost use Rattle.ssh_kex.specs.Signature.{judged, or_same};
 ghost use Rattle.ssh_kex.specs.Messages.{host_with, is_gex, newkeys, reply_message};
 ghost use Rattle.ssh_kex.specs.Parts.{Answers, HasItsGroup, Setup};
-ghost use Rattle.ssh_kex.specs.Unasked.{asks_nobody, is_early};
+ghost use Rattle.ssh_kex.specs.Unasked.{asks_no_host, asks_nobody, is_early};
 ghost use Rattle.ssh_kex.specs.Views.{HasShortSides};
 
 use crate::client_kex::{ClientKex, ClientState, waits};
@@ -173,7 +173,7 @@ fn accept_reply<'c, H: HostKeys, R: Rng>(
         (judged reply.entry.signature.now) ≡ true → ⊥)))) }
     ensures drawn { OnOk result (SendsAll output.old (newkeys ∷ []) (R.stream rng.old) output.new (R.stream rng.new)) }
     ensures unchanged { OnErr result (SameButRoom output.old output.new) }
-    ensures late { asks_nobody false result ≡ false }
+    ensures late { asks_no_host result ≡ false }
 {
     let value = Blob::copy_of(base.alloc, reply.value)?;
     let exchange = &mut base.exchange;
@@ -240,7 +240,7 @@ pub(crate) fn take_reply<'c, A: Agreement, H: HostKeys, G, R: Rng>(
     ensures unchanged { OnErr result (SameButRoom output.old output.new) }
     ensures unasked_agreement { asks_nobody (is_ok (reply_front (fields payload.now))) result ≡ true
         → parts.new.agreement ≡ parts.old.agreement }
-    ensures unasked_hosts { asks_nobody false result ≡ true → parts.new.hosts ≡ parts.old.hosts }
+    ensures unasked_hosts { asks_no_host result ≡ true → parts.new.hosts ≡ parts.old.hosts }
     ensures agreed { IfErr result (MakesFirst (λ v x. (s : Setup) (public : List ℕ) → A.lawful parts.old.agreement s
         → A.client_makes algorithm.name algorithm.group (local_of algorithm.local) public
         → A.agrees algorithm.name algorithm.group public v x) payload.now) }

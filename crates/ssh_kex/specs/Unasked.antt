@@ -46,3 +46,32 @@ abbrev pub asks_nobody : Bool → Result (KexProgress Machine) Error → Bool
 asks_nobody front (Ok (NeedsReply kex reset)) = false
 asks_nobody front (Ok (Done host newkeys)) = true
 asks_nobody front (Err error) = is_early front error
+
+-- errors of a message that is refused before a host key is asked: the agreement and the lookup are asked earlier, so
+-- their refusal is one
+abbrev pub is_unjudged : Error → Bool
+is_unjudged errors.KexInit = true
+is_unjudged errors.UnknownAlgo = true
+is_unjudged (errors.NoCommonAlgo kind ours theirs) = true
+is_unjudged errors.Version = false
+is_unjudged errors.Kex = true
+is_unjudged errors.PacketAuth = false
+is_unjudged errors.Inconsistent = true
+is_unjudged errors.IndexOutOfBounds = false
+is_unjudged errors.UnknownKey = false
+is_unjudged errors.WrongServerSig = false
+is_unjudged (errors.PacketSize n) = false
+is_unjudged errors.Disconnect = false
+is_unjudged errors.DecryptionError = false
+is_unjudged errors.IO = false
+is_unjudged (errors.StrictKeyExchangeViolation type place) = true
+is_unjudged errors.Signature = false
+is_unjudged (errors.SshEncoding fault) = true
+is_unjudged (errors.InvalidConfig fault) = false
+is_unjudged errors.Memory = false
+
+-- answers before which no host key is asked: these errors, and the end of an exchange
+abbrev pub asks_no_host : Result (KexProgress Machine) Error → Bool
+asks_no_host (Ok (NeedsReply kex reset)) = false
+asks_no_host (Ok (Done host newkeys)) = true
+asks_no_host (Err error) = is_unjudged error

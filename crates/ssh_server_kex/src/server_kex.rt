@@ -24,7 +24,7 @@ ghost use Rattle.ssh_kex.specs.Setting.{group_of, offers_of};
 ghost use Rattle.ssh_kex.specs.Stages.{Created as created_stage, IsStageOf, has_ignored, is_strict, names_in_stage};
 ghost use Rattle.ssh_kex.specs.declared.progress.KexProgress.TheVariants.{NeedsReply};
 ghost use Rattle.ssh_kex.specs.Stepping.{answers_agreement, asks_agreement, asks_hosts, asks_groups, next_of, Progresses, RefusesStep};
-ghost use Rattle.ssh_kex.specs.Unasked.{asks_nobody};
+ghost use Rattle.ssh_kex.specs.Unasked.{asks_no_host, asks_nobody};
 
 use crate::opening::open;
 use crate::request::answer_request;
@@ -201,7 +201,7 @@ impl<'c> ServerKex<'c> {
             (⟦<Parts<A, H, G, R> as Handed>⟧.denies parts.old parts.new) self.entry input.entry e) }
         ensures unchanged { OnErr result (SameButRoom output.old output.new) }
         ensures unasked_agreement { asks_nobody false result ≡ true → parts.new.agreement ≡ parts.old.agreement }
-        ensures unasked_hosts { asks_nobody false result ≡ true → parts.new.hosts ≡ parts.old.hosts }
+        ensures unasked_hosts { asks_no_host result ≡ true → parts.new.hosts ≡ parts.old.hosts }
         ensures unasked_groups { asks_nobody false result ≡ true → parts.new.groups ≡ parts.old.groups }
     {
         let Some(incoming) = input else {
@@ -403,7 +403,7 @@ fn take_value<'c, A: Agreement, H: HostKeys, G, R: Rng>(
         output.old output.new (R.stream parts.new.rng)) }
     ensures unchanged { OnErr result (SameButRoom output.old output.new) }
     ensures unasked_agreement { asks_nobody false result ≡ true → parts.new.agreement ≡ parts.old.agreement }
-    ensures unasked_hosts { asks_nobody false result ≡ true → parts.new.hosts ≡ parts.old.hosts }
+    ensures unasked_hosts { asks_no_host result ≡ true → parts.new.hosts ≡ parts.old.hosts }
 {
     match answer_value(&mut base, &names, parts, payload, output) {
         Ok((made, cipher)) => {

@@ -14,7 +14,7 @@ ghost use Rattle.ssh_kex.specs.Fields.{value_in};
 ghost use Rattle.ssh_kex.specs.Members.{AgreementKept, HostsKept};
 ghost use Rattle.ssh_server_kex.specs.ServerRows.{AgreesOn, AnswersValue, CanAnswer, IsLongAnswer, RefusesText, ServerRefusesValue};
 ghost use Rattle.ssh_kex.specs.Setting.{group_of};
-ghost use Rattle.ssh_kex.specs.Unasked.{is_early};
+ghost use Rattle.ssh_kex.specs.Unasked.{is_early, is_unjudged};
 
 use crate::presented::presented;
 use rand_core::Rng;
@@ -202,8 +202,8 @@ pub(crate) fn answer_value<A: Agreement, H: HostKeys, G, R: Rng>(
         base.old.exchange.gex)) (R.stream parts.old.rng) base.new.exchange f.0) output.old output.new
         (R.stream parts.new.rng)) }
     ensures unchanged { OnErr result (SameButRoom output.old output.new) }
-    ensures unasked { IfErr result (λ e. is_early false e ≡ true → (parts.new.agreement ≡ parts.old.agreement)
-        × (parts.new.hosts ≡ parts.old.hosts)) }
+    ensures unasked { IfErr result (λ e. is_early false e ≡ true → parts.new.agreement ≡ parts.old.agreement) }
+    ensures unjudged { IfErr result (λ e. is_unjudged e ≡ true → parts.new.hosts ≡ parts.old.hosts) }
 {
     let is_gex = is_gex(names.kex);
     let value = match read_value(payload, is_gex) {
