@@ -144,6 +144,7 @@ start check check/wrappers.sh
 for script in edits documents reference grammar programs layers; do start check "check/$script.py"; done
 start check check/english.py
 start check vectors/machines/model.py vectors/machines/*.txt
+start check cases/attack_model.py
 start check vectors/damaged.py vectors/peers/*.txt
 wait
 cat "$room"/results/* | grep '^FAIL' | cut -c6-

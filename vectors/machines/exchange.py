@@ -3,7 +3,6 @@
 
 import hashlib
 
-ZEROS = bytes(32)
 LONGEST_PAYLOAD = 262157
 LONGEST_PACKET = 262177
 
@@ -59,7 +58,11 @@ TEST_KEY = ("ssh-ed25519", b"sshlink-test-key")
 
 
 class Refused(Exception):
-    """A refusal, by its text in a row."""
+    """A refusal, by its text in a row; and the kind and both lists, if no name is in common."""
+
+    def __init__(self, text, lists=None):
+        super().__init__(text)
+        self.lists = lists
 
 
 class Unmodelled(Exception):
@@ -212,14 +215,15 @@ class Config:
             lists += [self.preferred[kind]] * 2
         return lists
 
-    def kexinit(self):
-        return bytes([20]) + bytes(16) + b"".join(names(l) for l in self.advertised() + [[], []]) + bytes(5)
+    def kexinit(self, cookie):
+        return bytes([20]) + cookie + b"".join(names(l) for l in self.advertised() + [[], []]) + bytes(5)
 
 
 def no_common(kind, ours, theirs):
     def shown(items):
         return "NameList([" + ", ".join(f'Text {{ text: "{n}" }}' for n in items) + "])"
-    return Refused(f"NoCommonAlgo {{ kind: {kind}, ours: {shown(ours)}, theirs: {shown(theirs)} }}")
+    text = f"NoCommonAlgo {{ kind: {kind}, ours: {shown(ours)}, theirs: {shown(theirs)} }}"
+    return Refused(text, (kind, ours, theirs))
 
 
 class Names:
@@ -295,10 +299,10 @@ class Agreement(Calls):
     def offers(self, name):
         return name not in ("none", self.without)
 
-    def start(self):
+    def start(self, draw):
         if self.is_refused():
             raise Refused("Kex")
-        return ZEROS
+        return draw(32)
 
     def agree(self, name, group, client, server, peers):
         if self.is_refused() or len(peers) != 32:
@@ -366,8 +370,10 @@ class Groups(Calls):
 
 
 class Parts:
-    def __init__(self, agreement, hosts, groups):
-        self.agreement, self.hosts, self.groups = agreement, hosts, groups
+    """`draw` gives that number of bytes: zeros, unless a generator is given."""
+
+    def __init__(self, agreement, hosts, groups, draw=bytes):
+        self.agreement, self.hosts, self.groups, self.draw = agreement, hosts, groups, draw
 
 
 # The machines (RFC 4253 sections 7 and 8, RFC 4419 section 3).
@@ -379,7 +385,8 @@ class Machine:
     def __init__(self, config, parts, ids, cause=("first", b"")):
         self.config, self.parts, self.cause = config, parts, cause
         self.is_client = config.side == "client"
-        self.text = {"client_id": ids[0], "server_id": ids[1], config.side: config.kexinit()}
+        self.kexinit = config.kexinit(parts.draw(16))
+        self.text = {"client_id": ids[0], "server_id": ids[1], config.side: self.kexinit}
         self.names, self.group, self.sizes, self.done = None, None, None, False
         self.ignore_guessed, self.guess_ignored = False, False
         self.state = self.created
@@ -416,7 +423,7 @@ class Machine:
         return [bytes([34]) + b"".join(map(u32, self.sizes))], False
 
     def send_value(self, message):
-        self.value, self.state = self.parts.agreement.start(), self.reply_awaited
+        self.value, self.state = self.parts.agreement.start(self.parts.draw), self.reply_awaited
         return [bytes([message]) + string(self.value)]
 
     def expect(self, payload, message):
@@ -445,12 +452,13 @@ class Machine:
         read = self.expect(payload, 32 if self.by_group else 30)
         client = read.string()
         read.end()
-        secret = self.parts.agreement.agree(self.names.kex, self.group, client, ZEROS, client)
+        value = self.parts.draw(32)
+        secret = self.parts.agreement.agree(self.names.kex, self.group, client, value, client)
         blob, key_blob = self.presented()
-        self.settle(blob, client, ZEROS, secret)
+        self.settle(blob, client, value, secret)
         signature = self.parts.hosts.sign(self.names.key, key_blob, self.hash)
         self.state = self.newkeys_awaited
-        reply = bytes([33 if self.by_group else 31]) + string(blob) + string(ZEROS) + string(signature)
+        reply = bytes([33 if self.by_group else 31]) + string(blob) + string(value) + string(signature)
         return [reply, bytes([21])], self.names.strict
 
     def presented(self):

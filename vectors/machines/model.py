@@ -13,7 +13,8 @@ decided on, and not from its code. It keeps whole lists where the code keeps cur
 knows how long what a side writes is. Under Galois counter mode it opens what comes; under another cipher it takes a packet
 that comes for one that nobody sealed. All that is drawn is zeros.
 
-`exchange.py` has the machines, `transport.py` the transport, `galois.py` the cipher, and this file the rows.
+`exchange.py` has the machines, `transport.py` the transport, `galois.py` the cipher, and this file the rows. With the
+packets of `sealing.py` the same transport writes and reads every byte: `cases/attack_model.py`.
 """
 
 import os
@@ -106,7 +107,7 @@ def talk(machines, messages):
     """What the steps answer, the client's first. The last word is empty where none was refused."""
     found, count = [], 0
     # What each side has sent: a payload, and its number plus one.
-    sent = [[(m.config.kexinit(), 1)] for m in machines]
+    sent = [[(m.kexinit, 1)] for m in machines]
     taken = [0, 0]
     turn = True
     while turn:

@@ -66,7 +66,7 @@ class Transport:
         ids = (self.id, self.peer_id) if self.config.side == "client" else (self.peer_id, self.id)
         cause = ("strict" if self.first.names.strict else "plain", self.first.hash) if self.first else ("first", b"")
         self.machine = Machine(self.config, self.parts, ids, cause)
-        self.write(self.config.kexinit())
+        self.write(self.machine.kexinit)
 
     # The calls.
 
@@ -218,16 +218,20 @@ class Transport:
             return
         if self.config.side == "client":
             self.parts.hosts.check(machine.host)
+        self.take_keys(machine)
+        self.read_count = self.write_count = 0
+        self.finished, self.first, self.machine = self.finished + 1, self.first or machine, None
+        while self.held and not self.inside():
+            self.write(self.held.pop(0))
+
+    def take_keys(self, machine):
+        """The keys of an exchange hold from its end on."""
         self.cipher = machine.names.cipher
         self.own_mac = machine.names.macs[self.config.side]
         self.peer_mac = machine.names.macs["client" if self.config.side == "server" else "server"]
         self.peer_nonce, self.peer_key = machine.keys[self.config.side == "client"], machine.keys[2 + (self.config.side == "client")]
         if machine.names.strict:
             self.number = 0
-        self.read_count = self.write_count = 0
-        self.finished, self.first, self.machine = self.finished + 1, self.first or machine, None
-        while self.held and not self.inside():
-            self.write(self.held.pop(0))
 
 
 def is_text(line):
