@@ -24,8 +24,7 @@ use Rattle.ssh_rules.proofs.Lemmas.{StageAnswers, answers_at, answers_same, answ
 use Rattle.ssh_transport.specs.Asking.{MoveAnswers, hosts_answer, stage_in, state_of}
 use Rattle.ssh_transport.specs.Handling.{IsFor, IsOpen, Moves}
 use Rattle.ssh_transport.specs.States.{after_exchanges, stands_of}
-use Rattle.ssh_transport.specs.declared.session.Disposition.{Disposition}
-use Rattle.ssh_transport.specs.declared.session.Disposition.TheVariants.{Delivers, Done, Rekeys}
+use Rattle.ssh_transport.specs.Handling.{GivesKeys, GivesNothing, GivesPayload, Outcome}
 use Rattle.ssh_transport.specs.declared.session.Session.{Session}
 use Rattle.ssh_transport.proofs.Handling.{finish_stage, skips_read}
 use Rattle.ssh_transport.proofs.Kexinits.{between_config, between_side}
@@ -46,10 +45,18 @@ raised_none side records w = record { of_agreement = omega arith; of_hosts = ome
 
 raised_begun : (side : Side) (records : List FinishedExchange) (own : List ℕ)
     → Raised side records Outside records (Inside (Created own)) 0 0 0
-raised_begun Client records own = record { of_agreement = omega arith; of_hosts = omega arith; of_lookups = omega
-    arith }
-raised_begun Server records own = record { of_agreement = omega arith; of_hosts = omega arith; of_lookups = omega
-    arith }
+raised_begun Client records own = record {
+  of_agreement = omega arith;
+  of_hosts = omega arith;
+  of_lookups = omega
+      arith;
+}
+raised_begun Server records own = record {
+  of_agreement = omega arith;
+  of_hosts = omega arith;
+  of_lookups = omega
+      arith;
+}
 
 -- to the machine that a message is for
 raised_for : (s s1 : Session) (m : Machine) → IsFor s m s1
@@ -57,19 +64,19 @@ raised_for : (s s1 : Session) (m : Machine) → IsFor s m s1
 raised_for s s1 m (inl f) =
     let same : s1.finished.items ≡ s.finished.items = ap (λ (x : Session). x.finished.items) (f.0).becomes in
     subst (λ (r : List FinishedExchange). Raised s.side s.finished.items (stands_of s.finished.items s.kex) r
-        (Inside m.stage) 0 0 0) (sym same)
+    (Inside m.stage) 0 0 0) (sym same)
     (subst (λ (x : Stage). Raised s.side s.finished.items (stands_of s.finished.items s.kex) s.finished.items (Inside x)
-        0 0 0) (sym (f.0).stage_is)
+    0 0 0) (sym (f.0).stage_is)
     (subst (λ (w : Where). Raised s.side s.finished.items w s.finished.items (Inside (Created (f.0).item.payload)) 0 0
-        0) (sym f.1) (raised_begun s.side s.finished.items (f.0).item.payload)))
+    0) (sym f.1) (raised_begun s.side s.finished.items (f.0).item.payload)))
 raised_for s s1 m (inr f) =
     let same : s1.finished.items ≡ s.finished.items = ap (λ (x : Session). x.finished.items) f.1 in
     let stands : stands_of s.finished.items s.kex ≡ Inside m.stage = ap
-        (λ (k : SessionKexState Machine). stands_of s.finished.items k) f.0 in
+    (λ (k : SessionKexState Machine). stands_of s.finished.items k) f.0 in
     subst (λ (r : List FinishedExchange). Raised s.side s.finished.items (stands_of s.finished.items s.kex) r
-        (Inside m.stage) 0 0 0) (sym same)
+    (Inside m.stage) 0 0 0) (sym same)
     (subst (λ (w : Where). Raised s.side s.finished.items w s.finished.items (Inside m.stage) 0 0 0) (sym stands)
-        (raised_none s.side s.finished.items (Inside m.stage)))
+    (raised_none s.side s.finished.items (Inside m.stage)))
 
 -- ---- a message
 
@@ -112,15 +119,15 @@ raised_end Server x made None records kept q f e =
 raised_end Server x made (Some host) records kept q f e = cc
 
 -- a message that was handed to the machine
-raised_moved : (says : Says) (s1 s' : Session) (m : Machine) (i : Incoming) (answer : Disposition)
+raised_moved : (says : Says) (s1 s' : Session) (m : Machine) (i : Incoming) (answer : Outcome)
     → config_fault m.setting.side m.setting.config ≡ None → IsStageOf m.setting.side m.stage
     → Moves says s1 m i answer s' → RaisedTo m.setting.side s1.finished.items m.stage s'.finished.items
     (stands_of s'.finished.items s'.kex)
-raised_moved says s1 s' m i Delivers v f h = absurd h
-raised_moved says s1 s' m i Done v f h =
+raised_moved says s1 s' m i GivesPayload v f h = absurd h
+raised_moved says s1 s' m i GivesNothing v f h =
     let records : s'.finished.items ≡ s1.finished.items = ap (λ (x : Session). x.finished.items) h.becomes in
     let stands : stands_of s'.finished.items s'.kex ≡ Inside (h.next).stage = ap
-        (λ (x : Session). stands_of s'.finished.items x.kex) h.becomes in
+    (λ (x : Session). stands_of s'.finished.items x.kex) h.becomes in
     let stage : StageAnswers m.setting.side m.stage (h.next).stage = elim h.does [
       | inl d ↦ subst (λ (x : Stage). StageAnswers m.setting.side m.stage x)
           (sym (ap (λ (x : Machine). x.stage) d.kex_is)) (dropped_answers m.setting.side m.stage d.drops)
@@ -128,8 +135,8 @@ raised_moved says s1 s' m i Done v f h =
     ] in
     subst (λ (w : Where). RaisedTo m.setting.side s1.finished.items m.stage s'.finished.items w) (sym stands)
     (subst (λ (r : List FinishedExchange). RaisedTo m.setting.side s1.finished.items m.stage r (Inside (h.next).stage))
-        (sym records) (raised_step m.setting.side s1.finished.items m.stage (h.next).stage stage))
-raised_moved says s1 s' m i (Rekeys opening again) v f h = by (h.done).ends
+    (sym records) (raised_step m.setting.side s1.finished.items m.stage (h.next).stage stage))
+raised_moved says s1 s' m i (GivesKeys opening again) v f h = by (h.done).ends
   where
     k : NewKeys
     k = h.newkeys
@@ -149,30 +156,30 @@ raised_moved says s1 s' m i (Rekeys opening again) v f h = by (h.done).ends
         let e = (finish_stage m.stage i.payload.now (h.done).exchange (h.done).made h.host q.0).1 in
         subst (λ (w : Where). RaisedTo m.setting.side s1.finished.items m.stage s'.finished.items w) (sym idle)
         (subst (λ (r : List FinishedExchange). RaisedTo m.setting.side s1.finished.items m.stage r
-            (after_exchanges s'.finished.items)) (sym h.installs.2)
+        (after_exchanges s'.finished.items)) (sym h.installs.2)
         (subst (λ (x : Stage). RaisedTo m.setting.side s1.finished.items x (s1.finished.items ++ kept ∷ [])
-            (after_exchanges s'.finished.items)) (sym e)
+        (after_exchanges s'.finished.items)) (sym e)
         (raised_end m.setting.side (h.done).exchange (h.done).made h.host s1.finished.items kept s'.finished.items
-            (subst (λ (x : Stage). IsStageOf m.setting.side x) e f) ((h.done).newkeys).names_is)))
+        (subst (λ (x : Stage). IsStageOf m.setting.side x) e f) ((h.done).newkeys).names_is)))
 
 -- What was answered for a message that is taken.
-pub message_answers : (says : Says) (s s1 s' : Session) (m : Machine) (i : Incoming) (answer : Disposition)
+pub message_answers : (says : Says) (s s1 s' : Session) (m : Machine) (i : Incoming) (answer : Outcome)
     (t t' : PartTests) → config_fault s.side s.config.now ≡ None → IsOpen s → IsFor s m s1 → Moves says s1 m i answer s'
     → MoveAnswers m.setting.side m.stage (stands_of s'.finished.items s'.kex) t t'
     → AnswersAll s.side (state_of s) (state_of s') t t'
 message_answers says s s1 s' m i answer t t' v o f h a =
     let side : m.setting.side ≡ s.side = ap (λ (x : Setting). x.side) (set_for s s1 m o f)
-        ∙ between_side s.side s.config.now _ _ in
+    ∙ between_side s.side s.config.now _ _ in
     let config : m.setting.config ≡ s.config.now = ap (λ (x : Setting). x.config) (set_for s s1 m o f)
-        ∙ between_config s.side s.config.now _ _ in
+    ∙ between_config s.side s.config.now _ _ in
     let valid : config_fault m.setting.side m.setting.config ≡ None = subst
-        (λ (x : Side). config_fault x m.setting.config ≡ None) (sym side)
-        (subst (λ (x : Config). config_fault s.side x ≡ None) (sym config) v) in
+    (λ (x : Side). config_fault x m.setting.config ≡ None) (sym side)
+    (subst (λ (x : Config). config_fault s.side x ≡ None) (sym config) v) in
     let b : MoveAnswers s.side m.stage (stands_of s'.finished.items s'.kex) t t' = subst
-        (λ (x : Side). MoveAnswers x m.stage (stands_of s'.finished.items s'.kex) t t') side a in
+    (λ (x : Side). MoveAnswers x m.stage (stands_of s'.finished.items s'.kex) t t') side a in
     let r : RaisedTo s.side s1.finished.items m.stage s'.finished.items (stands_of s'.finished.items s'.kex) = subst
-        (λ (x : Side). RaisedTo x s1.finished.items m.stage s'.finished.items (stands_of s'.finished.items s'.kex)) side
-        (raised_moved says s1 s' m i answer valid a.fits h) in
+    (λ (x : Side). RaisedTo x s1.finished.items m.stage s'.finished.items (stands_of s'.finished.items s'.kex)) side
+    (raised_moved says s1 s' m i answer valid a.fits h) in
     let q = raised_for s s1 m f in
     let qa = q.of_agreement in
     let qh = q.of_hosts in

@@ -106,8 +106,12 @@ answered_last : (says : Says) (side : Side) (config : Config) (own : List ℕ) (
     → Answered says side config own st (p ∷ []) w w' (spot_renumbered true (spot_of w'))
 answered_last says side config own st p w mid w' e h k = record {
   events = AnswerSent item true ∷ [];
-  steps = (answering st [] (spot_renumbered true (spot_of mid)) mid.count, puts_step st w mid p [] true (sym e) h, ap
-      (λ (x : Writer). answering st [] (spot_renumbered true (spot_of x)) x.count) k);
+  steps = (
+    answering st [] (spot_renumbered true (spot_of mid)) mid.count,
+    puts_step st w mid p [] true (sym e) h,
+    ap
+        (λ (x : Writer). answering st [] (spot_renumbered true (spot_of x)) x.count) k,
+  );
   output = ap (λ (x : Writer). x.output) k ∙ ap (λ (x : Writer). x.output) (moved w mid p h)
       ∙ ap (λ (t : List ℕ). w.output ++ t) (sym (append-nil (sealed_packet w.sealing w.number item)));
   bytes = λ at. refl;
@@ -155,11 +159,11 @@ answered_strict says side config own st written w w' e (inl f) h =
 answered_strict says side config own st written w w' e (inr f) h =
     let k : PutsAll w (f.0 ∷ newkeys ∷ []) w' = subst (λ (ps : List (List ℕ)). PutsAll w ps w') f.1 h in
     subst (λ (ps : List (List ℕ)). Answered says side config own st ps w w' (spot_renumbered true (spot_of w')))
-        (sym f.1)
+    (sym f.1)
     (answered_more says side config own st f.0 (newkeys ∷ []) w k.0 w' (spot_renumbered true (spot_of w'))
-        (and_not (strict_now st.stands) (message_type f.0 == 21) f.2) k.1
+    (and_not (strict_now st.stands) (message_type f.0 == 21) f.2) k.1
     (answered_last says side config own st newkeys k.0 (k.2).0 w' (and_yes (strict_now st.stands) true e refl) (k.2).1
-        (k.2).2))
+    (k.2).2))
 
 -- ---- which they are
 
@@ -187,9 +191,12 @@ ends_in_newkeys says s (AwaitsReply o gex local public) seqn payload written exc
     h.leads.written_is
 ends_in_newkeys says s (AwaitsRequest o) seqn payload written exchange made host h = absurd
     (let e = h.leads.next_is in cc)
-ends_in_newkeys says s (AwaitsValue o gex) seqn payload written exchange made host h = inr
-    (reply_message (is_gex o.names.kex) h.shown.blob h.own_value h.signature, h.leads.written_is, reply_other
-    (is_gex o.names.kex) h.shown.blob h.own_value h.signature)
+ends_in_newkeys says s (AwaitsValue o gex) seqn payload written exchange made host h = inr (
+  reply_message (is_gex o.names.kex) h.shown.blob h.own_value h.signature,
+  h.leads.written_is,
+  reply_other
+      (is_gex o.names.kex) h.shown.blob h.own_value h.signature,
+)
 ends_in_newkeys says s (AwaitsNewkeys x m k) seqn payload written exchange made host h = absurd h
 
 or_same : (a b : Bool) → (b ≡ true → a ≡ true) → (a || b) ≡ a
@@ -229,8 +236,8 @@ answered_taken says side config own s stage (AwaitsValue o gex) seqn payload wri
 answered_taken says side config own s stage (AwaitsNewkeys exchange made host) seqn payload written st w w' reset e f r
     t h =
     answered_by says side config own st written w w' reset
-        (e ∙ sym (r ∙ or_same made.names.strict_kex (was_strict s.cause) f))
-        (ends_in_newkeys says s stage seqn payload written exchange made host t) h
+    (e ∙ sym (r ∙ or_same made.names.strict_kex (was_strict s.cause) f))
+    (ends_in_newkeys says s stage seqn payload written exchange made host t) h
 
 -- ---- the flags of the names
 

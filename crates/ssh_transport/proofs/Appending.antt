@@ -21,8 +21,11 @@ same_behind : (old new : Writer) → SameButRoom old new → Behind old new
 same_behind old new e = ([], ap (λ (w : Writer). w.output) e ∙ sym (append-nil old.output))
 
 put_behind : (old new : Writer) (payload : List ℕ) → Puts old payload new → Behind old new
-put_behind old new payload h = (sealed_packet old.sealing old.number (item_of old.sealing payload h.stream), ap
-    (λ (w : Writer). w.output) (moved old new payload h))
+put_behind old new payload h = (
+  sealed_packet old.sealing old.number (item_of old.sealing payload h.stream),
+  ap
+      (λ (w : Writer). w.output) (moved old new payload h),
+)
 
 then_behind : (a b c : Writer) → Behind a b → Behind b c → Behind a c
 then_behind a b c h k = (h.0 ++ k.0, k.1 ∙ ap (λ (t : List ℕ). t ++ k.0) h.1 ∙ append_assoc a.output h.0 k.0)
@@ -39,8 +42,12 @@ pub appends_same : (s s' : Session) → IsAsBefore s s' → Appends s s'
 appends_same s s' h = record { more = []; output = h.output ∙ sym (append-nil s.writer.output); records = h.records }
 
 pub appends_join : (a b c : Session) → Appends a b → Appends b c → Appends a c
-appends_join a b c h k = record { more = h.more ++ k.more; output = k.output ∙ ap (λ (t : List ℕ). t ++ k.more) h.output
-    ∙ append_assoc a.writer.output h.more k.more; records = k.records ∙ h.records }
+appends_join a b c h k = record {
+  more = h.more ++ k.more;
+  output = k.output ∙ ap (λ (t : List ℕ). t ++ k.more) h.output
+      ∙ append_assoc a.writer.output h.more k.more;
+  records = k.records ∙ h.records;
+}
 
 pub appends_none : (s : Session) (w : Writer) → SameButRoom s.writer w → Appends s (record s { writer = w })
 appends_none s w h = appends_by s (record s { writer = w }) (same_behind s.writer w h) refl
@@ -50,10 +57,18 @@ pub appends_done : (s : Session) (m : Machine) (i : Incoming) (host : Rattle.std
 appends_done s m i host k w h = appends_by s (record s { writer = w }) (all_behind s.writer w h.written h.puts) refl
 
 appends_for : (s s1 : Session) (m : Machine) → IsFor s m s1 → Appends s s1
-appends_for s s1 m (inl f) = record { more = sealed_packet s.writer.sealing s.writer.number (f.0).item; output = ap
-    (λ (w : Writer). w.output) (f.0).sends.written; records = ap (λ (x : Session). x.finished.items) (f.0).becomes }
-appends_for s s1 m (inr f) = record { more = []; output = ap (λ (x : Session). x.writer.output) f.1
-    ∙ sym (append-nil s.writer.output); records = ap (λ (x : Session). x.finished.items) f.1 }
+appends_for s s1 m (inl f) = record {
+  more = sealed_packet s.writer.sealing s.writer.number (f.0).item;
+  output = ap
+      (λ (w : Writer). w.output) (f.0).sends.written;
+  records = ap (λ (x : Session). x.finished.items) (f.0).becomes;
+}
+appends_for s s1 m (inr f) = record {
+  more = [];
+  output = ap (λ (x : Session). x.writer.output) f.1
+      ∙ sym (append-nil s.writer.output);
+  records = ap (λ (x : Session). x.finished.items) f.1;
+}
 
 pub appends_taken : {T : Type 0} (s s1 s' : Session) (m : Machine)
     (answer : Result T Rattle.ssh_wire.specs.declared.error.Error.Error) → IsFor s m s1 → OnErr answer (Appends s1 s')

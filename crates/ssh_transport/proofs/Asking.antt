@@ -37,7 +37,7 @@ use Rattle.ssh_transport.specs.States.{after_exchanges, reading_spot, stands_of,
 use Rattle.ssh_transport.specs.Taking.{Hears, TakesUp}
 use Rattle.ssh_transport.specs.declared.connection.Connection.{Connection}
 use Rattle.ssh_transport.specs.declared.session.Disposition.{Disposition}
-use Rattle.ssh_transport.specs.declared.session.Disposition.TheVariants.{Delivers, Done, Rekeys}
+use Rattle.ssh_transport.specs.Handling.{GivesKeys, GivesNothing, GivesPayload, Outcome}
 use Rattle.ssh_transport.specs.declared.session.Session.{Session}
 use Rattle.ssh_transport.proofs.Answered.{message_answers}
 use Rattle.ssh_transport.proofs.Kexinits.{between_side}
@@ -85,9 +85,9 @@ pub moves_on : (says : Says) (m : Machine) (i : Incoming) (old new : Writer)
 moves_on says m i old new answer p kex reset n n' a e h c q = taken_asks says m i old new kex reset n n'
     (subst (λ (x : KexProgress Machine). Progresses says m (Some i) old x new) e h)
     (subst (λ (x : Option Stage). StepCalls m.setting.side m.stage x n.calls n'.calls)
-        (ap next_of a ∙ ap (λ (x : KexProgress Machine). next_of (Ok x)) e) c)
+    (ap next_of a ∙ ap (λ (x : KexProgress Machine). next_of (Ok x)) e) c)
     (subst (λ (x : Option Stage). StepAnswers m.setting.side m.stage x n.tests n'.tests)
-        (ap (λ (x : KexProgress Machine). next_of (Ok x)) e) q)
+    (ap (λ (x : KexProgress Machine). next_of (Ok x)) e) q)
 
 -- a machine that refuses
 pub refused_asks : (side : Side) (stage : Stage) (answer : Result (KexProgress Machine) Error) (error : Error)
@@ -95,15 +95,24 @@ pub refused_asks : (side : Side) (stage : Stage) (answer : Result (KexProgress M
     → AsksForMessage side (Inside stage) n n'
 refused_asks side stage answer error n n' e h =
     let c : StepCalls side stage None n n' = subst (λ (x : Option Stage). StepCalls side stage x n n') (ap next_of e) h
-        in
+    in
     let b = stage_bounds side stage in
     record {
-      agreement = (c.agreement_later, (let y = c.agreement in let z = b.agreement_once in omega (arith, y, z)),
-          (let y = c.agreement in let z = b.agreement in omega (arith, y, z)));
-      hosts = (c.hosts_later, (let y = c.hosts in let z = b.hosts_once in omega (arith, y, z)),
-          (let y = c.hosts in let z = b.hosts in omega (arith, y, z)));
-      lookups = (c.lookups_later, (let y = c.lookups in let z = b.lookups_once in omega (arith, y, z)),
-          (let y = c.lookups in let z = b.lookups in omega (arith, y, z)));
+      agreement = (
+        c.agreement_later,
+        (let y = c.agreement in let z = b.agreement_once in omega (arith, y, z)),
+        (let y = c.agreement in let z = b.agreement in omega (arith, y, z)),
+      );
+      hosts = (
+        c.hosts_later,
+        (let y = c.hosts in let z = b.hosts_once in omega (arith, y, z)),
+        (let y = c.hosts in let z = b.hosts in omega (arith, y, z)),
+      );
+      lookups = (
+        c.lookups_later,
+        (let y = c.lookups in let z = b.lookups_once in omega (arith, y, z)),
+        (let y = c.lookups in let z = b.lookups in omega (arith, y, z)),
+      );
       groups = (let y = c.lookups in let z = request_alone stage in omega (arith, y, z));
     }
 
@@ -203,9 +212,9 @@ ended_answers : (side : Side) (stage : Stage) (host : Option ServerHost) (t t' :
     → MoveAnswers side stage (after_exchanges records) t t'
 ended_answers side stage host t t' e h records = behind_end side stage t t' (h.step).fits
     (subst (λ (q : ℕ → ℕ → Bool). Raises (answers_agreement side stage None) t.agreement q) (sym h.agreement)
-        (h.step).agreement)
+    (h.step).agreement)
     (subst (λ k. Raises (asks_hosts stage + k) t.hosts t'.hosts) e
-        (raises_join (asks_hosts stage) (asks_trust host) t.hosts (h.mid).hosts t'.hosts (h.step).hosts h.hosts))
+    (raises_join (asks_hosts stage) (asks_trust host) t.hosts (h.mid).hosts t'.hosts (h.step).hosts h.hosts))
     (subst (λ (q : ℕ → ℕ → Bool). Raises (asks_groups stage) t.lookups q) (sym h.lookups) (h.step).lookups) records
 
 -- what is to come where no exchange is open
@@ -225,12 +234,18 @@ ends_on m i old new host k records n n' d c q =
     let o = outside_none m.setting.side records in
     let s = c.step in
     record {
-      agreement = ((let x = s.agreement_later in let y = c.agreement in omega (arith, x, y)),
-          (let x = s.agreement in let y = c.agreement in let z = b.agreement in omega (arith, x, y, z, o.0)));
-      hosts = ((let x = s.hosts_later in let y = c.hosts_later in omega (arith, x, y)),
-          (let x = s.hosts in let y = c.hosts in let z = e.hosts in omega (arith, x, y, z, o.1)));
-      lookups = ((let x = s.lookups_later in let y = c.lookups in omega (arith, x, y)),
-          (let x = s.lookups in let y = c.lookups in let z = b.lookups in omega (arith, x, y, z, o.2)));
+      agreement = (
+        (let x = s.agreement_later in let y = c.agreement in omega (arith, x, y)),
+        (let x = s.agreement in let y = c.agreement in let z = b.agreement in omega (arith, x, y, z, o.0)),
+      );
+      hosts = (
+        (let x = s.hosts_later in let y = c.hosts_later in omega (arith, x, y)),
+        (let x = s.hosts in let y = c.hosts in let z = e.hosts in omega (arith, x, y, z, o.1)),
+      );
+      lookups = (
+        (let x = s.lookups_later in let y = c.lookups in omega (arith, x, y)),
+        (let x = s.lookups in let y = c.lookups in let z = b.lookups in omega (arith, x, y, z, o.2)),
+      );
       groups = (let x = s.lookups in let y = c.lookups in omega (arith, x, y));
       answers = ended_answers m.setting.side m.stage host n.tests n'.tests
           (trust_is m.setting m.stage i.seqn i.payload.now d.written d.exchange d.made host d.ends) q records;
@@ -244,26 +259,32 @@ ends_refused m i old new host k n n' d c =
     let e = end_bounds m.setting.side m.setting m.stage i.seqn i.payload.now d.written d.exchange d.made host d.ends in
     let s = c.step in
     record {
-      agreement = ((let x = s.agreement_later in let y = c.agreement in omega (arith, x, y)),
-          (let x = s.agreement in let y = c.agreement in let z = b.agreement_once in omega (arith, x, y, z)),
-          (let x = s.agreement in let y = c.agreement in let z = b.agreement in omega (arith, x, y, z)));
-      hosts = ((let x = s.hosts_later in let y = c.hosts_later in omega (arith, x, y)),
-          (let x = s.hosts in let y = c.hosts in let z = e.once in omega (arith, x, y, z)),
-          (let x = s.hosts in let y = c.hosts in let z = e.hosts in omega (arith, x, y, z)));
-      lookups = ((let x = s.lookups_later in let y = c.lookups in omega (arith, x, y)),
-          (let x = s.lookups in let y = c.lookups in let z = b.lookups_once in omega (arith, x, y, z)),
-          (let x = s.lookups in let y = c.lookups in let z = b.lookups in omega (arith, x, y, z)));
+      agreement = (
+        (let x = s.agreement_later in let y = c.agreement in omega (arith, x, y)),
+        (let x = s.agreement in let y = c.agreement in let z = b.agreement_once in omega (arith, x, y, z)),
+        (let x = s.agreement in let y = c.agreement in let z = b.agreement in omega (arith, x, y, z)),
+      );
+      hosts = (
+        (let x = s.hosts_later in let y = c.hosts_later in omega (arith, x, y)),
+        (let x = s.hosts in let y = c.hosts in let z = e.once in omega (arith, x, y, z)),
+        (let x = s.hosts in let y = c.hosts in let z = e.hosts in omega (arith, x, y, z)),
+      );
+      lookups = (
+        (let x = s.lookups_later in let y = c.lookups in omega (arith, x, y)),
+        (let x = s.lookups in let y = c.lookups in let z = b.lookups_once in omega (arith, x, y, z)),
+        (let x = s.lookups in let y = c.lookups in let z = b.lookups in omega (arith, x, y, z)),
+      );
       groups = (let x = s.lookups in let y = c.lookups in let z = request_alone m.stage in omega (arith, x, y, z));
     }
 
 -- the session behind it
-pub ended_asks : (s s' : Session) (k : NewKeys) (answer : Disposition) (m : Machine) (n n' : PartTally)
+pub ended_asks : (s s' : Session) (k : NewKeys) (answer : Outcome) (m : Machine) (n n' : PartTally)
     → Installs s k answer s' → ((records : List FinishedExchange)
     → MoveAsks m.setting.side m.stage (after_exchanges records) n n')
     → MoveAsks m.setting.side m.stage (stands_of s'.finished.items s'.kex) n n'
-ended_asks s s' k Delivers m n n' h f = absurd h
-ended_asks s s' k Done m n n' h f = absurd h
-ended_asks s s' k (Rekeys opening again) m n n' h f = subst (λ (x : Where). MoveAsks m.setting.side m.stage x n n')
+ended_asks s s' k GivesPayload m n n' h f = absurd h
+ended_asks s s' k GivesNothing m n n' h f = absurd h
+ended_asks s s' k (GivesKeys opening again) m n n' h f = subst (λ (x : Where). MoveAsks m.setting.side m.stage x n n')
     (sym (ap (λ (x : Session). stands_of s'.finished.items x.kex) h.3)) (f s'.finished.items)
 
 -- ---- a message
@@ -272,14 +293,14 @@ one_more : (a b : List FinishedExchange) (x : FinishedExchange) → a ≡ b ++ x
 one_more a b x e = ap length e ∙ length-append b (x ∷ [])
 
 -- how many exchanges were begun behind it
-moved_begun : (says : Says) (s1 s' : Session) (m : Machine) (i : Incoming) (answer : Disposition)
+moved_begun : (says : Says) (s1 s' : Session) (m : Machine) (i : Incoming) (answer : Outcome)
     → Moves says s1 m i answer s' → begun (state_of s') ≡ length s1.finished.items + 1
-moved_begun says s1 s' m i Delivers h = absurd h
-moved_begun says s1 s' m i Done h = ap (λ (x : Session). begun (state_of x)) h.becomes
-moved_begun says s1 s' m i (Rekeys opening again) h =
+moved_begun says s1 s' m i GivesPayload h = absurd h
+moved_begun says s1 s' m i GivesNothing h = ap (λ (x : Session). begun (state_of x)) h.becomes
+moved_begun says s1 s' m i (GivesKeys opening again) h =
     let more = h.installs.2 in
     let idle : stands_of s'.finished.items s'.kex ≡ after_exchanges s'.finished.items = ap
-        (λ (x : Session). stands_of s'.finished.items x.kex) h.installs.3 in
+    (λ (x : Session). stands_of s'.finished.items x.kex) h.installs.3 in
     let none : open_count (stands_of s'.finished.items s'.kex) ≡ 0 = ap open_count idle ∙ closed s'.finished.items in
     let l = one_more s'.finished.items s1.finished.items _ more in
     omega (arith, none, l)
@@ -307,10 +328,13 @@ once_from to_come each stage stands before after n n' f h =
 
 from_inside : (to_come : Where → ℕ) (each : ℕ) (stage : Stage) (stands : Where) (before after : ℕ)
     → stands ≡ Inside stage → after ≡ before → IsFrom to_come each stage stands before after
-from_inside to_come each stage stands before after e f = record
-    { later = omega (arith, f); paid = (let y : to_come stands ≡ to_come (Inside stage) = ap to_come e in omega
-    (arith, y)); once = (let y : to_come_for to_come each stands ≡ to_come (Inside stage) = ap
-    (to_come_for to_come each) e in omega (arith, y)) }
+from_inside to_come each stage stands before after e f = record {
+  later = omega (arith, f);
+  paid = (let y : to_come stands ≡ to_come (Inside stage) = ap to_come e in omega
+      (arith, y));
+  once = (let y : to_come_for to_come each stands ≡ to_come (Inside stage) = ap
+      (to_come_for to_come each) e in omega (arith, y));
+}
 
 from_outside : (to_come : Where → ℕ) (each : ℕ) (stage : Stage) (stands : Where) (before after : ℕ) → stands ≡ Outside
     → after ≡ before + 1 → to_come (Inside stage) ≡ each → IsFrom to_come each stage stands before after
@@ -352,17 +376,17 @@ parts_for : (s s1 : Session) (m : Machine) (after : ℕ) → after ≡ length s1
     → PartsFrom s.side m.stage (stands_of s.finished.items s.kex) (begun (state_of s)) after
 parts_for s s1 m after e (inl f) =
     let same : length s1.finished.items ≡ length s.finished.items = ap (λ (x : Session). length x.finished.items)
-        (f.0).becomes in
+    (f.0).becomes in
     let none : open_count (stands_of s.finished.items s.kex) ≡ 0 = ap open_count f.1 in
     parts_outside s.side m.stage (f.0).item.payload (stands_of s.finished.items s.kex) (begun (state_of s)) after
-        (f.0).stage_is f.1 (omega (arith, e, same, none))
+    (f.0).stage_is f.1 (omega (arith, e, same, none))
 parts_for s s1 m after e (inr f) =
     let same : length s1.finished.items ≡ length s.finished.items = ap (λ (x : Session). length x.finished.items) f.1 in
     let stands : stands_of s.finished.items s.kex ≡ Inside m.stage = ap
-        (λ (k : SessionKexState Machine). stands_of s.finished.items k) f.0 in
+    (λ (k : SessionKexState Machine). stands_of s.finished.items k) f.0 in
     let one : open_count (stands_of s.finished.items s.kex) ≡ 1 = ap open_count stands in
     parts_inside s.side m.stage (stands_of s.finished.items s.kex) (begun (state_of s)) after stands
-        (omega (arith, e, same, one))
+    (omega (arith, e, same, one))
 
 -- ---- group exchanges
 
@@ -375,9 +399,9 @@ groups_for : (s s1 : Session) (m : Machine) → IsFor s m s1 → GroupsFor s m.s
 groups_for s s1 m (inl f) =
     let stage : m.stage ≡ Created (f.0).item.payload = (f.0).stage_is in
     let same : groups_in s1.finished.items ≡ groups_in s.finished.items = ap
-        (λ (x : Session). groups_in x.finished.items) (f.0).becomes in
+    (λ (x : Session). groups_in x.finished.items) (f.0).becomes in
     let none : group_in (names_now (stands_of s.finished.items s.kex)) ≡ 0 = ap (λ (w : Where). group_in (names_now w))
-        f.1 in
+    f.1 in
     let first : group_in (names_in_stage m.stage) ≡ 0 = ap (λ (x : Stage). group_in (names_in_stage x)) stage in
     record {
       due = ap request_due f.1 ∙ sym (ap (λ (x : Stage). request_due (Inside x)) stage);
@@ -385,11 +409,11 @@ groups_for s s1 m (inl f) =
     }
 groups_for s s1 m (inr f) =
     let same : groups_in s1.finished.items ≡ groups_in s.finished.items = ap
-        (λ (x : Session). groups_in x.finished.items) f.1 in
+    (λ (x : Session). groups_in x.finished.items) f.1 in
     let stands : stands_of s.finished.items s.kex ≡ Inside m.stage = ap
-        (λ (k : SessionKexState Machine). stands_of s.finished.items k) f.0 in
+    (λ (k : SessionKexState Machine). stands_of s.finished.items k) f.0 in
     let now : group_in (names_now (stands_of s.finished.items s.kex)) ≡ group_in (names_in_stage m.stage) = ap
-        (λ (w : Where). group_in (names_now w)) stands in
+    (λ (w : Where). group_in (names_now w)) stands in
     record { due = ap request_due stands; chosen = omega (arith, same, now) }
 
 -- an exchange that ends asks for no group any more
@@ -413,22 +437,22 @@ ended_group s (AwaitsNewkeys y m k) seqn payload written x made host (inl h) =
 ended_group s (AwaitsNewkeys y m k) seqn payload written x made host (inr h) = absurd h
 
 -- a message that was handed to the machine
-moved_groups : (says : Says) (s1 s' : Session) (m : Machine) (i : Incoming) (answer : Disposition)
+moved_groups : (says : Says) (s1 s' : Session) (m : Machine) (i : Incoming) (answer : Outcome)
     → Moves says s1 m i answer s' → asks_groups m.stage + request_due (stands_of s'.finished.items s'.kex) +
     (groups_in s1.finished.items + group_in (names_in_stage m.stage)) ≤ request_due (Inside m.stage) + groups_chosen
     (state_of s')
-moved_groups says s1 s' m i Delivers h = absurd h
-moved_groups says s1 s' m i Done h =
+moved_groups says s1 s' m i GivesPayload h = absurd h
+moved_groups says s1 s' m i GivesNothing h =
     let due : request_due (stands_of s'.finished.items s'.kex) ≡ request_due (Inside (h.next).stage) = ap
-        (λ (x : Session). request_due (stands_of x.finished.items x.kex)) h.becomes in
+    (λ (x : Session). request_due (stands_of x.finished.items x.kex)) h.becomes in
     let chosen : groups_chosen (state_of s') ≡ groups_in s1.finished.items + group_in (names_in_stage (h.next).stage) =
-        ap (λ (x : Session). groups_chosen (state_of x)) h.becomes in
+    ap (λ (x : Session). groups_chosen (state_of x)) h.becomes in
     elim h.does [
       | inl d ↦ (
           let z = dropped_asks m.setting.side m.stage (Some (h.next).stage) d.drops in
           let k = dropped_group m.stage in
           let e : (h.next).stage ≡ Rattle.ssh_kex.specs.Stages.guess_dropped m.stage = ap (λ (x : Machine). x.stage)
-              d.kex_is in
+          d.kex_is in
           let a = ap (λ (x : Stage). request_due (Inside x)) e in
           let b = ap (λ (x : Stage). group_in (names_in_stage x)) e in
           omega (arith, due, chosen, z.2, k.0, k.1, a, b)
@@ -438,18 +462,18 @@ moved_groups says s1 s' m i Done h =
           omega (arith, due, chosen, g)
           )
     ]
-moved_groups says s1 s' m i (Rekeys opening again) h =
+moved_groups says s1 s' m i (GivesKeys opening again) h =
     let more = h.installs.2 in
     let idle : stands_of s'.finished.items s'.kex ≡ after_exchanges s'.finished.items = ap
-        (λ (x : Session). stands_of s'.finished.items x.kex) h.installs.3 in
+    (λ (x : Session). stands_of s'.finished.items x.kex) h.installs.3 in
     let due : request_due (stands_of s'.finished.items s'.kex) ≡ 0 = ap request_due idle ∙ none_due s'.finished.items in
     let now : group_in (names_now (stands_of s'.finished.items s'.kex)) ≡ 0 = ap (λ (w : Where). group_in (names_now w))
-        idle ∙ none_now s'.finished.items in
+    idle ∙ none_now s'.finished.items in
     let records = ap groups_in more ∙ groups_more s1.finished.items _ in
     let names : group_in (Some (h.newkeys).names) ≡ group_in (Some (h.done).made.names) = ap
-        (λ (n : Names). group_in (Some n)) ((h.done).newkeys).names_is in
+    (λ (n : Names). group_in (Some n)) ((h.done).newkeys).names_is in
     let e = ended_group m.setting m.stage i.seqn i.payload.now (h.done).written (h.done).exchange (h.done).made h.host
-        (h.done).ends in
+    (h.done).ends in
     omega (arith, due, now, records, names, e)
   where
     none_due : (records : List FinishedExchange) → request_due (after_exchanges records) ≡ 0
@@ -461,15 +485,15 @@ moved_groups says s1 s' m i (Rekeys opening again) h =
     none_now (x ∷ records) = refl
 
 -- a message that is taken
-pub message_asks : (says : Says) (s s1 s' : Session) (m : Machine) (i : Incoming) (answer : Disposition)
+pub message_asks : (says : Says) (s s1 s' : Session) (m : Machine) (i : Incoming) (answer : Outcome)
     (n n' : PartTally) → config_fault s.side s.config.now ≡ None → IsOpen s → IsFor s m s1 → Moves says s1 m i answer s'
     → MoveAsks m.setting.side m.stage (stands_of s'.finished.items s'.kex) n n' → AsksBetween s s' n n'
 message_asks says s s1 s' m i answer n n' v o f h a =
     let g = groups_for s s1 m f in
     let p = parts_for s s1 m (begun (state_of s')) (moved_begun says s1 s' m i answer h) f in
     let b : MoveAsks s.side m.stage (stands_of s'.finished.items s'.kex) n n' = subst
-        (λ (x : Side). MoveAsks x m.stage (stands_of s'.finished.items s'.kex) n n')
-        (ap (λ (x : Setting). x.side) (set_for s s1 m o f) ∙ between_side s.side s.config.now _ _) a in
+    (λ (x : Side). MoveAsks x m.stage (stands_of s'.finished.items s'.kex) n n')
+    (ap (λ (x : Setting). x.side) (set_for s s1 m o f) ∙ between_side s.side s.config.now _ _) a in
     record {
       later = p.agreement.later;
       within = record {
@@ -492,7 +516,7 @@ pub message_refused_asks : (s s1 : Session) (m : Machine) (n n' : PartCalls) →
 message_refused_asks s s1 m n n' o f a =
     let p = parts_for s s1 m (length s1.finished.items + 1) refl f in
     let b : AsksForMessage s.side (Inside m.stage) n n' = subst (λ (x : Side). AsksForMessage x (Inside m.stage) n n')
-        (ap (λ (x : Setting). x.side) (set_for s s1 m o f) ∙ between_side s.side s.config.now _ _) a in
+    (ap (λ (x : Setting). x.side) (set_for s s1 m o f) ∙ between_side s.side s.config.now _ _) a in
     record {
       agreement = once_from (agreement_to_come s.side) (calls_of s.side) m.stage (stands_of s.finished.items s.kex) _ _
           n.agreement n'.agreement p.agreement b.agreement;
@@ -512,13 +536,20 @@ typed_asks false side w n n' e h = cc
 
 -- of parts that say nothing of themselves
 abbrev pub untested : PartCalls → PartTally
-untested calls = record { calls = calls; tests = record
-    { agreement = λ known n. true; hosts = λ known n. true; lookups = λ known n. true } }
+untested calls = record {
+  calls = calls;
+  tests = record
+      { agreement = λ known n. true; hosts = λ known n. true; lookups = λ known n. true };
+}
 
 pub between_same : (s s' : Session) (n : PartTally) → s' ≡ s → AsksBetween s s' n n
 between_same s s' n e = subst (λ (x : Session). AsksBetween s x n n) (sym e)
-    (record { later = omega arith; within = asks_still s.side (state_of s) (state_of s) n.calls refl refl; answers =
-    answers_same s.side (state_of s) (state_of s) n.tests refl refl })
+    (record {
+      later = omega arith;
+      within = asks_still s.side (state_of s) (state_of s) n.calls refl refl;
+      answers =
+          answers_same s.side (state_of s) (state_of s) n.tests refl refl;
+    })
 
 pub between_join : (a b c : Session) (n m k : PartTally) → b.side ≡ a.side → AsksBetween a b n m → AsksBetween b c m k
     → AsksBetween a c n k
@@ -533,8 +564,12 @@ between_join a b c n m k e p q = record {
 -- what was asked where a side stands still, and then for what is refused there
 pub to_here : (s : Session) (at : Spot) (read : ℕ) (cause : RefusalCause) (n n' : PartCalls)
     → AsksForCause cause s.side (stands_of s.finished.items s.kex) n n' → AsksTo s n n' cause (state_at s at read)
-to_here s at read cause n n' h = record { mid = n; before = asks_still s.side (state_of s) (state_at s at read) n refl
-    refl; last = h }
+to_here s at read cause n n' h = record {
+  mid = n;
+  before = asks_still s.side (state_of s) (state_at s at read) n refl
+      refl;
+  last = h;
+}
 
 -- for a packet
 pub to_packet : (s : Session) (at : Spot) (read : ℕ) (i : Item) (payload : List ℕ) (n n' : PartCalls)
@@ -548,8 +583,17 @@ pub to_kept : (s s' : Session) (at : Spot) (read : ℕ) (n n' : PartTally) → s
     → AsksTo s n.calls n'.calls OfMemory (state_at s at read)
 to_kept s s' at read n n' e h =
     let k : AsksBetween s s n n' = subst (λ (x : Session). AsksBetween s x n n') e h in
-    record { mid = n'.calls; before = record { agreement = (k.within).agreement; hosts = (k.within).hosts; lookups =
-        (k.within).lookups; groups = (k.within).groups }; last = refl }
+    record {
+      mid = n'.calls;
+      before = record {
+        agreement = (k.within).agreement;
+        hosts = (k.within).hosts;
+        lookups =
+            (k.within).lookups;
+        groups = (k.within).groups;
+      };
+      last = refl;
+    }
 
 writes_none : (events : List Event) → OnlyWrites events → handled events ≡ []
 writes_none [] h = refl
@@ -570,9 +614,9 @@ pub between_written : (s s' : Session) (read : ℕ) (events : List Event) (n : P
     (state_at s' nowhere read) → AsksBetween s s' n n
 between_written s s' read events n u h =
     let k = asks_steps nothing_said s.side s.config.now (id_text s.config.now.id) events (state_at s nowhere read)
-        (state_at s' nowhere read) n.calls h in
+    (state_at s' nowhere read) n.calls h in
     let a = answers_still nothing_said s.side s.config.now (id_text s.config.now.id) events (state_at s nowhere read)
-        (state_at s' nowhere read) n.tests u h in
+    (state_at s' nowhere read) n.tests u h in
     record {
       later = begun_steps nothing_said s.side s.config.now (id_text s.config.now.id) events (state_at s nowhere read)
           (state_at s' nowhere read) h;
@@ -582,9 +626,17 @@ between_written s s' read events n u h =
 
 pub to_written : (s s' : Session) (at : Spot) (read : ℕ) (n n' : PartTally) → AsksBetween s s' n n'
     → AsksTo s n.calls n'.calls OfMemory (state_at s' at read)
-to_written s s' at read n n' k = record { mid = n'.calls; before = record
-    { agreement = (k.within).agreement; hosts = (k.within).hosts; lookups = (k.within).lookups; groups =
-    (k.within).groups }; last = refl }
+to_written s s' at read n n' k = record {
+  mid = n'.calls;
+  before = record {
+    agreement = (k.within).agreement;
+    hosts = (k.within).hosts;
+    lookups = (k.within).lookups;
+    groups =
+        (k.within).groups;
+  };
+  last = refl;
+}
 
 -- behind what was asked before
 pub to_later : (s s1 : Session) (n m : PartTally) (k : PartCalls) → s1.side ≡ s.side → AsksBetween s s1 n m
@@ -592,9 +644,13 @@ pub to_later : (s s1 : Session) (n m : PartTally) (k : PartCalls) → s1.side �
     → AsksTo s n.calls k cause at
 to_later s s1 n m k e p cause at b h =
     let g : AsksUntil s.side cause (state_of s1) at m.calls k = subst
-        (λ (x : Side). AsksUntil x cause (state_of s1) at m.calls k) e h in
-    record { mid = g.mid; before = asks_join s.side (state_of s) (state_of s1) at n.calls m.calls g.mid p.later b
-        p.within g.before; last = g.last }
+    (λ (x : Side). AsksUntil x cause (state_of s1) at m.calls k) e h in
+    record {
+      mid = g.mid;
+      before = asks_join s.side (state_of s) (state_of s1) at n.calls m.calls g.mid p.later b
+          p.within g.before;
+      last = g.last;
+    }
 
 -- while the line was heard
 pub to_still : (s : Session) (at : Spot) (read : ℕ) (n : PartCalls) (cause : RefusalCause) (events : List Event)
@@ -602,18 +658,27 @@ pub to_still : (s : Session) (at : Spot) (read : ℕ) (n : PartCalls) (cause : R
     → AsksTo s n n cause st
 to_still s at read n cause events st h =
     let k = asks_steps nothing_said s.side s.config.now (id_text s.config.now.id) events (state_at s at read) st n h in
-    record { mid = n; before = record { agreement = k.agreement; hosts = k.hosts; lookups = k.lookups; groups =
-        k.groups }; last = cause_none cause s.side st.stands n }
+    record {
+      mid = n;
+      before = record {
+        agreement = k.agreement;
+        hosts = k.hosts;
+        lookups = k.lookups;
+        groups =
+            k.groups;
+      };
+      last = cause_none cause s.side st.stands n;
+    }
 
 pub between_heard : (c mid : Connection) (piece : List ℕ) (n : PartTally) → Hears c piece mid
     → AsksBetween c.session mid.session n n
 between_heard c mid piece n h =
     let k = asks_steps nothing_said c.session.side c.session.config.now (id_text c.session.config.now.id) h.events
-        (state_at c.session (reading_spot c) c.reader.count) (state_at mid.session (reading_spot mid) mid.reader.count)
-        n.calls h.steps in
+    (state_at c.session (reading_spot c) c.reader.count) (state_at mid.session (reading_spot mid) mid.reader.count)
+    n.calls h.steps in
     let a = answers_still nothing_said c.session.side c.session.config.now (id_text c.session.config.now.id) h.events
-        (state_at c.session (reading_spot c) c.reader.count) (state_at mid.session (reading_spot mid) mid.reader.count)
-        n.tests h.unread h.steps in
+    (state_at c.session (reading_spot c) c.reader.count) (state_at mid.session (reading_spot mid) mid.reader.count)
+    n.tests h.unread h.steps in
     record {
       later = begun_steps nothing_said c.session.side c.session.config.now (id_text c.session.config.now.id) h.events
           (state_at c.session (reading_spot c) c.reader.count)

@@ -43,8 +43,15 @@ comes_acts says old new events t t' h a = record {
 }
 
 pub comes_still : (t : Standing) (p : PartTests) → ComesAnswered t t p p
-comes_still t p = record { side = refl; config = refl; events = []; steps = refl; output = sym (append-nil t.output);
-    quiet = λ q. q; answers = answers_same t.side t.state t.state p refl refl }
+comes_still t p = record {
+  side = refl;
+  config = refl;
+  events = [];
+  steps = refl;
+  output = sym (append-nil t.output);
+  quiet = λ q. q;
+  answers = answers_same t.side t.state t.state p refl refl;
+}
 
 pub comes_same : (old new : Standing) (p q : PartTests) → new ≡ old → q ≡ p → ComesAnswered old new p q
 comes_same old new p q e f = subst (λ (t : Standing). ComesAnswered old t p q) (sym e)
@@ -71,8 +78,15 @@ pub comes_fed : (says : Says) (old fed new : Standing) (piece : List ℕ) (t t' 
     → ComesAnswered old new t t'
 comes_fed says old fed new piece t t' e h a = subst (λ (x : Standing). ComesAnswered old x t t') (sym e) (
     let k = comes_acts says old fed h.events t t' h.acts a in
-    record { side = k.side; config = k.config; events = k.events; steps = k.steps; output = k.output; quiet = k.quiet;
-        answers = k.answers }
+    record {
+      side = k.side;
+      config = k.config;
+      events = k.events;
+      steps = k.steps;
+      output = k.output;
+      quiet = k.quiet;
+      answers = k.answers;
+    }
     )
 
 -- ---- one after the other
@@ -83,10 +97,10 @@ comes_join a b c p q r h k =
     let own = id_text a.config.id in
     let steps : Steps nothing_said a.side a.config own b.state k.events c.state =
     subst (λ (s : Side). Steps nothing_said s a.config own b.state k.events c.state) h.side
-        (subst (λ (x : Config). Steps nothing_said b.side x (id_text x.id) b.state k.events c.state) h.config k.steps)
-        in
+    (subst (λ (x : Config). Steps nothing_said b.side x (id_text x.id) b.state k.events c.state) h.config k.steps)
+    in
     let sent : c.output ≡ b.output ++ sent_bytes a.side b.state.writing k.events = subst
-        (λ (s : Side). c.output ≡ b.output ++ sent_bytes s b.state.writing k.events) h.side k.output in
+    (λ (s : Side). c.output ≡ b.output ++ sent_bytes s b.state.writing k.events) h.side k.output in
     record {
       side = k.side ∙ h.side;
       config = k.config ∙ h.config;
@@ -95,9 +109,9 @@ comes_join a b c p q r h k =
       output =
           sent ∙ ap (λ o. o ++ sent_bytes a.side b.state.writing k.events) h.output
           ∙ append_assoc a.output (sent_bytes a.side a.state.writing h.events)
-              (sent_bytes a.side b.state.writing k.events)
+          (sent_bytes a.side b.state.writing k.events)
           ∙ ap (λ o. a.output ++ o) (sym (sent_join nothing_said a.side a.config own h.events k.events a.state b.state
-              h.steps));
+          h.steps));
       quiet = λ n. k.quiet (h.quiet n);
       answers = answers_join a.side a.state b.state c.state p q r h.answers
           (subst (λ (s : Side). AnswersAll s b.state c.state q r) h.side k.answers);
@@ -106,10 +120,17 @@ comes_join a b c p q r h k =
 -- ---- from a new transport on
 
 first_quiet : (config : Config) → IsQuiet config first_state
-first_quiet config = record { owes = refl; not_called = refl; silent = λ s. refl; sent = λ o.
-    (let x : Rattle.ssh_rules.specs.Machine.Silent ≡ Rattle.ssh_rules.specs.Machine.Outside = o in cc); below_write =
-    λ o. (let x : Rattle.ssh_rules.specs.Machine.Silent ≡ Rattle.ssh_rules.specs.Machine.Outside = o in cc); below_read
-    = λ o. (let x : Rattle.ssh_rules.specs.Machine.Silent ≡ Rattle.ssh_rules.specs.Machine.Outside = o in cc) }
+first_quiet config = record {
+  owes = refl;
+  not_called = refl;
+  silent = λ s. refl;
+  sent = λ o.
+      (let x : Rattle.ssh_rules.specs.Machine.Silent ≡ Rattle.ssh_rules.specs.Machine.Outside = o in cc);
+  below_write =
+      λ o. (let x : Rattle.ssh_rules.specs.Machine.Silent ≡ Rattle.ssh_rules.specs.Machine.Outside = o in cc);
+  below_read
+      = λ o. (let x : Rattle.ssh_rules.specs.Machine.Silent ≡ Rattle.ssh_rules.specs.Machine.Outside = o in cc);
+}
 
 pub answered_new : (side : Side) (config : Config) (first old new : Standing) (wire : List ℕ)
     (exchanges : List FinishedExchange) (t t' : PartTests) → IsNew side config first → old ≡ first
@@ -133,8 +154,13 @@ answered_new side config first old new wire exchanges t t' n e h w r = by (e ∙
       let c : ComesAnswered start new t t' = subst (λ (x : Standing). ComesAnswered x new t t') i k in
       record {
         ends = new.state;
-        came = record { events = c.events; steps = c.steps; sent = w
-            ∙ c.output; quiet = subst (λ (x : Config). IsQuiet x new.state) c.config (c.quiet (first_quiet config)) };
+        came = record {
+          events = c.events;
+          steps = c.steps;
+          sent = w
+              ∙ c.output;
+          quiet = subst (λ (x : Config). IsQuiet x new.state) c.config (c.quiet (first_quiet config));
+        };
         records = sym r;
         answers = c.answers;
       }

@@ -57,12 +57,12 @@ trimmed_short (b ∷ rest) = let h = before_short b (without_line_ends rest) in 
 pub id_short : (id : SshId) → is_good_id id ≡ true → length (id_text id) ≤ 255
 id_short (Standard text) h =
     let l = at_most (length (text ++ line_ending)) 255 (and_last (is_id_line_text (id_line_text (Standard text)))
-        (nat_le (length (text ++ line_ending)) 255) h) in
+    (nat_le (length (text ++ line_ending)) 255) h) in
     let s = length-append text line_ending in
     omega (arith, l, s)
 id_short (Raw text) h =
     let l = at_most (length text) 255 (and_last (is_id_line_text (id_line_text (Raw text))) (nat_le (length text) 255)
-        h) in
+    h) in
     let s = trimmed_short text in
     omega (arith, l, s)
 
@@ -71,7 +71,7 @@ keys_short : (keys : List HostKey) → list_any (λ (k : HostKey). nat_lt longes
 keys_short [] h = All-nil (λ (k : HostKey). length k.blob < 2 ^ 31)
 keys_short (k ∷ keys) h =
     let p = or_parts (nat_lt longest_blob (length k.blob))
-        (list_any (λ (k : HostKey). nat_lt longest_blob (length k.blob)) keys) h in
+    (list_any (λ (k : HostKey). nat_lt longest_blob (length k.blob)) keys) h in
     let s : length k.blob < 2 ^ 31 = (let w = within longest_blob (length k.blob) p.0 in omega (arith, w)) in
     All-cons (λ (k : HostKey). length k.blob < 2 ^ 31) k keys s (keys_short keys p.1)
 
@@ -81,7 +81,7 @@ certificates_short : (keys : List HostCertificate) → list_any
 certificates_short [] h = All-nil (λ (c : HostCertificate). length c.blob < 2 ^ 31)
 certificates_short (k ∷ keys) h =
     let p = or_parts (nat_lt longest_blob (length k.blob))
-        (list_any (λ (c : HostCertificate). nat_lt longest_blob (length c.blob)) keys) h in
+    (list_any (λ (c : HostCertificate). nat_lt longest_blob (length c.blob)) keys) h in
     let s : length k.blob < 2 ^ 31 = (let w = within longest_blob (length k.blob) p.0 in omega (arith, w)) in
     All-cons (λ (c : HostCertificate). length c.blob < 2 ^ 31) k keys s (certificates_short keys p.1)
 
@@ -91,13 +91,22 @@ usable side config h =
     let w = is_within side config h in
     let i = id_short config.id (not_false (is_good_id config.id) t.0) in
     let b = or_parts (list_any (λ (k : HostKey). nat_lt longest_blob (length k.blob)) config.host.keys)
-        (list_any (λ (c : HostCertificate). nat_lt longest_blob (length c.blob)) config.host.certificates) t.5 in
+    (list_any (λ (c : HostCertificate). nat_lt longest_blob (length c.blob)) config.host.certificates) t.5 in
     record {
       id = omega (arith, i);
-      lists = record { kex = w.kex.size; key = w.key.size; cipher = w.cipher.size; mac = w.mac.size; compression =
-          w.compression.size };
-      blobs = record { keys = keys_short config.host.keys b.0; certificates = certificates_short
-          config.host.certificates b.1 };
+      lists = record {
+        kex = w.kex.size;
+        key = w.key.size;
+        cipher = w.cipher.size;
+        mac = w.mac.size;
+        compression =
+            w.compression.size;
+      };
+      blobs = record {
+        keys = keys_short config.host.keys b.0;
+        certificates = certificates_short
+            config.host.certificates b.1;
+      };
     }
 
 -- ---- lists that can be advertised
@@ -130,37 +139,45 @@ none_long o w =
     let f4 = more (mac_texts o) (mac_texts o ∷ compression_texts o ∷ compression_texts o ∷ []) m f3 in
     let f5 = more (cipher_texts o) (mac_texts o ∷ mac_texts o ∷ compression_texts o ∷ compression_texts o ∷ []) c f4 in
     let f6 = more (cipher_texts o) (cipher_texts o ∷ mac_texts o ∷ mac_texts o ∷ compression_texts o ∷ compression_texts
-        o ∷ []) c f5 in
+    o ∷ []) c f5 in
     let f7 = more (key_texts o) (cipher_texts o ∷ cipher_texts o ∷ mac_texts o ∷ mac_texts o ∷ compression_texts o ∷
-        compression_texts o ∷ []) h f6 in
+    compression_texts o ∷ []) h f6 in
     more (kex_texts o) (key_texts o ∷ cipher_texts o ∷ cipher_texts o ∷ mac_texts o ∷ mac_texts o ∷ compression_texts o
-        ∷ compression_texts o ∷ []) k f7
+    ∷ compression_texts o ∷ []) k f7
 
 some_within : (o : Offers) → some_list_long o ≡ false → IsWithin o
 some_within o h =
     let a = or_parts (is_long_list (kex_texts o)) (list_any is_long_list
-        (key_texts o ∷ cipher_texts o ∷ cipher_texts o ∷ mac_texts o ∷ mac_texts o ∷ compression_texts o ∷
-        compression_texts o ∷ [])) h in
+    (key_texts o ∷ cipher_texts o ∷ cipher_texts o ∷ mac_texts o ∷ mac_texts o ∷ compression_texts o ∷
+    compression_texts o ∷ [])) h in
     let b = or_parts (is_long_list (key_texts o)) (list_any is_long_list
-        (cipher_texts o ∷ cipher_texts o ∷ mac_texts o ∷ mac_texts o ∷ compression_texts o ∷ compression_texts o ∷ []))
-        a.1 in
+    (cipher_texts o ∷ cipher_texts o ∷ mac_texts o ∷ mac_texts o ∷ compression_texts o ∷ compression_texts o ∷ []))
+    a.1 in
     let c = or_parts (is_long_list (cipher_texts o)) (list_any is_long_list
-        (cipher_texts o ∷ mac_texts o ∷ mac_texts o ∷ compression_texts o ∷ compression_texts o ∷ [])) b.1 in
+    (cipher_texts o ∷ mac_texts o ∷ mac_texts o ∷ compression_texts o ∷ compression_texts o ∷ [])) b.1 in
     let d = or_parts (is_long_list (cipher_texts o)) (list_any is_long_list
-        (mac_texts o ∷ mac_texts o ∷ compression_texts o ∷ compression_texts o ∷ [])) c.1 in
+    (mac_texts o ∷ mac_texts o ∷ compression_texts o ∷ compression_texts o ∷ [])) c.1 in
     let e = or_parts (is_long_list (mac_texts o)) (list_any is_long_list
-        (mac_texts o ∷ compression_texts o ∷ compression_texts o ∷ [])) d.1 in
+    (mac_texts o ∷ compression_texts o ∷ compression_texts o ∷ [])) d.1 in
     let f = or_parts (is_long_list (mac_texts o)) (list_any is_long_list
-        (compression_texts o ∷ compression_texts o ∷ [])) e.1 in
+    (compression_texts o ∷ compression_texts o ∷ [])) e.1 in
     let g = or_parts (is_long_list (compression_texts o)) (list_any is_long_list (compression_texts o ∷ [])) f.1 in
-    record { kex = listed _ a.0; key = listed _ b.0; cipher = listed _ c.0; mac = listed _ e.0; compression = listed _
-        g.0 }
+    record {
+      kex = listed _ a.0;
+      key = listed _ b.0;
+      cipher = listed _ c.0;
+      mac = listed _ e.0;
+      compression = listed _
+          g.0;
+    }
   where
     listed : (names : List (List ℕ)) → is_long_list names ≡ false → IsListed names
     listed names l = let p = or_parts (nat_lt name_limit (length names))
-        (nat_lt name_list_limit (length (joined_names names))) l in record
-        { count = within name_limit (length names) p.0; size = within name_list_limit (length (joined_names names))
-        p.1 }
+        (nat_lt name_list_limit (length (joined_names names))) l in record {
+          count = within name_limit (length names) p.0;
+          size = within name_list_limit (length (joined_names names))
+              p.1;
+        }
 
 pub within_test : (o : Offers) (b : Bool) → (IsTrue b ↔ IsWithin o) → b ≡ not (some_list_long o)
 within_test o true h = sym (ap not (none_long o (h.0 refl)))
@@ -221,8 +238,8 @@ unfolding chain_of
 last_fault side config a b c d e f p p' q q' r r' s s' t t' u =
     ap (λ (x : Bool). if x then Some faults.HostBlob else None) u
     ∙ sym (fault_chain side config ∙ chain_end (is_good_id config.id)
-        (is_good_limit config.limits.rekey_write_limit && is_good_limit config.limits.rekey_read_limit)
-        (nat_le config.gex.min_group_size config.gex.preferred_group_size && nat_le config.gex.preferred_group_size
-        config.gex.max_group_size) (list_any is_no_kex config.preferred.kex) (some_list_long (offers_of side config))
-        (some_blob_long config) (sym p ∙ p') (sym q ∙ q') (sym r ∙ r') (sym s ∙ s')
-        (not_not e (some_list_long (offers_of side config)) t t'))
+    (is_good_limit config.limits.rekey_write_limit && is_good_limit config.limits.rekey_read_limit)
+    (nat_le config.gex.min_group_size config.gex.preferred_group_size && nat_le config.gex.preferred_group_size
+    config.gex.max_group_size) (list_any is_no_kex config.preferred.kex) (some_list_long (offers_of side config))
+    (some_blob_long config) (sym p ∙ p') (sym q ∙ q') (sym r ∙ r') (sym s ∙ s')
+    (not_not e (some_list_long (offers_of side config)) t t'))

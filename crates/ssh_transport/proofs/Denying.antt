@@ -53,19 +53,34 @@ kept_denying ma mh mg config a a' a'' h h' h'' g g' g'' ka kh kg = record {
   offers = λ n k. offers_later n k;
   value_small = λ v k s w. k s (ka.lawful_kept s w);
   signature_small = λ v k s w. k s (kh.lawful_kept s w);
-  start = λ n q k. (rose_later (ma.refusals a) (ma.refusals a') (ma.refusals a'') ka.refusals_later k.0, λ s o i e. k.1
-      s (ka.obliging_kept a'' s q o) i (offers_later n e));
-  value = λ n q v k. (rose_later (ma.refusals a) (ma.refusals a') (ma.refusals a'') ka.refusals_later k.0,
-      λ s l o i e m. k.1 s l (ka.obliging_kept a'' s q o) i (offers_later n e) m);
-  reply = λ n q l v k. (rose_later (ma.refusals a) (ma.refusals a') (ma.refusals a'') ka.refusals_later k.0,
-      λ s x o i e m w. k.1 s x (ka.obliging_kept a'' s q o) i (offers_later n e) m w);
-  lookup = λ sizes k. (rose_later (mg.refusals g) (mg.refusals g') (mg.refusals g'') kg.refusals_later k.0, λ s o. k.1 s
-      (kg.obliging_kept g'' s o));
-  sign = λ config k. (rose_later (mh.refused_sign h) (mh.refused_sign h') (mh.refused_sign h'') kh.sign_later k.0,
-      λ s e o. k.1 s e (kh.signs_kept h'' s o));
-  verify = λ host hash signature k. (rose_later (mh.refused_verify h) (mh.refused_verify h') (mh.refused_verify h'')
-      kh.verify_later k.0, λ s o e. k.1 s (kh.judges_kept h'' s o)
-      (ap (λ (f : ServerHost → List ℕ → List ℕ → Bool). f host hash signature) kh.accepts_kept ∙ e));
+  start = λ n q k. (
+    rose_later (ma.refusals a) (ma.refusals a') (ma.refusals a'') ka.refusals_later k.0,
+    λ s o i e. k.1
+        s (ka.obliging_kept a'' s q o) i (offers_later n e),
+  );
+  value = λ n q v k. (
+    rose_later (ma.refusals a) (ma.refusals a') (ma.refusals a'') ka.refusals_later k.0,
+    λ s l o i e m. k.1 s l (ka.obliging_kept a'' s q o) i (offers_later n e) m,
+  );
+  reply = λ n q l v k. (
+    rose_later (ma.refusals a) (ma.refusals a') (ma.refusals a'') ka.refusals_later k.0,
+    λ s x o i e m w. k.1 s x (ka.obliging_kept a'' s q o) i (offers_later n e) m w,
+  );
+  lookup = λ sizes k. (
+    rose_later (mg.refusals g) (mg.refusals g') (mg.refusals g'') kg.refusals_later k.0,
+    λ s o. k.1 s
+        (kg.obliging_kept g'' s o),
+  );
+  sign = λ config k. (
+    rose_later (mh.refused_sign h) (mh.refused_sign h') (mh.refused_sign h'') kh.sign_later k.0,
+    λ s e o. k.1 s e (kh.signs_kept h'' s o),
+  );
+  verify = λ host hash signature k. (
+    rose_later (mh.refused_verify h) (mh.refused_verify h') (mh.refused_verify h'')
+        kh.verify_later k.0,
+    λ s o e. k.1 s (kh.judges_kept h'' s o)
+        (ap (λ (f : ServerHost → List ℕ → List ℕ → Bool). f host hash signature) kh.accepts_kept ∙ e),
+  );
 } where
   offers_later : (n : kexes.Name) → ma.offered a n ≡ true → ma.offered a' n ≡ true
   offers_later n e = ap (λ (f : kexes.Name → Bool). f n) ka.offered_kept ∙ e
@@ -73,9 +88,12 @@ kept_denying ma mh mg config a a' a'' h h' h'' g g' g'' ka kh kg = record {
 pub kept_untrusting : {H : Type 0} (mh : HostKeysMembers H) (h h' h'' : H) (host : ServerHost)
     → HostsKept mh h h'
     → untrusted_of mh h' h'' host → untrusted_of mh h h'' host
-kept_untrusting mh h h' h'' host k u = (rose_later (mh.refused_check h) (mh.refused_check h') (mh.refused_check h'')
-    k.check_later u.0, λ s o e. u.1 s (k.judges_kept h'' s o)
-    (ap (λ (f : ServerHost → Bool). f host) k.trusts_kept ∙ e))
+kept_untrusting mh h h' h'' host k u = (
+  rose_later (mh.refused_check h) (mh.refused_check h') (mh.refused_check h'')
+      k.check_later u.0,
+  λ s o e. u.1 s (k.judges_kept h'' s o)
+      (ap (λ (f : ServerHost → Bool). f host) k.trusts_kept ∙ e),
+)
 
 -- ---- messages
 
@@ -91,9 +109,14 @@ unoffered_still a b d e w s (AwaitsNewkeys exchange made host) n payload h = abs
 
 denied_still : (a b : Says) (d e : Denies) → Denying a b d e → (s : Setting) (stage : Stage) (n : ℕ) (payload : List ℕ)
     → PartDenies a d s stage n payload → PartDenies b e s stage n payload
-denied_still a b d e w s (Created own) n payload h = record
-    { names = h.names; reads = h.reads; offered = w.weaker.offers _ h.offered; plain = h.plain; client = h.client;
-    denied = w.start _ _ h.denied }
+denied_still a b d e w s (Created own) n payload h = record {
+  names = h.names;
+  reads = h.reads;
+  offered = w.weaker.offers _ h.offered;
+  plain = h.plain;
+  client = h.client;
+  denied = w.start _ _ h.denied;
+}
 denied_still a b d e w s (AwaitsGroup o) n payload h = record
     { group = h.group; read = h.read; inside = h.inside; denied = w.start _ _ h.denied }
 denied_still a b d e w s (AwaitsReply o gex local public) n payload h = record
@@ -108,9 +131,16 @@ missigned_still : (a b : Says) (d e : Denies) → Denying a b d e → (s : Setti
     → SignatureDenied a d s stage payload → SignatureDenied b e s stage payload
 missigned_still a b d e w s (Created own) payload h = absurd h
 missigned_still a b d e w s (AwaitsGroup o) payload h = absurd h
-missigned_still a b d e w s (AwaitsReply o gex local public) payload h = record
-    { front = h.front; signature = h.signature; secret = h.secret; read = h.read; rest = h.rest; agrees = w.weaker.reply
-    _ _ _ _ _ _ h.agrees; denied = w.verify _ _ _ h.denied }
+missigned_still a b d e w s (AwaitsReply o gex local public) payload h = record {
+  front = h.front;
+  signature = h.signature;
+  secret = h.secret;
+  read = h.read;
+  rest = h.rest;
+  agrees = w.weaker.reply
+      _ _ _ _ _ _ h.agrees;
+  denied = w.verify _ _ _ h.denied;
+}
 missigned_still a b d e w s (AwaitsRequest o) payload h = absurd h
 missigned_still a b d e w s (AwaitsValue o gex) payload h = absurd h
 missigned_still a b d e w s (AwaitsNewkeys exchange made host) payload h = absurd h
@@ -126,23 +156,44 @@ unsigned_still a b d e w s (AwaitsNewkeys exchange made host) payload h = absurd
 
 long_value_still : (a b : Says) (d e : Denies) → Denying a b d e → (o : Opened) (group : Option DhGroup) (n : ℕ)
     → IsLongValue a o group n → IsLongValue b o group n
-long_value_still a b d e w o group n h = record { local = h.local; public = h.public; makes = w.weaker.client_makes _ _
-    _ _ h.makes; small = w.value_small _ h.small; size = h.size }
+long_value_still a b d e w o group n h = record {
+  local = h.local;
+  public = h.public;
+  makes = w.weaker.client_makes _ _
+      _ _ h.makes;
+  small = w.value_small _ h.small;
+  size = h.size;
+}
 
 long_still : (a b : Says) (d e : Denies) → Denying a b d e
     → (s : Setting) (stage : Stage) (m : ℕ) (payload : List ℕ) (n : ℕ) → IsTooLong a s stage m payload n
     → IsTooLong b s stage m payload n
-long_still a b d e w s (Created own) m payload n h = record
-    { names = h.names; reads = h.reads; offered = w.weaker.offers _ h.offered; plain = h.plain; client = h.client; long
-    = long_value_still a b d e w _ None n h.long }
+long_still a b d e w s (Created own) m payload n h = record {
+  names = h.names;
+  reads = h.reads;
+  offered = w.weaker.offers _ h.offered;
+  plain = h.plain;
+  client = h.client;
+  long
+      = long_value_still a b d e w _ None n h.long;
+}
 long_still a b d e w s (AwaitsGroup o) m payload n h = (h.0, h.1, long_value_still a b d e w o (Some h.0) n h.2)
 long_still a b d e w s (AwaitsReply o gex local public) m payload n h = absurd h
 long_still a b d e w s (AwaitsRequest o) m payload n h = record
     { sizes = h.sizes; group = h.group; read = h.read; finds = w.weaker.finds _ _ h.finds; size = h.size }
-long_still a b d e w s (AwaitsValue o gex) m payload n h = record
-    { value = h.value; own_value = h.own_value; shown = h.shown; signature = h.signature; read = h.read; presents =
-    h.presents; makes = w.weaker.server_makes _ _ _ _ h.makes; value_small = w.value_small _ h.value_small;
-    signature_small = w.signature_small _ h.signature_small; size = h.size }
+long_still a b d e w s (AwaitsValue o gex) m payload n h = record {
+  value = h.value;
+  own_value = h.own_value;
+  shown = h.shown;
+  signature = h.signature;
+  read = h.read;
+  presents =
+      h.presents;
+  makes = w.weaker.server_makes _ _ _ _ h.makes;
+  value_small = w.value_small _ h.value_small;
+  signature_small = w.signature_small _ h.signature_small;
+  size = h.size;
+}
 long_still a b d e w s (AwaitsNewkeys exchange made host) m payload n h = absurd h
 
 pub refused_still : (a b : Says) (d e : Denies) → Denying a b d e
@@ -176,11 +227,26 @@ packet_still : (a b : Says) (d e : Denies) (u v : ServerHost → Type 0) → Den
 packet_still a b d e u v w z side config st i error (inl h) = inl h
 packet_still a b d e u v w z side config st i error (inr (inl h)) = inr (inl h)
 packet_still a b d e u v w z side config st i error (inr (inr (inl h))) = inr
-    (inr (inl (record { stage = h.stage; looks = h.looks; begins = h.begins; ordered = h.ordered; is_kex = h.is_kex;
-    refuses = refused_still a b d e w _ h.stage _ i.payload error h.refuses })))
+    (inr (inl (record {
+      stage = h.stage;
+      looks = h.looks;
+      begins = h.begins;
+      ordered = h.ordered;
+      is_kex = h.is_kex;
+      refuses = refused_still a b d e w _ h.stage _ i.payload error h.refuses;
+    })))
 packet_still a b d e u v w z side config st i error (inr (inr (inr (inl h)))) = inr
-    (inr (inr (inl (record { exchange = h.exchange; made = h.made; host = h.host; inside = h.inside; payload_is =
-    h.payload_is; ordered = h.ordered; denied = z h.host h.denied; error_is = h.error_is }))))
+    (inr (inr (inl (record {
+      exchange = h.exchange;
+      made = h.made;
+      host = h.host;
+      inside = h.inside;
+      payload_is =
+          h.payload_is;
+      ordered = h.ordered;
+      denied = z h.host h.denied;
+      error_is = h.error_is;
+    }))))
 packet_still a b d e u v w z side config st i error (inr (inr (inr (inr h)))) = inr (inr (inr (inr h)))
 
 pub cause_still : (a b : Says) (d e : Denies) (u v : ServerHost → Type 0) → Denying a b d e
@@ -262,8 +328,13 @@ submitted_still a b w old payload new h = record {
 pub rekeyed_still : (a b : Says) → Weaker a b → (old new : Standing) → Rekeyed a old new → Rekeyed b old new
 rekeyed_still a b w old new h = by (is_outside old.state.stands) h where
   by : (outside : Bool) → RekeyedFrom outside a old new → RekeyedFrom outside b old new
-  by true k = record { item = k.item; acts = acts_still a b w old (ExchangeBegun Asked k.item ∷ []) new k.acts; line =
-      k.line; waiting = k.waiting }
+  by true k = record {
+    item = k.item;
+    acts = acts_still a b w old (ExchangeBegun Asked k.item ∷ []) new k.acts;
+    line =
+        k.line;
+    waiting = k.waiting;
+  }
   by false k = k
 
 -- and of a piece that is taken

@@ -1,24 +1,19 @@
 -- What a side sends of itself is padded, and its cookie drawn, by what the generator gives next.
-use Rattle.std.proofs.Common.{◌≡◌, ℕ, ◌<◌, ◌++◌, List, append_assoc, None, Some, length, Bool, true, false, Result, Ok, Err, IfErr, IfOk, IsOk, OnOk, OnErr, is_ok, refl, sym, ap, ◌∙◌, subst, inl, inr}
+use Rattle.std.proofs.Common.{◌≡◌, ℕ, ◌<◌, ◌++◌, List, append_assoc, None, Some, length, true, false, Result, Ok, Err, IsOk, OnOk, OnErr, is_ok, refl, sym, ap, ◌∙◌, subst, inl, inr}
 use Rattle.rand_core.specs.Stream.{Stream}
 use Rattle.ssh_wire.specs.Reading.{IdReading}
 use Rattle.ssh_wire.specs.declared.error.Error.{Error}
 use Rattle.ssh_packet.specs.Reading.{Reader}
 use Rattle.ssh_packet.specs.Writing.{Sends, Writer}
-use Rattle.ssh_kex.specs.Refusals.{Denies}
-use Rattle.ssh_kex.specs.Setting.{Says}
-use Rattle.ssh_kex.specs.declared.exchange.ServerHost.{ServerHost}
 use Rattle.ssh_rules.specs.Log.{sent_bytes}
-use Rattle.ssh_rules.specs.Machine.{SideState}
-use Rattle.ssh_rules.specs.Standing.{RefusalCause, Standing}
+use Rattle.ssh_rules.specs.Standing.{Standing}
 use Rattle.ssh_transport.specs.Drawing.{AtMostNext, DrawsFirst, GoesNext, OpensDrawn, packet_with, writing_at}
 use Rattle.ssh_transport.specs.Saying.{GoesOn, IsUnsaid}
 use Rattle.ssh_transport.specs.Handling.{IsHeard}
 use Rattle.ssh_transport.specs.Kept.{IsLive}
-use Rattle.ssh_transport.specs.States.{heard_of, is_silent, reading_spot, standing_of, stands_of, with_more}
-use Rattle.ssh_transport.specs.Stopping.{IsAsBefore, Stops, WantsKeys}
+use Rattle.ssh_transport.specs.States.{heard_of, is_silent, reading_spot, standing_of, stands_of}
+use Rattle.ssh_transport.specs.Stopping.{IsAsBefore, WantsKeys}
 use Rattle.ssh_transport.specs.Submitting.{Breaks, HoldsAlone}
-use Rattle.ssh_transport.specs.Taking.{PollsOne, Reads, read_by}
 use Rattle.ssh_transport.specs.declared.connection.Connection.{Connection}
 use Rattle.ssh_transport.specs.declared.session.Session.{Session}
 use Rattle.ssh_transport.proofs.Heard.{silent_is}
@@ -34,18 +29,24 @@ sent_next w w' payload stream l h = ap (λ (x : Writer). x.output) (sends_item w
 pub sealed_next : (s s1 s' : Session) (read : ℕ) (p : List ℕ) (stream : Stream) → 0 < length p
     → Sends s.writer p stream s1.writer → GoesOn s1 read s'
     → GoesNext s.writer.output (packet_with (writing_at s.writer) p stream) s'.writer.output
-sealed_next s s1 s' read p stream l h g = (sent_bytes s1.side
-    (record { sealing = s1.writer.sealing; number = s1.writer.number }) g.events, g.writes.output
-    ∙ ap (λ (t : List ℕ). t ++ sent_bytes s1.side (record { sealing = s1.writer.sealing; number = s1.writer.number })
-    g.events) (sent_next s.writer s1.writer p stream l h))
+sealed_next s s1 s' read p stream l h g = (
+  sent_bytes s1.side
+      (record { sealing = s1.writer.sealing; number = s1.writer.number }) g.events,
+  g.writes.output
+      ∙ ap (λ (t : List ℕ). t ++ sent_bytes s1.side (record { sealing = s1.writer.sealing; number = s1.writer.number })
+      g.events) (sent_next s.writer s1.writer p stream l h),
+)
 
 -- outside an exchange nothing is held, so all that memory was wanting for is the exchange that a limit begins
 pub sealed_alone : (s s1 s' : Session) (read : ℕ) (p : List ℕ) (stream : Stream) → 0 < length p
     → Sends s.writer p stream s1.writer → s1 ≡ record s { writer = s1.writer } → WantsKeys s1 read s'
     → (s'.finished.items ≡ s.finished.items) × AtMostNext s.writer.output (packet_with (writing_at s.writer) p stream)
-        s'.writer.output
-sealed_alone s s1 s' read p stream l h e w = (w.still.records
-    ∙ ap (λ (x : Session). x.finished.items) e, inr (w.still.output ∙ sent_next s.writer s1.writer p stream l h))
+    s'.writer.output
+sealed_alone s s1 s' read p stream l h e w = (
+  w.still.records
+      ∙ ap (λ (x : Session). x.finished.items) e,
+  inr (w.still.output ∙ sent_next s.writer s1.writer p stream l h),
+)
 
 -- nothing was said
 pub unsaid_left : (s s' : Session) → IsUnsaid s s' → (s'.finished.items ≡ s.finished.items)
@@ -63,7 +64,7 @@ pub left_answer : {T : Type 0} (c c' : Connection) (s' : Session) (P : List ℕ 
     (answer done : Result T Error) → done ≡ answer → OnErr answer (IsAsBefore s' c'.session)
     → OnErr answer ((s'.finished.items ≡ c.session.finished.items) × P c.session.writer.output s'.writer.output)
     → OnErr done (((standing_of c').state.records ≡ (standing_of c).state.records)
-        × P (standing_of c).output (standing_of c').output)
+    × P (standing_of c).output (standing_of c').output)
 left_answer {T} c c' s' P (Ok u) done d r h = subst (λ (y : Result T Error). OnErr y
     (((standing_of c').state.records ≡ (standing_of c).state.records)
     × P (standing_of c).output (standing_of c').output)) (sym d) tt
@@ -140,15 +141,20 @@ first_unheard {T} answer error c kept heard stream stream' a e s = λ silent. in
 
 -- a call on a transport that is dead
 pub first_still : (done : Type 0) (t : Standing) (stream : Stream) → DrawsFirst done t t stream stream
-first_still done t stream = λ silent. inl (record { output = refl; silent = λ d. silent; writing = λ d. refl; undrawn =
-    λ d. refl })
+first_still done t stream = λ silent. inl (record {
+  output = refl;
+  silent = λ d. silent;
+  writing = λ d. refl;
+  undrawn =
+      λ d. refl;
+})
 
 -- a refusal is the end of a transport
 pub first_answer : {T : Type 0} (c taken c' : Connection) (stream stream' : Stream) (answer : Result T Error)
     → OnOk answer (c' ≡ taken) → OnErr answer (IsAsBefore taken.session c'.session)
     → OnErr answer (Breaks (standing_of taken) (standing_of c'))
     → DrawsFirst (IsOk answer) (standing_of c) (standing_of taken) stream stream'
-        → DrawsFirst (c'.failed ≡ false) (standing_of c) (standing_of c') stream stream'
+    → DrawsFirst (c'.failed ≡ false) (standing_of c) (standing_of c') stream stream'
 first_answer {T} c taken c' stream stream' (Ok u) e r b h = λ silent. elim (h silent) [
   | inl k ↦ inl (record {
     output = ap (λ (x : Connection). x.session.writer.output) e ∙ k.output;
@@ -182,12 +188,17 @@ pub held_answer : (c c' : Connection) (s' : Session) (answer done : Result (Unit
     → s' ≡ record c.session { held = s'.held }
     → HoldsAlone done (standing_of c) (standing_of c')
 held_answer c c' s' (Ok u) done d e r h =
-    let same : standing_of c' ≡ record (standing_of c) { state = record (standing_of c).state
-        { held = (standing_of c').state.held } } =
+    let same : standing_of c' ≡ record (standing_of c) {
+      state = record (standing_of c).state
+          { held = (standing_of c').state.held };
+    } =
     subst (λ (x : Connection). standing_of x ≡ record (standing_of c)
-        { state = record (standing_of c).state { held = (standing_of x).state.held } }) (sym e)
+    { state = record (standing_of c).state { held = (standing_of x).state.held } }) (sym e)
     (subst (λ (x : Session). standing_of (record c { session = x }) ≡ record (standing_of c)
-        { state = record (standing_of c).state { held = x.held.items } }) (sym h) refl) in
+    { state = record (standing_of c).state { held = x.held.items } }) (sym h) refl) in
     (ap (λ (t : Standing). t.output) same, on_done (let r : Result (Unit {0}) Error = Ok u in r) done _ d same)
-held_answer c c' s' (Err x) done d e r h = (r.output ∙ ap (λ (x : Session). x.writer.output) h, on_done
-    (let r : Result (Unit {0}) Error = Err x in r) done _ d tt)
+held_answer c c' s' (Err x) done d e r h = (
+  r.output ∙ ap (λ (x : Session). x.writer.output) h,
+  on_done
+      (let r : Result (Unit {0}) Error = Err x in r) done _ d tt,
+)

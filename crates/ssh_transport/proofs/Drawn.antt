@@ -55,13 +55,13 @@ pub drawn_taken : (old mid new : Standing) (stream stream' : Stream) → new ≡
     → StaysDrawn old mid stream stream' → StaysDrawn old new stream stream'
 drawn_taken old mid new stream stream' e h = λ side config first d. subst
     (λ (t : Standing). IsDrawn side config first t stream') (sym e) (let m = h side config first d in record {
-  side_is = m.side_is;
-  config_is = m.config_is;
-  drawn = elim m.drawn [
-    | inl w ↦ inl (record { output = w.output; silent = w.silent; writing = w.writing; undrawn = w.undrawn })
-    | inr g ↦ inr g
-  ];
-})
+      side_is = m.side_is;
+      config_is = m.config_is;
+      drawn = elim m.drawn [
+        | inl w ↦ inl (record { output = w.output; silent = w.silent; writing = w.writing; undrawn = w.undrawn })
+        | inr g ↦ inr g
+      ];
+    })
 
 -- the packet of a side that waits is the first one
 first_packet : (side : Side) (config : Config) (first stream : Stream) (t : Standing) → t.side ≡ side
@@ -93,11 +93,14 @@ drawn_live old new stream stream' more live stays grows h = λ side config first
         g.1 ∙ ap (λ (x : List ℕ). x ++ g.0) (ap (λ (x : List ℕ). x ++ kexinit_packet old.side old.config
             old.state.writing stream) w.output
             ∙ ap (λ (x : List ℕ). id_line config.id ++ x) (first_packet side config first stream old d.side_is
-                d.config_is (w.writing live) (w.undrawn live))),
+            d.config_is (w.writing live) (w.undrawn live))),
       )
     ])
-    | inr g ↦ inr (g.0 ++ more, grows ∙ ap (λ (x : List ℕ). x ++ more) g.1
-        ∙ append_assoc (id_line config.id ++ kexinit_packet side config first_state.writing first) g.0 more)
+    | inr g ↦ inr (
+      g.0 ++ more,
+      grows ∙ ap (λ (x : List ℕ). x ++ more) g.1
+          ∙ append_assoc (id_line config.id ++ kexinit_packet side config first_state.writing first) g.0 more,
+    )
   ];
 }
 
@@ -106,18 +109,18 @@ pub drawn_fed : (says : Says) (denies : Denies) (untrusted : ServerHost → Type
     (stream stream' : Stream) (n n' : PartCalls) (answer : Result (Unit {0}) Error)
     → (old.failed ≡ true → (new ≡ old) × (stream' ≡ stream)) → (new.side ≡ old.side) × (new.config ≡ old.config)
     → OnOk answer (TakesInput says old piece new) → (old.failed ≡ false
-        → IfErr answer (λ e. RefusesPieceAsking says denies untrusted old piece e new n n'))
-        → DrawsFirst (new.failed ≡ false) old new stream stream' → StaysDrawn old new stream stream'
+    → IfErr answer (λ e. RefusesPieceAsking says denies untrusted old piece e new n n'))
+    → DrawsFirst (new.failed ≡ false) old new stream stream' → StaysDrawn old new stream stream'
 drawn_fed says denies untrusted old new piece stream stream' n n' answer dead stays fed refused drawn = by old.failed
     refl answer fed refused where
-  by : (b : Bool) → old.failed ≡ b → (a : Result (Unit {0}) Error) → OnOk a (TakesInput says old piece new)
-      → (old.failed ≡ false → IfErr a (λ e. RefusesPieceAsking says denies untrusted old piece e new n n'))
-      → StaysDrawn old new stream stream'
-  by true f a h r = drawn_still old new stream stream' (dead f).0 (dead f).1
-  by false f (Ok u) h r = drawn_live old new stream stream' (sent_bytes old.side old.state.writing h.events) f stays
-      h.acts.output drawn
-  by false f (Err e) h r = drawn_live old new stream stream'
-      (sent_bytes old.side old.state.writing (r f).refused.refuses.events) f stays (r f).refused.refuses.output drawn
+      by : (b : Bool) → old.failed ≡ b → (a : Result (Unit {0}) Error) → OnOk a (TakesInput says old piece new)
+          → (old.failed ≡ false → IfErr a (λ e. RefusesPieceAsking says denies untrusted old piece e new n n'))
+          → StaysDrawn old new stream stream'
+      by true f a h r = drawn_still old new stream stream' (dead f).0 (dead f).1
+      by false f (Ok u) h r = drawn_live old new stream stream' (sent_bytes old.side old.state.writing h.events) f stays
+          h.acts.output drawn
+      by false f (Err e) h r = drawn_live old new stream stream'
+          (sent_bytes old.side old.state.writing (r f).refused.refuses.events) f stays (r f).refused.refuses.output drawn
 
 -- one that is silent isn't outside
 silent_inside : (stands : Where) → is_silent stands ≡ true → is_outside stands ≡ false
@@ -130,49 +133,49 @@ pub drawn_submitted : (says : Says) (old new : Standing) (payload : List ℕ) (s
     (answer : Result (Unit {0}) Error) → (answer ≡ Err Memory → ⊥)
     → (old.failed ≡ true → (new ≡ old) × (stream' ≡ stream))
     → (old.failed ≡ false → IsTrue (is_bad_size (length payload)) → (new ≡ old) × (stream' ≡ stream))
-        → (old.failed ≡ false → is_bad_size (length payload) ≡ false → is_payload_type (message_type payload) ≡ false
-        → (new ≡ old) × (stream' ≡ stream))
+    → (old.failed ≡ false → is_bad_size (length payload) ≡ false → is_payload_type (message_type payload) ≡ false
+    → (new ≡ old) × (stream' ≡ stream))
     → OnOk answer (Submitted says old payload new) → (is_outside old.state.stands ≡ false
-        → (stream' ≡ stream) × OnOk answer (new ≡ record old { state = record old.state { held = new.state.held } }))
+    → (stream' ≡ stream) × OnOk answer (new ≡ record old { state = record old.state { held = new.state.held } }))
     → (old.failed ≡ false → is_good_payload payload ≡ true → OnErr answer (answer ≡ Err Memory))
-        → StaysDrawn old new stream stream'
+    → StaysDrawn old new stream stream'
 drawn_submitted says old new payload stream stream' (Ok u) ample dead size type sent held memory = by old.failed refl
-    where
-  by : (f : Bool) → old.failed ≡ f → StaysDrawn old new stream stream'
-  by true f = drawn_still old new stream stream' (dead f).0 (dead f).1
-  by false f = drawn_live old new stream stream' (sent_bytes old.side old.state.writing sent.events) f
-      (sent.acts.side, sent.acts.config) sent.acts.output (λ s. let k = held (silent_inside old.state.stands s) in inl
-      (record {
-    output = ap (λ (t : Standing). t.output) k.1;
-    silent = λ d. ap (λ (t : Standing). is_silent t.state.stands) k.1 ∙ s;
-    writing = λ d. ap (λ (t : Standing). t.state.writing) k.1;
-    undrawn = λ d. k.0;
-  }))
+  where
+    by : (f : Bool) → old.failed ≡ f → StaysDrawn old new stream stream'
+    by true f = drawn_still old new stream stream' (dead f).0 (dead f).1
+    by false f = drawn_live old new stream stream' (sent_bytes old.side old.state.writing sent.events) f
+        (sent.acts.side, sent.acts.config) sent.acts.output (λ s. let k = held (silent_inside old.state.stands s) in inl
+        (record {
+          output = ap (λ (t : Standing). t.output) k.1;
+          silent = λ d. ap (λ (t : Standing). is_silent t.state.stands) k.1 ∙ s;
+          writing = λ d. ap (λ (t : Standing). t.state.writing) k.1;
+          undrawn = λ d. k.0;
+        }))
 drawn_submitted says old new payload stream stream' (Err e) ample dead size type sent held memory = by old.failed
     (is_bad_size (length payload)) (is_payload_type (message_type payload)) refl refl refl where
-  by : (f b k : Bool) → old.failed ≡ f → is_bad_size (length payload) ≡ b → is_payload_type (message_type payload) ≡ k
-      → StaysDrawn old new stream stream'
-  by true b k f g h = drawn_still old new stream stream' (dead f).0 (dead f).1
-  by false true k f g h = (let s = size f g in drawn_still old new stream stream' s.0 s.1)
-  by false false false f g h = (let s = type f g h in drawn_still old new stream stream' s.0 s.1)
-  by false false true f g h = absurd (ample (memory f (rw (g, h) refl)))
+      by : (f b k : Bool) → old.failed ≡ f → is_bad_size (length payload) ≡ b → is_payload_type (message_type payload) ≡ k
+          → StaysDrawn old new stream stream'
+      by true b k f g h = drawn_still old new stream stream' (dead f).0 (dead f).1
+      by false true k f g h = (let s = size f g in drawn_still old new stream stream' s.0 s.1)
+      by false false false f g h = (let s = type f g h in drawn_still old new stream stream' s.0 s.1)
+      by false false true f g h = absurd (ample (memory f (rw (g, h) refl)))
 
 -- an exchange was asked for
 pub drawn_rekeyed : (says : Says) (old new : Standing) (stream stream' : Stream) (answer : Result (Unit {0}) Error)
     → (answer ≡ Err Memory → ⊥) → (old.failed ≡ true → (new ≡ old) × (stream' ≡ stream))
     → OnOk answer (Rekeyed says old new)
     → (old.failed ≡ false → is_outside old.state.stands ≡ false → (new ≡ old) × (stream' ≡ stream))
-        → (old.failed ≡ false → OnErr answer (answer ≡ Err Memory)) → StaysDrawn old new stream stream'
+    → (old.failed ≡ false → OnErr answer (answer ≡ Err Memory)) → StaysDrawn old new stream stream'
 drawn_rekeyed says old new stream stream' answer ample dead begun inside memory = by old.failed
     (is_outside old.state.stands) refl refl answer ample begun memory where
-  by : (f o : Bool) → old.failed ≡ f → is_outside old.state.stands ≡ o → (a : Result (Unit {0}) Error)
-      → (a ≡ Err Memory → ⊥) → OnOk a (RekeyedFrom (is_outside old.state.stands) says old new)
-      → (old.failed ≡ false → OnErr a (a ≡ Err Memory)) → StaysDrawn old new stream stream'
-  by true o f g a m h k = drawn_still old new stream stream' (dead f).0 (dead f).1
-  by false false f g a m h k = (let s = inside f g in drawn_still old new stream stream' s.0 s.1)
-  by false true f g (Err e) m h k = absurd (m (k f))
-  by false true f g (Ok u) m h k =
-      let b = subst (λ (x : Bool). RekeyedFrom x says old new) g h in
-      drawn_live old new stream stream' (sent_bytes old.side old.state.writing (ExchangeBegun Asked b.item ∷ [])) f
+      by : (f o : Bool) → old.failed ≡ f → is_outside old.state.stands ≡ o → (a : Result (Unit {0}) Error)
+          → (a ≡ Err Memory → ⊥) → OnOk a (RekeyedFrom (is_outside old.state.stands) says old new)
+          → (old.failed ≡ false → OnErr a (a ≡ Err Memory)) → StaysDrawn old new stream stream'
+      by true o f g a m h k = drawn_still old new stream stream' (dead f).0 (dead f).1
+      by false false f g a m h k = (let s = inside f g in drawn_still old new stream stream' s.0 s.1)
+      by false true f g (Err e) m h k = absurd (m (k f))
+      by false true f g (Ok u) m h k =
+          let b = subst (λ (x : Bool). RekeyedFrom x says old new) g h in
+          drawn_live old new stream stream' (sent_bytes old.side old.state.writing (ExchangeBegun Asked b.item ∷ [])) f
           (b.acts.side, b.acts.config) b.acts.output
-      (λ s. absurd (let e : true ≡ false = sym g ∙ silent_inside old.state.stands s in cc))
+          (λ s. absurd (let e : true ≡ false = sym g ∙ silent_inside old.state.stands s in cc))

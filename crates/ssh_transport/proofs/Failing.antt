@@ -1,6 +1,5 @@
 -- A piece that is refused, as contracts see it.
-use Rattle.std.proofs.Common.{◌≡◌, ℕ, List, [], ◌++◌, take, drop, Result, Ok, Err, IfErr, OnErr, refl, sym, ap, ◌∙◌, subst, append_assoc, append-nil, ◌⊎◌, inl, inr}
-use Rattle.std.proofs.lemmas.List.{take-append-drop}
+use Rattle.std.proofs.Common.{◌≡◌, ℕ, List, [], ◌++◌, Result, Ok, Err, IfErr, OnErr, refl, sym, ap, ◌∙◌, subst, append_assoc, append-nil, ◌⊎◌, inl, inr}
 use Rattle.std.specs.Borrow.{Bor}
 use Rattle.ssh_wire.specs.Lines as lines
 use Rattle.ssh_wire.specs.Lines.{IdFound, id_of, id_text}
@@ -10,7 +9,6 @@ use Rattle.ssh_wire.specs.declared.error.Error.TheVariants as errors
 use Rattle.ssh_wire.specs.declared.read_id.IdProgress.TheVariants as progress
 use Rattle.ssh_wire.specs.declared.side.Side.{Side}
 use Rattle.ssh_wire.proofs.Lemmas.{fed_more}
-use Rattle.ssh_packet.specs.Reading.{Reader}
 use Rattle.ssh_kex.specs.Refusals.{Denies}
 use Rattle.ssh_kex.specs.Setting.{Says}
 use Rattle.ssh_kex.specs.declared.config.Config.{Config}
@@ -33,7 +31,6 @@ use Rattle.ssh_transport.specs.declared.connection.Connection.{Connection}
 use Rattle.ssh_transport.specs.declared.session.Session.{Session}
 use Rattle.ssh_transport.proofs.Answering.{spot_of}
 use Rattle.ssh_transport.proofs.Inputs.{line_more}
-use Rattle.ssh_transport.proofs.Kept.{emptied_same, live_emptied}
 use Rattle.ssh_transport.proofs.Saying.{unread_steps}
 use Rattle.ssh_transport.proofs.Stopping.{Later}
 use Rattle.ssh_transport.proofs.Taking.{input_more}
@@ -50,7 +47,7 @@ no_id : (side : Side) (line : IdReading) (piece : List ℕ) (error : Error) (new
     → Feeds (lets_pass side) line piece (Err error) new → IsNoId side line piece [] × (error ≡ errors.Version)
 no_id side (Waiting bytes others) piece error new n h =
     let d = decided_err (id_of (still_allowed (lets_pass side) others) (bytes ++ piece)) _ _ new error h in
-        ((refl, d.0), d.1)
+    ((refl, d.0), d.1)
 no_id side (Heard text) piece error new n h = absurd (let e = h.0 in cc)
 no_id side Failed piece error new n h = absurd (n refl)
 
@@ -168,11 +165,11 @@ fails_behind says denies untrusted asked later c mid c' piece error a h i k = re
       h.output ∙ append_assoc c.session.writer.output (sent_bytes c.session.side (spot_of c.session.writer) h.events)
       (sent_bytes mid.session.side (spot_of mid.session.writer) k.events)
       ∙ ap (λ (x : Side). c.session.writer.output ++ (sent_bytes c.session.side (spot_of c.session.writer) h.events ++
-          sent_bytes x (spot_of mid.session.writer) k.events)) h.side
+      sent_bytes x (spot_of mid.session.writer) k.events)) h.side
       ∙ ap (λ (b : List ℕ). c.session.writer.output ++ b) (sym
-          (sent_join says c.session.side c.session.config.now (id_text c.session.config.now.id) h.events k.events
-          (state_at c.session (reading_spot c) c.reader.count)
-          (state_at mid.session (reading_spot mid) mid.reader.count) first));
+      (sent_join says c.session.side c.session.config.now (id_text c.session.config.now.id) h.events k.events
+      (state_at c.session (reading_spot c) c.reader.count)
+      (state_at mid.session (reading_spot mid) mid.reader.count) first));
   delivered = k.delivered ∙ ap (λ (b : List (List ℕ)). b ++ delivered_in k.events) h.delivered
       ∙ append_assoc c.delivered.items (delivered_in h.events) (delivered_in k.events)
       ∙ ap (λ (b : List (List ℕ)). c.delivered.items ++ b) (sym (delivered_more h.events k.events));
@@ -187,8 +184,8 @@ fails_behind says denies untrusted asked later c mid c' piece error a h i k = re
   left = k.left;
   read = k.bytes ∙ ap (λ (x : Side). read_bytes x (reading_spot mid) k.events ++ k.left) h.side
       ∙ ap (λ (b : List ℕ). b ++ k.left) (sym (read_join says c.session.side c.session.config.now
-          (id_text c.session.config.now.id) h.events k.events (state_at c.session (reading_spot c) c.reader.count)
-          (state_at mid.session (reading_spot mid) mid.reader.count) first
+      (id_text c.session.config.now.id) h.events k.events (state_at c.session (reading_spot c) c.reader.count)
+      (state_at mid.session (reading_spot mid) mid.reader.count) first
       ∙ ap (λ (b : List ℕ). b ++ read_bytes c.session.side (reading_spot mid) k.events) (h.bytes (reading_spot c))));
   next = k.next;
   why = subst (λ (x : Side). AnswersCause says denies untrusted x c.session.config.now k.cause k.state error) h.side
@@ -209,7 +206,7 @@ fails_behind says denies untrusted asked later c mid c' piece error a h i k = re
   moved = subst (λ (x : Side). Steps says x c.session.config.now (id_text c.session.config.now.id)
       (state_at mid.session (reading_spot mid) mid.reader.count) k.events k.state) h.side
       (subst (λ (b : Bor Config). Steps says mid.session.side b.now (id_text b.now.id)
-          (state_at mid.session (reading_spot mid) mid.reader.count) k.events k.state) h.config k.steps)
+      (state_at mid.session (reading_spot mid) mid.reader.count) k.events k.state) h.config k.steps)
 
 -- ---- as contracts see it
 
@@ -267,9 +264,18 @@ piece_asking says denies untrusted n n' c mid c' piece error x b r f = record {
       (bare_of c).state f.state n n' f.steps until;
 } where
   until : AsksUntil c.session.side f.cause (bare_of c).state f.state n n'
-  until = record { mid = (f.asks).mid; before = record { agreement = ((f.asks).before).agreement; hosts =
-      ((f.asks).before).hosts; lookups = ((f.asks).before).lookups; groups = ((f.asks).before).groups }; last =
-      (f.asks).last }
+  until = record {
+    mid = (f.asks).mid;
+    before = record {
+      agreement = ((f.asks).before).agreement;
+      hosts =
+          ((f.asks).before).hosts;
+      lookups = ((f.asks).before).lookups;
+      groups = ((f.asks).before).groups;
+    };
+    last =
+        (f.asks).last;
+  }
 
 -- the piece behind what was kept
 piece_asked : (says : Says) (denies : Denies) (untrusted : ServerHost → Type 0) (n n' : PartCalls)

@@ -34,8 +34,7 @@ use Rattle.ssh_transport.specs.Handling.{Awaits, Ended, Handles, IsFlagged, IsOw
 use Rattle.ssh_transport.specs.Kexinits.{setting_between}
 use Rattle.ssh_transport.specs.Saying.{IsSettled}
 use Rattle.ssh_transport.specs.States.{after_exchanges, heard_of, stands_of, state_at}
-use Rattle.ssh_transport.specs.declared.session.Disposition.{Disposition}
-use Rattle.ssh_transport.specs.declared.session.Disposition.TheVariants.{Delivers, Done, Rekeys}
+use Rattle.ssh_transport.specs.Handling.{GivesKeys, GivesNothing, GivesPayload, Outcome}
 use Rattle.ssh_transport.specs.declared.session.Session.{Session}
 use Rattle.ssh_transport.proofs.Answering.{Answered, answered_taken, answering, spot_of, taken_flagged}
 use Rattle.ssh_transport.proofs.Kexes.{never_skips}
@@ -76,7 +75,8 @@ outside_or s read at q o = let p = q at in (p.below_write o, p.below_read o)
 -- it is let pass
 pub handles_idle : (says : Says) (s s' : Session) (seqn type : ℕ) (payload : List ℕ)
     → (stands_of s.finished.items s.kex ≡ Silent → ⊥) → type ≡ message_type payload
-    → (nat_le 2 type && nat_le type 4) ≡ true → Passes s seqn type → s' ≡ s → Handles says s seqn payload Done s'
+    → (nat_le 2 type && nat_le type 4) ≡ true → Passes s seqn type → s' ≡ s
+    → Handles says s seqn payload GivesNothing s'
 handles_idle says s s' seqn type payload begun t idle passes e at read i r q = record {
   events = PacketDropped i ∷ [];
   steps = (
@@ -96,7 +96,7 @@ handles_idle says s s' seqn type payload begun t idle passes e at read i r q = r
   output = ap (λ (x : Session). x.writer.output) e ∙ sym (append-nil s.writer.output);
   bytes = append-nil (sealed_packet at.sealing at.number i);
   delivered = refl;
-  alone = λ d. absurd (let f : Done ≡ Delivers = d in cc);
+  alone = λ d. absurd (let f : GivesNothing ≡ GivesPayload = d in cc);
   input = no_input;
   silent = tt;
 } where
@@ -119,7 +119,7 @@ may_be (x ∷ records) (Inside (AwaitsNewkeys exchange made host)) e = cc
 pub handles_delivered : (says : Says) (s s' : Session) (seqn type : ℕ) (payload : List ℕ) (may : Bool)
     → type ≡ message_type payload → is_payload_type type ≡ true
     → may ≡ may_deliver_by s.finished.items (stands_of s.finished.items s.kex) → may ≡ true → s' ≡ s
-    → Handles says s seqn payload Delivers s'
+    → Handles says s seqn payload GivesPayload s'
 handles_delivered says s s' seqn type payload may t allowed m n e at read i r q = record {
   events = PayloadDelivered i ∷ [];
   steps = (
@@ -276,10 +276,12 @@ finish_stage (AwaitsGroup o) payload x made host h = absurd h
 finish_stage (AwaitsReply o gex local public) payload x made host h = absurd h
 finish_stage (AwaitsRequest o) payload x made host h = absurd h
 finish_stage (AwaitsValue o gex) payload x made host h = absurd h
-finish_stage (AwaitsNewkeys y m k) payload x made host h =
-    (h.payload_is, sym (ap (λ (a : Exchange). AwaitsNewkeys a made host) h.exchange_is
-    ∙ ap (λ (a : FinishedExchange). AwaitsNewkeys y a host) h.made_is
-    ∙ ap (λ (a : Option ServerHost). AwaitsNewkeys y m a) h.host_is))
+finish_stage (AwaitsNewkeys y m k) payload x made host h = (
+  h.payload_is,
+  sym (ap (λ (a : Exchange). AwaitsNewkeys a made host) h.exchange_is
+      ∙ ap (λ (a : FinishedExchange). AwaitsNewkeys y a host) h.made_is
+      ∙ ap (λ (a : Option ServerHost). AwaitsNewkeys y m a) h.host_is),
+)
 
 pub skips_read : (s : Setting) (stage : Stage) (seqn : ℕ) (payload : List ℕ) (written : List (List ℕ)) (x : Exchange)
     (made : FinishedExchange) (host : Option ServerHost) → config_fault s.side s.config ≡ None
@@ -321,8 +323,8 @@ did_end : (says : Says) (s s' : Session) (m : Machine) (inc : Incoming) (at : Sp
     (called : Bool) (opening : OpenKey) (again : Bool) → config_fault s.side s.config.now ≡ None
     → IsCalled called m.stage → IsOwn s m → IsReadAt at inc.seqn inc.payload.now i
     → OrderBy s.side at.number i s.finished.items (names_in_stage m.stage)
-    → Ended says s m inc (Rekeys opening again) s' → Did says s (inside s m called at read) at i s'.writer
-    (state_at s' (spot_behind (Rekeys opening again) at i) 0)
+    → Ended says s m inc (GivesKeys opening again) s' → Did says s (inside s m called at read) at i s'.writer
+    (state_at s' (spot_behind (GivesKeys opening again) at i) 0)
 did_end says s s' m inc at read i called opening again valid c o r ordered e = by d.ends
   where
     d : IsDone m inc s.writer e.host e.newkeys e.written
@@ -338,15 +340,22 @@ did_end says s s' m inc at read i called opening again valid c o r ordered e = b
     made_is = let a = d.newkeys.names_is in let b = d.newkeys.hash_is in let f = d.newkeys.session_is in let g =
         d.newkeys.keys_is in
         ap (λ (x : Names). record kept { names = x }) a ∙ ap
-            (λ (x : List ℕ). record kept { names = d.made.names; hash = x }) b
-            ∙ ap (λ (x : List ℕ). record kept { names = d.made.names; hash = d.made.hash; session_id = x }) f
-            ∙ ap (λ (x : Keys). record d.made { keys = x }) g
+        (λ (x : List ℕ). record kept { names = d.made.names; hash = x }) b
+        ∙ ap (λ (x : List ℕ). record kept { names = d.made.names; hash = d.made.hash; session_id = x }) f
+        ∙ ap (λ (x : Keys). record d.made { keys = x }) g
 
     records_are : s'.finished.items ≡ s.finished.items ++ d.made ∷ []
     records_are = e.installs.2 ∙ ap (λ (x : FinishedExchange). s.finished.items ++ x ∷ []) made_is
 
-    becomes : s' ≡ record s { writer = record e.written { sealing = sealing_of k.cipher.value.local_to_remote; count =
-        0 }; kex = Idle; finished = s'.finished }
+    becomes : s' ≡ record s {
+      writer = record e.written {
+        sealing = sealing_of k.cipher.value.local_to_remote;
+        count =
+            0;
+      };
+      kex = Idle;
+      finished = s'.finished;
+    }
     becomes = e.installs.3
 
     again_is : again ≡ d.made.names.strict_kex
@@ -362,19 +371,19 @@ did_end says s s' m inc at read i called opening again valid c o r ordered e = b
     by : (Finishes m.stage inc.payload.now d.exchange d.made e.host × (d.written ≡ []))
         ⊎ Skips m.setting m.stage inc.seqn inc.payload.now d.written d.exchange d.made e.host
         → Did says s (inside s m called at read) at i s'.writer
-        (state_at s' (spot_behind (Rekeys opening again) at i) 0)
+        (state_at s' (spot_behind (GivesKeys opening again) at i) 0)
     by (inr h) = absurd (skips_read m.setting m.stage inc.seqn inc.payload.now d.written d.exchange d.made e.host
         (subst (λ (x : Side). config_fault x m.setting.config ≡ None) (sym (own_side s m o))
         (subst (λ (x : Config). config_fault s.side x ≡ None) (sym (own_config s m o)) valid)) h)
     by (inl h) =
         let f = finish_stage m.stage inc.payload.now d.exchange d.made e.host h.0 in
         let quiet : e.written ≡ record s.writer { room = e.written.room } = subst
-            (λ (ps : List (List ℕ)). PutsAll s.writer ps e.written) h.1 d.puts in
+        (λ (ps : List (List ℕ)). PutsAll s.writer ps e.written) h.1 d.puts in
         let off : called ≡ false = called_off called m.stage d.exchange d.made e.host c f.1 in
         record {
           events = ExchangeFinished i d.made ∷ [];
           steps = (
-            state_at s' (spot_behind (Rekeys opening again) at i) 0,
+            state_at s' (spot_behind (GivesKeys opening again) at i) 0,
             record {
               exchange = d.exchange;
               host = e.host;
@@ -384,32 +393,38 @@ did_end says s s' m inc at read i called opening again valid c o r ordered e = b
               trusted = e.trusted;
               admissible = r.admissible;
               ordered = ordered;
-              becomes = ap (λ (x : Session). state_at x (spot_behind (Rekeys opening again) at i) 0) becomes
+              becomes = ap (λ (x : Session). state_at x (spot_behind (GivesKeys opening again) at i) 0) becomes
                   ∙ ap (λ (xs : List FinishedExchange). ended s xs (after_exchanges xs)
-                      (spot_behind (Rekeys opening again) at i) (record
-                      { sealing = sealing_of k.cipher.value.local_to_remote; number = e.written.number })) records_are
+                  (spot_behind (GivesKeys opening again) at i) (record
+                  { sealing = sealing_of k.cipher.value.local_to_remote; number = e.written.number })) records_are
                   ∙ ap (λ (x : Where). ended s (s.finished.items ++ d.made ∷ []) x
-                      (spot_behind (Rekeys opening again) at i) (record
-                      { sealing = sealing_of k.cipher.value.local_to_remote; number = e.written.number }))
-                      (behind_records s.finished.items d.made)
+                  (spot_behind (GivesKeys opening again) at i) (record
+                  { sealing = sealing_of k.cipher.value.local_to_remote; number = e.written.number }))
+                  (behind_records s.finished.items d.made)
                   ∙ ap (λ (x : Sealing). ended s (s.finished.items ++ d.made ∷ []) Outside
-                      (spot_renumbered again (record { sealing = x; number = next_number at.number }))
-                      (record { sealing = sealing_of k.cipher.value.local_to_remote; number = e.written.number }))
-                      opens_is
+                  (spot_renumbered again (record { sealing = x; number = next_number at.number }))
+                  (record { sealing = sealing_of k.cipher.value.local_to_remote; number = e.written.number }))
+                  opens_is
                   ∙ ap (λ (x : Bool). ended s (s.finished.items ++ d.made ∷ []) Outside
-                      (spot_renumbered x (record { sealing = (outgoing (other_side s.side) d.made).sealing; number =
-                      next_number at.number })) (record { sealing = sealing_of k.cipher.value.local_to_remote; number =
-                      e.written.number })) again_is
+                  (spot_renumbered x (record {
+                    sealing = (outgoing (other_side s.side) d.made).sealing;
+                    number =
+                        next_number at.number;
+                  })) (record {
+                    sealing = sealing_of k.cipher.value.local_to_remote;
+                    number =
+                        e.written.number;
+                  })) again_is
                   ∙ ap (λ (x : Sealing). ended s (s.finished.items ++ d.made ∷ []) Outside
-                      (spot_installed (outgoing (other_side s.side) d.made) (spot_after at i))
-                      (record { sealing = x; number = e.written.number })) seals_is
+                  (spot_installed (outgoing (other_side s.side) d.made) (spot_after at i))
+                  (record { sealing = x; number = e.written.number })) seals_is
                   ∙ ap (λ (w : Writer). ended s (s.finished.items ++ d.made ∷ []) Outside
-                      (spot_installed (outgoing (other_side s.side) d.made) (spot_after at i))
-                      (record { sealing = (outgoing s.side d.made).sealing; number = w.number })) quiet
+                  (spot_installed (outgoing (other_side s.side) d.made) (spot_after at i))
+                  (record { sealing = (outgoing s.side d.made).sealing; number = w.number })) quiet
                   ∙ ap (λ (x : Bool). record (ended s (s.finished.items ++ d.made ∷ []) Outside
-                      (spot_installed (outgoing (other_side s.side) d.made) (spot_after at i))
-                      (record { sealing = (outgoing s.side d.made).sealing; number = s.writer.number })) { called = x })
-                      (sym off);
+                  (spot_installed (outgoing (other_side s.side) d.made) (spot_after at i))
+                  (record { sealing = (outgoing s.side d.made).sealing; number = s.writer.number })) { called = x })
+                  (sym off);
             },
             refl,
           );
@@ -429,16 +444,16 @@ awaited_state : (says : Says) (s s' : Session) (m : Machine) (inc : Incoming) (a
 awaited_state says s s' m inc at read i a = sym (ap (λ (x : Session). state_at x (spot_after at i)
     (count_after read (length i.payload))) a.becomes
     ∙ ap (λ (w : Writer). stated s s.held.items w (Inside a.next.stage) false (spot_after at i)
-        (count_after read (length i.payload))) a.writer_is)
+    (count_after read (length i.payload))) a.writer_is)
 
 pub did_move : (says : Says) (s s' : Session) (m : Machine) (inc : Incoming) (at : Spot) (read : ℕ) (i : Item)
-    (called : Bool) (answer : Disposition) → config_fault s.side s.config.now ≡ None → IsCalled called m.stage
+    (called : Bool) (answer : Outcome) → config_fault s.side s.config.now ≡ None → IsCalled called m.stage
     → is_kex_type (type_of i) ≡ true → IsOwn s m → IsReadAt at inc.seqn inc.payload.now i
     → OrderBy s.side at.number i s.finished.items (names_in_stage m.stage) → Moves says s m inc answer s'
     → Did says s (inside s m called at read) at i s'.writer
     (state_at s' (spot_behind answer at i) (read_behind answer read i)) × (delivered_by answer i ≡ [])
-did_move says s s' m inc at read i called Delivers valid c kex o r ordered h = absurd h
-did_move says s s' m inc at read i called Done valid c kex o r ordered h =
+did_move says s s' m inc at read i called GivesPayload valid c kex o r ordered h = absurd h
+did_move says s s' m inc at read i called GivesNothing valid c kex o r ordered h =
     let d = did_await says s m inc h.next h.reset h.written at read i called c kex o r ordered h.does in (
       record {
         events = d.events;
@@ -452,5 +467,5 @@ did_move says s s' m inc at read i called Done valid c kex o r ordered h =
       },
       refl,
     )
-did_move says s s' m inc at read i called (Rekeys opening again) valid c kex o r ordered h =
+did_move says s s' m inc at read i called (GivesKeys opening again) valid c kex o r ordered h =
     (did_end says s s' m inc at read i called opening again valid c o r ordered h, refl)

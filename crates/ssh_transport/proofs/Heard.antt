@@ -84,8 +84,8 @@ hears_none c s' piece r' w h p = record {
   config = ap (λ (x : Session). x.config) h.2;
   steps = pushed c [] s' [] r' p (ap (λ (x : Session). state_at x (reading_spot c) c.reader.count) h.2
       ∙ ap (λ (x : Option (List ℕ)). record (state_at c.session (reading_spot c) c.reader.count) { heard = x })
-          (unheard_yet (lets_pass c.session.side) c.session.line piece s'.line h.0
-          ∙ sym (none_unheard (lets_pass c.session.side) c.session.line piece s'.line h.0)));
+      (unheard_yet (lets_pass c.session.side) c.session.line piece s'.line h.0
+      ∙ sym (none_unheard (lets_pass c.session.side) c.session.line piece s'.line h.0)));
   output = ap (λ (x : Session). x.writer.output) h.2 ∙ sym (append-nil c.session.writer.output);
   unread = refl;
   bytes = λ at. refl;
@@ -150,9 +150,14 @@ record Found (found : IdFound) (had used : ℕ) (new : IdReading) : Type 0 where
 decided_some : (found : IdFound) (had used : ℕ) (left new : IdReading)
     → Decides found had left (Ok (progress.Id used)) new → Found found had used new
 decided_some lines.NotYet had used left new d = absurd (let e : Ok (progress.Id used) ≡ Ok progress.NotYet = d.0 in cc)
-decided_some (lines.Id text end) had used left new d = record
-    { text = text; end = end; found_is = refl; used_is = (let e : Ok (progress.Id used) ≡ Ok (progress.Id (end - had)) =
-    d.0 in cc); new_is = d.1 }
+decided_some (lines.Id text end) had used left new d = record {
+  text = text;
+  end = end;
+  found_is = refl;
+  used_is = (let e : Ok (progress.Id used) ≡ Ok (progress.Id (end - had)) =
+      d.0 in cc);
+  new_is = d.1;
+}
 decided_some lines.Version had used left new d = absurd (let e = d.0 in cc)
 
 waits_unheard : (line : IdReading) (bytes : List ℕ) (others : ℕ) → line ≡ Waiting bytes others → IsHeard line → ⊥
@@ -166,7 +171,7 @@ line_some : (side : Side) (line : IdReading) (waiting piece : List ℕ) (more : 
 line_some side line waiting piece more new behind bytes text others end e f n h b =
     subst (λ (x : IdReading). ReadsLineFrom side x waiting piece (IdHeard text ∷ more) new behind) (sym e)
     (subst (λ (x : IdFound). HearsFrom side x (bytes ++ piece) others (IdHeard text ∷ more) new behind) (sym f)
-        ((more, refl, n), h, b))
+    ((more, refl, n), h, b))
 
 -- the first line is heard, and the first exchange begun
 hears_first : (c : Connection) (s' : Session) (used : ℕ) (piece : List ℕ) (r' : Reader) (bytes : List ℕ) (others : ℕ)
@@ -179,11 +184,19 @@ hears_first c s' used piece r' bytes others live w h p e = record {
   config = ap (λ (x : Session). x.config) b.becomes;
   steps = pushed c (IdHeard f.text ∷ ExchangeBegun Start b.item ∷ []) s' (drop used piece) r' p (
     state_at s1 (reading_spot c) c.reader.count,
-    record { unheard = ap heard_of e; silent = silent; becomes = ap
-        (λ (x : Option (List ℕ)). record (state_at c.session (reading_spot c) c.reader.count) { heard = x })
-        (ap heard_of f.new_is) },
-    (state_at s' (reading_spot c) c.reader.count, begins_exchange s1 s' c.reader.count (reading_spot c) Start b refl
-        (silent, subst (λ (x : Option (List ℕ)). IsSome x) (sym (ap heard_of f.new_is)) refl), refl),
+    record {
+      unheard = ap heard_of e;
+      silent = silent;
+      becomes = ap
+          (λ (x : Option (List ℕ)). record (state_at c.session (reading_spot c) c.reader.count) { heard = x })
+          (ap heard_of f.new_is);
+    },
+    (
+      state_at s' (reading_spot c) c.reader.count,
+      begins_exchange s1 s' c.reader.count (reading_spot c) Start b refl
+          (silent, subst (λ (x : Option (List ℕ)). IsSome x) (sym (ap heard_of f.new_is)) refl),
+      refl,
+    ),
   );
   output = ap (λ (w : Writer). w.output) b.sends.written
       ∙ ap (λ (t : List ℕ). c.session.writer.output ++ t) (sym
@@ -277,15 +290,21 @@ line_decided n r e f = cc
 
 line_behind : (s s' : Session) (piece more : List ℕ) (used : ℕ) → HearsLine s piece (Some used) s'
     → HearsLine s (piece ++ more) (Some used) s'
-line_behind s s' piece more used h = (fed_more (lets_pass s.side) s.line s'.line piece more (Ok (progress.Id used))
-    (line_decided used (Ok (progress.Id used)) refl) h.0, h.1, h.2)
+line_behind s s' piece more used h = (
+  fed_more (lets_pass s.side) s.line s'.line piece more (Ok (progress.Id used))
+      (line_decided used (Ok (progress.Id used)) refl) h.0,
+  h.1,
+  h.2,
+)
 
 -- the reader, where these bytes are left
 left_of : (r r' : Reader) (bytes handed : List ℕ) (spent : ℕ)
     → r' ≡ record r { waiting = bytes; handed = handed; spent = spent }
     → Pushes (record r { waiting = []; handed = []; spent = 0 }) bytes r'
-left_of r r' bytes handed spent e = record { becomes = subst
-    (λ (x : Reader). x ≡ record r { waiting = bytes; handed = x.handed; spent = x.spent }) (sym e) refl }
+left_of r r' bytes handed spent e = record {
+  becomes = subst
+      (λ (x : Reader). x ≡ record r { waiting = bytes; handed = x.handed; spent = x.spent }) (sym e) refl;
+}
 
 hears_left : (c : Connection) (s' : Session) (used : ℕ) (r' : Reader) (more handed : List ℕ) (spent : ℕ) → IsLive c
     → used ≤ length c.reader.waiting → HearsLine c.session c.reader.waiting (Some used) s'
@@ -295,8 +314,8 @@ hears_left c s' used r' more handed spent live within h e = hears_by (emptied c)
     c.session.line (live_emptied c live) (waits_nothing c.session.line)
     (line_behind c.session s' c.reader.waiting more used h)
     (left_of c.reader r' (drop used (c.reader.waiting ++ more)) handed spent
-        (e ∙ ap (λ (b : List ℕ). record c.reader { waiting = b; handed = handed; spent = spent })
-        (sym (drop-append-le used c.reader.waiting more within)))) refl
+    (e ∙ ap (λ (b : List ℕ). record c.reader { waiting = b; handed = handed; spent = spent })
+    (sym (drop-append-le used c.reader.waiting more within)))) refl
 
 pub hears_more : (c : Connection) (s' : Session) (used : ℕ) (r' : Reader) (more handed : List ℕ) (spent : ℕ) → IsLive c
     → used ≤ length c.reader.waiting → HearsLine c.session c.reader.waiting (Some used) s'
@@ -313,8 +332,8 @@ pub hears_some : (c : Connection) (s' : Session) (used : ℕ) (r' : Reader) (han
 hears_some c s' used r' handed spent live within h e = subst
     (λ (b : List ℕ). Hears (emptied c) b (record c { session = s'; reader = r' })) (append-nil c.reader.waiting)
     (hears_left c s' used r' [] handed spent live within h
-        (e ∙ ap (λ (b : List ℕ). record c.reader { waiting = b; handed = handed; spent = spent })
-        (sym (append-nil (drop used c.reader.waiting)))))
+    (e ∙ ap (λ (b : List ℕ). record c.reader { waiting = b; handed = handed; spent = spent })
+    (sym (append-nil (drop used c.reader.waiting)))))
 
 pub hears_part : (c : Connection) (s' : Session) (r' : Reader) (n : ℕ) (handed : List ℕ) (spent : ℕ)
     → n ≡ length c.reader.waiting → HearsLine c.session c.reader.waiting None s'
@@ -343,15 +362,18 @@ found_wider : (side : Side) (bytes more : List ℕ) (others : ℕ) (events : Lis
     → IsHeard new → (found : IdFound) → id_of (still_allowed (lets_pass side) others) bytes ≡ found
     → HearsFrom side found bytes others events new behind
     → HearsFrom side (id_of (still_allowed (lets_pass side) others) (bytes ++ more)) (bytes ++ more) others events new
-        (behind ++ more)
+    (behind ++ more)
 found_wider side bytes more others events new behind i lines.NotYet f h = absurd
     (let e : None ≡ Some i.0 = sym (left_unheard (still_allowed (lets_pass side) others) bytes others)
     ∙ ap heard_of (sym h.1 ∙ i.1) in cc)
 found_wider side bytes more others events new behind i (lines.Id text end) f h =
     subst (λ (x : IdFound). HearsFrom side x (bytes ++ more) others events new (behind ++ more))
-        (sym (decided_stays (still_allowed (lets_pass side) others) bytes more not_yet ∙ f))
-    (h.0, h.1, ap (λ (b : List ℕ). b ++ more) h.2 ∙ sym (drop-append-le end bytes more
-        (found_within (still_allowed (lets_pass side) others) bytes text end f)))
+    (sym (decided_stays (still_allowed (lets_pass side) others) bytes more not_yet ∙ f)) (
+      h.0,
+      h.1,
+      ap (λ (b : List ℕ). b ++ more) h.2 ∙ sym (drop-append-le end bytes more
+          (found_within (still_allowed (lets_pass side) others) bytes text end f)),
+    )
   where
     not_yet : id_of (still_allowed (lets_pass side) others) bytes ≡ lines.NotYet → ⊥
     not_yet n = let e : lines.Id text end ≡ lines.NotYet = sym f ∙ n in cc
@@ -362,9 +384,9 @@ line_wider : (side : Side) (line : IdReading) (waiting piece more : List ℕ) (e
     → ReadsLineFrom side line waiting (piece ++ more) events new (behind ++ more)
 line_wider side (Waiting bytes others) waiting piece more events new behind i h =
     subst (λ (b : List ℕ). HearsFrom side (id_of (still_allowed (lets_pass side) others) b) b others events new
-        (behind ++ more)) (append_assoc bytes piece more)
+    (behind ++ more)) (append_assoc bytes piece more)
     (found_wider side (bytes ++ piece) more others events new behind i
-        (id_of (still_allowed (lets_pass side) others) (bytes ++ piece)) refl h)
+    (id_of (still_allowed (lets_pass side) others) (bytes ++ piece)) refl h)
 line_wider side (Heard text) waiting piece more events new behind i h =
     (h.0, h.1, ap (λ (b : List ℕ). b ++ more) h.2 ∙ append_assoc waiting piece more)
 line_wider side Failed waiting piece more events new behind i h = absurd h
@@ -393,7 +415,7 @@ hears_kept c c1 m piece handed n spent e f h = subst (λ (b : List ℕ). Hears (
     (ap (λ (r : Reader). r.waiting ++ drop n piece) f ∙ append_assoc c.reader.waiting (take n piece) (drop n piece)
     ∙ ap (λ (b : List ℕ). c.reader.waiting ++ b) (take-append-drop n piece))
     (subst (λ (x : Connection). Hears x (c1.reader.waiting ++ drop n piece) m)
-        (emptied_same c c1 (c.reader.waiting ++ take n piece) handed spent e f) h)
+    (emptied_same c c1 (c.reader.waiting ++ take n piece) handed spent e f) h)
 
 pub hears_all : (c c1 m : Connection) (piece handed : List ℕ) (n spent : ℕ) → c1 ≡ record c { reader = c1.reader }
     → c1.reader ≡ record c.reader { waiting = c.reader.waiting ++ take n piece; handed = handed; spent = spent }
@@ -402,7 +424,7 @@ hears_all c c1 m piece handed n spent e f all h = subst (λ (b : List ℕ). Hear
     (ap (λ (r : Reader). r.waiting) f ∙ ap (λ (k : ℕ). c.reader.waiting ++ take k piece) all
     ∙ ap (λ (b : List ℕ). c.reader.waiting ++ b) (take-length piece))
     (subst (λ (x : Connection). Hears x c1.reader.waiting m)
-        (emptied_same c c1 (c.reader.waiting ++ take n piece) handed spent e f) h)
+    (emptied_same c c1 (c.reader.waiting ++ take n piece) handed spent e f) h)
 
 -- where that is all of it
 pub all_kept : (c c1 : Connection) (piece handed : List ℕ) (n spent : ℕ) → c1 ≡ record c { reader = c1.reader }
@@ -411,10 +433,10 @@ pub all_kept : (c c1 : Connection) (piece handed : List ℕ) (n spent : ℕ) →
     → waiting_length c1.session.line + length c1.reader.waiting < 262245 → n ≡ length piece
 all_kept c c1 piece handed n spent e f within all short =
     let a : length c1.reader.waiting ≡ length c.reader.waiting + length (take n piece) = ap
-        (λ (r : Reader). length r.waiting) f ∙ length-append c.reader.waiting (take n piece) in
+    (λ (r : Reader). length r.waiting) f ∙ length-append c.reader.waiting (take n piece) in
     let b : length (take n piece) ≡ n = length-take-le n piece within in
     let d : waiting_length c1.session.line ≡ waiting_length c.session.line = ap
-        (λ (x : Connection). waiting_length x.session.line) e in
+    (λ (x : Connection). waiting_length x.session.line) e in
     all (omega (arith, a, b, d, short))
 
 -- what decides nothing is short
@@ -422,7 +444,7 @@ part_short : (allow : Bool) (line new : IdReading) (piece : List ℕ) → IsShor
     → Feeds allow line piece (Ok progress.NotYet) new → waiting_length line + length piece < 262245
 part_short allow (Waiting bytes others) new piece w s h =
     let few : length piece + 0 ≤ 255 * (still_allowed allow others + 1) - length bytes = fits_room allow
-        (Waiting bytes others) new piece 0 h (short_length new s) in
+    (Waiting bytes others) new piece 0 h (short_length new s) in
     let most = allowed_few allow others in
     let own = w.0 in
     omega (arith, few, most, own)
@@ -506,7 +528,7 @@ ends_line : (side : Side) (line : IdReading) (piece : List ℕ) (used : ℕ) (ne
     → Feeds (lets_pass side) line piece (Ok (progress.Id used)) new → EndsBy side line piece
 ends_line side (Waiting bytes others) piece used new n h =
     let f = decided_some (id_of (still_allowed (lets_pass side) others) (bytes ++ piece)) (length bytes) used
-        (reading_left (still_allowed (lets_pass side) others) (bytes ++ piece) others) new h in
+    (reading_left (still_allowed (lets_pass side) others) (bytes ++ piece) others) new h in
     (f.text, f.end, f.found_is)
 ends_line side (Heard text) piece used new n h = absurd (let e : Some text ≡ None = n in cc)
 ends_line side Failed piece used new n h = absurd (let e = h.0 in cc)

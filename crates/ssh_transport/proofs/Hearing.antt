@@ -208,8 +208,15 @@ unheard_yet allow Failed piece new h = absurd (let e = h.0 in cc)
 settled_line : (s s' : Session) (line : IdReading) (read : ℕ) → s' ≡ record s { line = line }
     → (stands_of s.finished.items s.kex ≡ Silent → heard_of line ≡ None) → IsSettled s read → IsSettled s' read
 settled_line s s' line read e h q = subst (λ (x : Session). IsSettled x read) (sym e)
-    (λ at. let p = q at in record { owes = refl; not_called = refl; silent = h; sent = p.sent; below_write =
-    p.below_write; below_read = p.below_read })
+    (λ at. let p = q at in record {
+      owes = refl;
+      not_called = refl;
+      silent = h;
+      sent = p.sent;
+      below_write =
+          p.below_write;
+      below_read = p.below_read;
+    })
 
 pub settled_not_yet : (allow : Bool) (s s' : Session) (line : IdReading) (piece : List ℕ) (got : IdProgress) (read : ℕ)
     → Feeds allow s.line piece (Ok got) line → got ≡ progress.NotYet → s' ≡ record s { line = line } → IsSettled s read

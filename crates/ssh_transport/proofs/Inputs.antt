@@ -5,7 +5,7 @@ use Rattle.std.specs.Borrow.{Bor}
 use Rattle.std.specs.Str.{bytes_eq}
 use Rattle.ssh_wire.specs.Lines as lines
 use Rattle.ssh_wire.specs.Lines.{IdFound, id_of, id_text}
-use Rattle.ssh_wire.specs.Reading.{IdReading, Waiting, Heard, Failed, IsShort, still_allowed, waiting_length}
+use Rattle.ssh_wire.specs.Reading.{IdReading, Waiting, Heard, Failed, IsShort, still_allowed}
 use Rattle.ssh_wire.specs.declared.error.Error.{Error}
 use Rattle.ssh_wire.specs.declared.side.Side.{Side}
 use Rattle.ssh_mac.proofs.Lemmas.{tags_are_short}
@@ -20,8 +20,8 @@ use Rattle.ssh_rules.specs.Polling.{LendsPayload, Polls}
 use Rattle.ssh_rules.specs.Standing.{HearsFrom, HearsNone, IsInput, ReadsLineFrom, Standing, TakesInput, WaitsInPart, lets_pass, unfinished_by, nothing_said}
 use Rattle.ssh_rules.proofs.Lemmas.{delivered_more, handled_more, kept_line, read_join, sent_join, steps_join, takes_kept}
 use Rattle.ssh_transport.specs.Handling.{IsHeard}
-use Rattle.ssh_transport.specs.Kept.{IsKept, IsLive}
-use Rattle.ssh_transport.specs.States.{CanBegin, WaitsBehind, bare_of, emptied, heard_of, reading_spot, standing_of, state_at}
+use Rattle.ssh_transport.specs.Kept.{IsLive}
+use Rattle.ssh_transport.specs.States.{WaitsBehind, bare_of, emptied, heard_of, reading_spot, standing_of, state_at}
 use Rattle.ssh_transport.specs.Taking.{Goes, Hears, Lends, LendsBehind, PollsOne, Reads, Takes, TakesPayload, lent_by, read_by}
 use Rattle.ssh_transport.specs.declared.connection.Connection.{Connection}
 use Rattle.ssh_transport.proofs.Answering.{spot_of}
@@ -87,7 +87,7 @@ by_length_short false sealing number n bytes e h =
     let most : n ≤ 262177 = not_below longest_packet n (or_first (nat_lt longest_packet n) _ e) in
     let tag = tag_short sealing in
     let few = unfinished_below (nat_lt (length bytes) (4 + n + tag_size sealing)) (length bytes)
-        (4 + n + tag_size sealing) _ refl (λ f. tagged_not sealing number n _ _ f) h in
+    (4 + n + tag_size sealing) _ refl (λ f. tagged_not sealing number n _ _ f) h in
     omega (arith, most, tag, few)
 
 front_short : (t : Bool) (sealing : Sealing) (number : ℕ) (bytes : List ℕ)
@@ -158,11 +158,11 @@ went says c mid c' piece es h k heard = record {
       ∙ append_assoc c.session.writer.output (sent_bytes c.session.side (spot_of c.session.writer) h.events)
       (sent_bytes mid.session.side (spot_of mid.session.writer) es)
       ∙ ap (λ (x : Side). c.session.writer.output ++ (sent_bytes c.session.side (spot_of c.session.writer) h.events ++
-          sent_bytes x (spot_of mid.session.writer) es)) h.side
+      sent_bytes x (spot_of mid.session.writer) es)) h.side
       ∙ ap (λ (b : List ℕ). c.session.writer.output ++ b) (sym
-          (sent_join says c.session.side c.session.config.now (id_text c.session.config.now.id) h.events es
-          (state_at c.session (reading_spot c) c.reader.count)
-          (state_at mid.session (reading_spot mid) mid.reader.count) first));
+      (sent_join says c.session.side c.session.config.now (id_text c.session.config.now.id) h.events es
+      (state_at c.session (reading_spot c) c.reader.count)
+      (state_at mid.session (reading_spot mid) mid.reader.count) first));
   input = input_more h.events es h.input k.input;
   behind = mid.reader.waiting;
   line = subst (λ (x : IdReading). ReadsLineFrom c.session.side c.session.line c.reader.waiting piece (h.events ++ es) x
@@ -170,8 +170,8 @@ went says c mid c' piece es h k heard = record {
       mid.session.line mid.reader.waiting k.silent heard h.line);
   read = k.bytes ∙ ap (λ (x : Side). read_bytes x (reading_spot mid) es ++ c'.reader.waiting) h.side
       ∙ ap (λ (b : List ℕ). b ++ c'.reader.waiting) (sym (read_join says c.session.side c.session.config.now
-          (id_text c.session.config.now.id) h.events es (state_at c.session (reading_spot c) c.reader.count)
-          (state_at mid.session (reading_spot mid) mid.reader.count) first
+      (id_text c.session.config.now.id) h.events es (state_at c.session (reading_spot c) c.reader.count)
+      (state_at mid.session (reading_spot mid) mid.reader.count) first
       ∙ ap (λ (b : List ℕ). b ++ read_bytes c.session.side (reading_spot mid) es) (h.bytes (reading_spot c))));
 } where
   first : Steps says c.session.side c.session.config.now (id_text c.session.config.now.id)
@@ -188,8 +188,8 @@ went says c mid c' piece es h k heard = record {
       (state_at mid.session (reading_spot mid) mid.reader.count) es
       (state_at c'.session (reading_spot c') c'.reader.count)) h.side
       (subst (λ (b : Bor Config). Steps says mid.session.side b.now (id_text b.now.id)
-          (state_at mid.session (reading_spot mid) mid.reader.count) es
-          (state_at c'.session (reading_spot c') c'.reader.count)) h.config k.steps)
+      (state_at mid.session (reading_spot mid) mid.reader.count) es
+      (state_at c'.session (reading_spot c') c'.reader.count)) h.config k.steps)
 
 takes_input : (says : Says) (c c' : Connection) (piece : List ℕ) → c'.failed ≡ false → IsLive c' → Takes says c piece c'
     → TakesInput says (bare_of c) piece (bare_of c')
@@ -227,9 +227,14 @@ pub takes_read : (says : Config → Says) (c mid c' : Connection) (piece : List 
     → Hears c piece mid → IsHeard mid.session.line → OnOk answer (Reads (says mid.session.config.now) mid c')
     → OnOk answer (WaitsInPart (reading_spot c') c'.reader.waiting)
     → OnOk answer (Takes (says c.session.config.now) c piece c')
-takes_read says c mid c' piece (Ok u) h i k p = record
-    { mid = mid; heard = h; reads = subst (λ (b : Bor Config). Reads (says b.now) mid c') h.config k; line = inl i; part
-    = p }
+takes_read says c mid c' piece (Ok u) h i k p = record {
+  mid = mid;
+  heard = h;
+  reads = subst (λ (b : Bor Config). Reads (says b.now) mid c') h.config k;
+  line = inl i;
+  part
+      = p;
+}
 takes_read says c mid c' piece (Err e) h i k p = tt
 
 -- ---- as calls answer
@@ -249,7 +254,7 @@ pub fed_answer : (says : Says) (c c' mid : Connection) (piece : List ℕ) (answe
 fed_answer says c c' mid piece (Ok u) done f d e g live w t = subst
     (λ (x : Result (Unit {0}) Error). OnOk x (TakesInput says (standing_of c) piece (standing_of c'))) (sym d)
     (subst (λ (x : Connection). TakesInput says (standing_of c) piece (standing_of x)) (sym e)
-        (takes_fed says c mid piece (g ∙ f) live w t))
+    (takes_fed says c mid piece (g ∙ f) live w t))
 fed_answer says c c' mid piece (Err x) done f d e g live w t = subst
     (λ (y : Result (Unit {0}) Error). OnOk y (TakesInput says (standing_of c) piece (standing_of c'))) (sym d) tt
 
@@ -305,8 +310,11 @@ polls_input : (says : Says) (c c' : Connection) (lends : Bool) → c'.failed ≡
     → Polls says (standing_of c) (lent_by lends c'.reader.handed) (standing_of c')
 polls_input says c c' true f live w t = subst (λ (x : Standing). LendsPayload says (standing_of c) c'.reader.handed x)
     (sym (standing_bare c' w)) (lends_input says c c' c'.reader.handed f live t)
-polls_input says c c' false f live w t = (takes_fed says c c' [] f live w
-    (subst (λ (b : List ℕ). Takes says (emptied c) b c') (sym (append-nil c.reader.waiting)) t.0), items_of c' c t.1)
+polls_input says c c' false f live w t = (
+  takes_fed says c c' [] f live w
+      (subst (λ (b : List ℕ). Takes says (emptied c) b c') (sym (append-nil c.reader.waiting)) t.0),
+  items_of c' c t.1,
+)
 
 pub polled_answer : (says : Says) (c c' mid : Connection) (answer done : Result Bool Error) → c.failed ≡ false
     → done ≡ answer → OnOk answer (c' ≡ mid) → mid.failed ≡ c.failed → OnOk answer (IsLive mid)
@@ -317,7 +325,7 @@ polled_answer says c c' mid (Ok lends) done f d e g live w t = subst
     (λ (x : Result Bool Error). IfOk x (λ l. Polls says (standing_of c) (lent_by l c'.reader.handed) (standing_of c')))
     (sym d)
     (subst (λ (x : Connection). Polls says (standing_of c) (lent_by lends x.reader.handed) (standing_of x)) (sym e)
-        (polls_input says c mid lends (g ∙ f) live w t))
+    (polls_input says c mid lends (g ∙ f) live w t))
 polled_answer says c c' mid (Err x) done f d e g live w t = subst
     (λ (y : Result Bool Error). IfOk y (λ l. Polls says (standing_of c) (lent_by l c'.reader.handed) (standing_of c')))
     (sym d) tt
@@ -327,10 +335,25 @@ takes_payload : (says : Config → Says) (c mid c' : Connection) (lends : Bool) 
     → IsHeard mid.session.line → mid.delivered ≡ c.delivered
     → PollsOne (says mid.session.config.now) mid (read_by lends) c'
     → TakesPayload (says c.session.config.now) c lends c'
-takes_payload says c mid c' true h i d k = record { mid = mid; heard = h; line = i; unqueued = d; lends = subst
-    (λ (b : Bor Config). Lends (says b.now) mid c'.reader.handed c') h.config k }
-takes_payload says c mid c' false h i d k = (record { mid = mid; heard = h; reads = subst
-    (λ (b : Bor Config). Reads (says b.now) mid c') h.config k.0; line = inl i; part = k.2 }, k.1 ∙ d)
+takes_payload says c mid c' true h i d k = record {
+  mid = mid;
+  heard = h;
+  line = i;
+  unqueued = d;
+  lends = subst
+      (λ (b : Bor Config). Lends (says b.now) mid c'.reader.handed c') h.config k;
+}
+takes_payload says c mid c' false h i d k = (
+  record {
+    mid = mid;
+    heard = h;
+    reads = subst
+        (λ (b : Bor Config). Reads (says b.now) mid c') h.config k.0;
+    line = inl i;
+    part = k.2;
+  },
+  k.1 ∙ d,
+)
 
 pub takes_polled : (says : Config → Says) (c mid c' : Connection) (answer : Result Bool Error)
     → Hears (emptied c) c.reader.waiting mid → IsHeard mid.session.line → mid.delivered ≡ c.delivered
@@ -341,5 +364,8 @@ takes_polled says c mid c' (Err e) h i d k = tt
 
 pub takes_nothing : (says : Says) (c c' : Connection) → Hears (emptied c) c.reader.waiting c' → c'.reader.waiting ≡ []
     → c'.delivered ≡ c.delivered → TakesPayload says c false c'
-takes_nothing says c c' h n d = (takes_none says (emptied c) c' c.reader.waiting h
-    (part_nothing (reading_spot c') c'.reader.waiting n), d)
+takes_nothing says c c' h n d = (
+  takes_none says (emptied c) c' c.reader.waiting h
+      (part_nothing (reading_spot c') c'.reader.waiting n),
+  d,
+)

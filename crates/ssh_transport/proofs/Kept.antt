@@ -11,26 +11,54 @@ use Rattle.ssh_transport.specs.declared.connection.Connection.{Connection}
 use Rattle.ssh_transport.specs.declared.session.Session.{Session}
 
 live_output : (c : Connection) (output : List ℕ) (room : ℕ) → IsLive c
-    → IsLive (record c { session = record c.session { writer = record c.session.writer
-    { output = output; room = room } } })
-live_output c output room h = record { begins = record { valid = h.begins.valid; short = h.begins.short }; settled =
-    λ at. h.settled at; good = h.good; opened = record { machine = h.opened.machine; heard = h.opened.heard }; numbered
-    = h.numbered; short = h.short; heeds = h.heeds; unbroken = h.unbroken; windowed = h.windowed }
+    → IsLive (record c {
+      session = record c.session {
+        writer = record c.session.writer
+            { output = output; room = room };
+      };
+    })
+live_output c output room h = record {
+  begins = record { valid = h.begins.valid; short = h.begins.short };
+  settled =
+      λ at. h.settled at;
+  good = h.good;
+  opened = record { machine = h.opened.machine; heard = h.opened.heard };
+  numbered
+      = h.numbered;
+  short = h.short;
+  heeds = h.heeds;
+  unbroken = h.unbroken;
+  windowed = h.windowed;
+}
 
 -- an output that was sent
 pub kept_output : (c c' : Connection) (output : List ℕ) (room : ℕ)
     → c' ≡ record c { session = record c.session { writer = record c.session.writer { output = output; room = room } } }
     → IsKept c → IsKept c'
 kept_output c c' output room e h = subst IsKept (sym e)
-    (record { begins = record { valid = h.begins.valid; short = h.begins.short }; heeds = h.heeds; within = h.within;
-    live = λ f. live_output c output room (h.live f) })
+    (record {
+      begins = record { valid = h.begins.valid; short = h.begins.short };
+      heeds = h.heeds;
+      within = h.within;
+      live = λ f. live_output c output room (h.live f);
+    })
 
 -- a reader that goes on where it was, with other bytes that wait
 pub live_reader : (c : Connection) (r : Reader) → r.number ≡ c.reader.number → r.count ≡ c.reader.count
     → r.failed ≡ c.reader.failed → r.window ≡ c.reader.window → IsLive c → IsLive (record c { reader = r })
-live_reader c r a b d e h = record { begins = h.begins; settled = subst (λ (n : ℕ). IsSettled c.session n) (sym b)
-    h.settled; good = h.good; opened = h.opened; numbered = subst (λ (n : ℕ). n < 2 ^ 32) (sym a) h.numbered; short =
-    h.short; heeds = h.heeds; unbroken = d ∙ h.unbroken; windowed = e ∙ h.windowed }
+live_reader c r a b d e h = record {
+  begins = h.begins;
+  settled = subst (λ (n : ℕ). IsSettled c.session n) (sym b)
+      h.settled;
+  good = h.good;
+  opened = h.opened;
+  numbered = subst (λ (n : ℕ). n < 2 ^ 32) (sym a) h.numbered;
+  short =
+      h.short;
+  heeds = h.heeds;
+  unbroken = d ∙ h.unbroken;
+  windowed = e ∙ h.windowed;
+}
 
 -- a session that goes on with the line that it has
 pub kept_session : (c : Connection) (s' : Session) → s'.line ≡ c.session.line → CanBegin s' → IsKept c
@@ -101,10 +129,15 @@ pub standing_with : (c c1 : Connection) (more handed : List ℕ) (spent : ℕ) �
     → standing_of c1 ≡ with_input (standing_of c) more
 standing_with c c1 more handed spent e f = ap standing_of e
     ∙ ap (λ (r : Reader). standing_of (record c { reader = r })) f
-    ∙ ap (λ (l : IdReading). record (standing_of c) { line = l; waiting = waiting_with c.session.line []
-        (c.reader.waiting ++ more) }) (more_line c.session.line c.reader.waiting more)
-    ∙ ap (λ (x : List ℕ). record (standing_of c) { line = line_with (line_with c.session.line c.reader.waiting) more;
-        waiting = x }) (more_waiting c.session.line c.reader.waiting more)
+    ∙ ap (λ (l : IdReading). record (standing_of c) {
+      line = l;
+      waiting = waiting_with c.session.line []
+          (c.reader.waiting ++ more);
+    }) (more_line c.session.line c.reader.waiting more)
+    ∙ ap (λ (x : List ℕ). record (standing_of c) {
+      line = line_with (line_with c.session.line c.reader.waiting) more;
+      waiting = x;
+    }) (more_waiting c.session.line c.reader.waiting more)
 
 -- how much that is
 pub unfinished_length : (c : Connection) → (c.session.line ≡ Failed → ⊥)
@@ -125,8 +158,8 @@ pub more_taken : (c c1 : Connection) (rest handed : List ℕ) (n spent : ℕ) �
 more_taken c c1 rest handed n spent e f = ap (λ (x : Connection). with_more x (drop n rest)) e
     ∙ ap (λ (r : Reader). with_more (record c { reader = r }) (drop n rest)) f
     ∙ ap (λ (b : List ℕ). record c { reader = record c.reader { waiting = b; handed = []; spent = 0 } })
-        (append_assoc c.reader.waiting (take n rest) (drop n rest)
-        ∙ ap (λ (b : List ℕ). c.reader.waiting ++ b) (take-append-drop n rest))
+    (append_assoc c.reader.waiting (take n rest) (drop n rest)
+    ∙ ap (λ (b : List ℕ). c.reader.waiting ++ b) (take-append-drop n rest))
 
 take_few : (n : ℕ) (xs : List ℕ) → length (take n xs) ≤ n
 take_few zero xs = omega arith
@@ -148,7 +181,7 @@ kept_taken c r piece n u k spent h size fits e = record {
   heeds = h.heeds;
   within = (
       let a : length r.waiting ≡ length c.reader.waiting + length (take k (take n piece)) = ap
-          (λ (x : Reader). length x.waiting) e ∙ length-append c.reader.waiting (take k (take n piece)) in
+      (λ (x : Reader). length x.waiting) e ∙ length-append c.reader.waiting (take k (take n piece)) in
       let b = take_within k (take n piece) in
       let f = take_few n piece in
       let d : u ≡ waiting_length c.session.line + length c.reader.waiting = size ∙ unfinished_length c h.heeds in

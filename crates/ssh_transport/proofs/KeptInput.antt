@@ -38,10 +38,12 @@ use Rattle.ssh_transport.proofs.Wanting.{may_end, may_want}
 takes_by : (queues : Bool) (says : Config → Says) (c mid c' : Connection) (lends : Bool)
     → Hears (emptied c) c.reader.waiting mid → IsHeard mid.session.line → mid.delivered ≡ c.delivered
     → ReadsFor queues (says mid.session.config.now) mid (read_by lends) c'
-        → TakesFor queues (says c.session.config.now) c lends c'
+    → TakesFor queues (says c.session.config.now) c lends c'
 takes_by false says c mid c' lends h i d k = takes_polled says c mid c' (Ok lends) h i d k
-takes_by true says c mid c' false h i d k = (takes_read says (emptied c) mid c' c.reader.waiting (Ok tt) h i k.0 k.1,
-    inl (heard_still mid c' k.0.line i))
+takes_by true says c mid c' false h i d k = (
+  takes_read says (emptied c) mid c' c.reader.waiting (Ok tt) h i k.0 k.1,
+  inl (heard_still mid c' k.0.line i),
+)
 takes_by true says c mid c' true h i d k = k
 
 drawn_by : (queues : Bool) (done : Type 0) (says : Says) (c mid c' : Connection) (lends : Bool)
@@ -55,12 +57,12 @@ drawn_by true done says c mid c' true stream stream' h r = absurd r
 pub heard_taken : {A H G R : Type 0} (ma : AgreementMembers A) (mh : HostKeysMembers H) (mg : GroupLookupMembers G)
     (mr : rng.Ghosts R) (a : Parts A H G R) (r : R) (d : Parts A H G R)
     (queues : Bool) (c mid c' : Connection) (answer : Result Bool Error) → CanTake c
-        → Hears (emptied c) c.reader.waiting mid → IsHeard mid.session.line → mid.delivered ≡ c.delivered
-        → IsFixedIn c mid
+    → Hears (emptied c) c.reader.waiting mid → IsHeard mid.session.line → mid.delivered ≡ c.delivered
+    → IsFixedIn c mid
     → OpensDrawn c.session mid.session (mr.stream a.rng) → WritesDrawn c.session mid.session (mr.stream a.rng)
-        (mr.stream r) → length mid.reader.waiting ≤ length c.reader.waiting
+    (mr.stream r) → length mid.reader.waiting ≤ length c.reader.waiting
     → ReadsWaiting queues (call_of ma mh mg mr (record a { rng = r }) d) mid answer c'
-        → TakesKept queues (call_of ma mh mg mr a d) c answer c'
+    → TakesKept queues (call_of ma mh mg mr a d) c answer c'
 heard_taken ma mh mg mr a r d queues c mid c' (Ok lends) can hears i same f opens wrote fewer h = record {
   live = h.live;
   within = record {
@@ -88,7 +90,7 @@ heard_taken ma mh mg mr a r d queues c mid c' (Err error) can hears i same f ope
   fails = fails_read (λ (x : Config). says_of ma mh mg x a.agreement a.hosts a.groups) _ _ _ _ (emptied c)
       (with_more mid more) c' (c.reader.waiting ++ more) error
       (to_later c.session mid.session (untested _) (untested _) _ f.0.0
-          (between_heard (emptied c) mid c.reader.waiting _ hears))
+      (between_heard (emptied c) mid c.reader.waiting _ hears))
       (hears_behind (emptied c) mid c.reader.waiting more hears i) i (stops_more _ _ _ _ mid c' more error h.stops);
   wants = λ q m. may_want (λ (x : Config). says_of ma mh mg x a.agreement a.hosts a.groups) c mid hears i same
       (h.wants q m);
@@ -112,21 +114,29 @@ nothing_by : (queues : Bool) (says : Says) (c mid : Connection) → Hears (empti
     → mid.reader.waiting ≡ [] → mid.delivered ≡ c.delivered
     → waiting_length c.session.line + length c.reader.waiting < window_length → TakesFor queues says c false mid
 nothing_by false says c mid h n d few = takes_nothing says c mid h n d
-nothing_by true says c mid h n d few = (takes_none says (emptied c) mid c.reader.waiting h
-    (part_nothing (reading_spot mid) mid.reader.waiting n), inr few)
+nothing_by true says c mid h n d few = (
+  takes_none says (emptied c) mid c.reader.waiting h
+      (part_nothing (reading_spot mid) mid.reader.waiting n),
+  inr few,
+)
 
 pub unheard_taken : {A H G R : Type 0} (ma : AgreementMembers A) (mh : HostKeysMembers H) (mg : GroupLookupMembers G)
     (mr : rng.Ghosts R) (a : Parts A H G R) (r : R)
     (queues : Bool) (c mid : Connection) → IsLive mid → Hears (emptied c) c.reader.waiting mid → mid.reader.waiting ≡ []
-        → waiting_length c.session.line + length c.reader.waiting < window_length → mid.delivered ≡ c.delivered
-        → IsFixedIn c mid
+    → waiting_length c.session.line + length c.reader.waiting < window_length → mid.delivered ≡ c.delivered
+    → IsFixedIn c mid
     → mid.session ≡ record c.session { line = mid.session.line } → r ≡ a.rng
-        → WritesDrawn c.session mid.session (mr.stream a.rng) (mr.stream r)
+    → WritesDrawn c.session mid.session (mr.stream a.rng) (mr.stream r)
     → TakesKept queues (call_of ma mh mg mr a (record a { rng = r })) c (Ok false) mid
 unheard_taken ma mh mg mr a r queues c mid live hears n few d fixed still e wrote = record {
   live = live;
-  within = record { begins = live.begins; heeds = live.heeds; within = short_within mid.session.line mid.reader.waiting
-      live.short n; live = λ _. live };
+  within = record {
+    begins = live.begins;
+    heeds = live.heeds;
+    within = short_within mid.session.line mid.reader.waiting
+        live.short n;
+    live = λ _. live;
+  };
   settled = behind_none mid.session.line mid.reader.waiting n;
   fixed = fixed;
   keeps = keeps_same ma mh mg a.agreement a.hosts a.groups;
@@ -138,13 +148,13 @@ unheard_taken ma mh mg mr a r queues c mid live hears n few d fixed still e wrot
 pub line_refused : {A H G R : Type 0} (ma : AgreementMembers A) (mh : HostKeysMembers H) (mg : GroupLookupMembers G)
     (mr : rng.Ghosts R) (a : Parts A H G R) (r : R)
     (queues : Bool) (c mid : Connection) (answer : Result Bool Error) (x error : Error) → answer ≡ Err x → x ≡ error
-        → IsLive c → CanBegin mid.session → IsFixedIn c mid
+    → IsLive c → CanBegin mid.session → IsFixedIn c mid
     → HearsNothing (emptied c) c.reader.waiting error mid
-        → (error ≡ Memory → EndsBy c.session.side c.session.line c.reader.waiting)
+    → (error ≡ Memory → EndsBy c.session.side c.session.line c.reader.waiting)
     → TakesKept queues (call_of ma mh mg mr a (record a { rng = r })) c answer mid
 line_refused ma mh mg mr a r queues c mid answer x error b e live begins fixed h ended =
     subst (λ (o : Result Bool Error). TakesKept queues (call_of ma mh mg mr a (record a { rng = r })) c o mid)
-        (sym (b ∙ ap (λ (y : Error). Err y) e)) told
+    (sym (b ∙ ap (λ (y : Error). Err y) e)) told
   where
     told : TakesKept queues (call_of ma mh mg mr a (record a { rng = r })) c (Err error) mid
     told = λ more. record {

@@ -48,7 +48,7 @@ select_in : {A : Type 0} (text : A → List ℕ) (side : Side) (kind : Algorithm
 unfolding select
 select_in {A} text side kind own peer p e =
     let one = bind_ok (or_err (NoCommon kind (map text own) peer) (common text side own peer))
-        (λ a. Ok (same_first (map text own) peer, a)) p e in
+    (λ a. Ok (same_first (map text own) peer, a)) p e in
     let h : one.0 ≡ p.1 = ap (λ q. q.1) (plain (same_first (map text own) peer) one.0 p one.2) in
     subst (λ a. In a own) h (common_in text side own peer one.0 (or_ok _ (common text side own peer) one.0 one.1))
   where
@@ -77,7 +77,7 @@ kex_in side own still bytes n e =
     let q = bind_ok _ _ n p.1 in
     let r = rest_ok _ _ n q.2 in
     subst (λ (x : kexes.Name). In x (without_extensions own.kex)) (ap (λ (x : Names). x.kex) r.1)
-        (select_in kex_text side Kex (without_extensions own.kex) _ b.0 b.1)
+    (select_in kex_text side Kex (without_extensions own.kex) _ b.0 b.1)
 
 read_in : (side : Side) (own : Offers) (still : Bool) (payload : List ℕ) (n : Names)
     → names_read side own still payload ≡ Ok n → In n.kex (without_extensions own.kex)
@@ -125,8 +125,8 @@ pub never_skips : (side : Side) (config : Config) (still : Bool) (payload : List
     → (shape_of n.kex).skip ≡ true → ⊥
 never_skips side config still payload n valid e s =
     let there : In n.kex config.preferred.kex = offered_in side config n.kex
-        (plain_in (offers_of side config).kex n.kex (read_in side (offers_of side config) still payload n e)) in
+    (plain_in (offers_of side config).kex n.kex (read_in side (offers_of side config) still payload n e)) in
     let yes : list_any is_no_kex config.preferred.kex ≡ true = in_any is_no_kex n.kex config.preferred.kex there
-        (skips_none n.kex s) in
+    (skips_none n.kex s) in
     let no : list_any is_no_kex config.preferred.kex ≡ false = (tests side config valid).3 in
     let both : true ≡ false = sym yes ∙ no in cc

@@ -70,35 +70,45 @@ pub client_sent : (m m' : Machine) (w w' : Writer) (stream : Stream) (answer : R
     → OnOk answer (m' ≡ record m { stage = Created (kexinit_drawn m.setting.config.preferred None stream) })
     → OnOk answer (Sends w (kexinit_drawn m.setting.config.preferred None stream) (behind_cookie stream) w')
     → OnOk answer (IsAdmissible w.sealing (item_of w.sealing (kexinit_drawn m.setting.config.preferred None stream)
-        (behind_cookie stream)))
+    (behind_cookie stream)))
     → OnOk answer (IsPadded w.sealing (item_of w.sealing (kexinit_drawn m.setting.config.preferred None stream)
-        (behind_cookie stream)))
+    (behind_cookie stream)))
     → OnOk answer (length (cookie_from stream) ≡ 16)
     → OnOk answer ((x : Item) × SendsKexinit m.setting.side m.setting.config w x w'
-        × (m' ≡ record m { stage = Created x.payload }))
-client_sent m m' w w' stream (Ok u) e k h a p l = (item_of w.sealing
-    (kexinit_drawn m.setting.config.preferred None stream) (behind_cookie stream), subst
-    (λ (x : Side). SendsKexinit x m.setting.config w (item_of w.sealing
-    (kexinit_drawn m.setting.config.preferred None stream) (behind_cookie stream)) w') (sym e)
-    (client_sends m.setting.config w w' stream l a p h), k)
+    × (m' ≡ record m { stage = Created x.payload }))
+client_sent m m' w w' stream (Ok u) e k h a p l = (
+  item_of w.sealing
+      (kexinit_drawn m.setting.config.preferred None stream) (behind_cookie stream),
+  subst
+      (λ (x : Side). SendsKexinit x m.setting.config w (item_of w.sealing
+      (kexinit_drawn m.setting.config.preferred None stream) (behind_cookie stream)) w') (sym e)
+      (client_sends m.setting.config w w' stream l a p h),
+  k,
+)
 client_sent m m' w w' stream (Err x) e k h a p l = tt
 
 pub server_sent : (m m' : Machine) (w w' : Writer) (stream : Stream) (answer : Result (Unit {0}) Error)
     → m.setting.side ≡ Server
-    → OnOk answer (m' ≡ record m { stage = Created (kexinit_drawn m.setting.config.preferred
-        (Some m.setting.config.host) stream) })
+    → OnOk answer (m' ≡ record m {
+      stage = Created (kexinit_drawn m.setting.config.preferred
+          (Some m.setting.config.host) stream);
+    })
     → OnOk answer (Sends w (kexinit_drawn m.setting.config.preferred (Some m.setting.config.host) stream)
-        (behind_cookie stream) w')
+    (behind_cookie stream) w')
     → OnOk answer (IsAdmissible w.sealing (item_of w.sealing
-        (kexinit_drawn m.setting.config.preferred (Some m.setting.config.host) stream) (behind_cookie stream)))
+    (kexinit_drawn m.setting.config.preferred (Some m.setting.config.host) stream) (behind_cookie stream)))
     → OnOk answer (IsPadded w.sealing (item_of w.sealing (kexinit_drawn m.setting.config.preferred
-        (Some m.setting.config.host) stream) (behind_cookie stream)))
+    (Some m.setting.config.host) stream) (behind_cookie stream)))
     → OnOk answer (length (cookie_from stream) ≡ 16)
     → OnOk answer ((x : Item) × SendsKexinit m.setting.side m.setting.config w x w'
-        × (m' ≡ record m { stage = Created x.payload }))
-server_sent m m' w w' stream (Ok u) e k h a p l = (item_of w.sealing
-    (kexinit_drawn m.setting.config.preferred (Some m.setting.config.host) stream) (behind_cookie stream), subst
-    (λ (x : Side). SendsKexinit x m.setting.config w (item_of w.sealing
-    (kexinit_drawn m.setting.config.preferred (Some m.setting.config.host) stream) (behind_cookie stream)) w') (sym e)
-    (server_sends m.setting.config w w' stream l a p h), k)
+    × (m' ≡ record m { stage = Created x.payload }))
+server_sent m m' w w' stream (Ok u) e k h a p l = (
+  item_of w.sealing
+      (kexinit_drawn m.setting.config.preferred (Some m.setting.config.host) stream) (behind_cookie stream),
+  subst
+      (λ (x : Side). SendsKexinit x m.setting.config w (item_of w.sealing
+      (kexinit_drawn m.setting.config.preferred (Some m.setting.config.host) stream) (behind_cookie stream)) w') (sym e)
+      (server_sends m.setting.config w w' stream l a p h),
+  k,
+)
 server_sent m m' w w' stream (Err x) e k h a p l = tt

@@ -32,8 +32,15 @@ pub wants_keys : (s mid s' : Session) (read : ℕ) (answer : Result (Unit {0}) E
     → OnErr answer (WantsKeys s read s')
 wants_keys s mid s' read (Ok u) limit same out e t h n = tt
 wants_keys s mid s' read (Err x) limit same out e t h n = subst (λ (y : Session). WantsKeys y read s') (same n)
-    (record { still = record { output = ap (λ (y : Session). y.writer.output) h; records = ap
-    (λ (y : Session). y.finished.items) h }; outside = out; reached = reached mid read limit e t })
+    (record {
+      still = record {
+        output = ap (λ (y : Session). y.writer.output) h;
+        records = ap
+            (λ (y : Session). y.finished.items) h;
+      };
+      outside = out;
+      reached = reached mid read limit e t;
+    })
 
 some_held : (p : List ℕ) (rest : List (List ℕ)) → p ∷ rest ≡ [] → ⊥
 some_held p rest e = cc
@@ -44,4 +51,4 @@ pub none_taken : (s mid : Session) (p : List ℕ) (rest : List (List ℕ)) → (
 none_taken s mid p rest same out held n =
     let e = same n in
     some_held p rest (sym held ∙ ap (λ (y : Session). y.held.items) e
-        ∙ n (sym (ap (λ (y : Session). stands_of y.finished.items y.kex) e) ∙ out))
+    ∙ n (sym (ap (λ (y : Session). stands_of y.finished.items y.kex) e) ∙ out))

@@ -8,7 +8,9 @@ use Rattle.ssh_negotiate.specs.declared.negotiation.Names.{Names}
 use Rattle.ssh_packet.specs.Sealing.{Item, sealed_packet}
 use Rattle.ssh_packet.specs.Stream.{message_type}
 use Rattle.ssh_packet.specs.Writing.{Writer, with_item}
+use Rattle.ssh_packet.specs.declared.keys.OpenKey.{OpenKey}
 use Rattle.ssh_packet.specs.declared.reader.Incoming.{Incoming}
+use Rattle.ssh_kex.specs.declared.exchange.NewKeys.{NewKeys}
 use Rattle.ssh_kex.specs.Setting.{Says, Setting}
 use Rattle.ssh_kex.specs.Stages.{Created, Machine, Stage, names_in_stage}
 use Rattle.ssh_kex.specs.Stepping.{DropsGuess, Progresses, TakesOne}
@@ -26,6 +28,7 @@ use Rattle.ssh_transport.specs.Handling.{Handles, IsBegun, IsFlagged, IsFor, IsH
 use Rattle.ssh_transport.specs.Kexinits.{SendsKexinit}
 use Rattle.ssh_transport.specs.Saying.{setting_of}
 use Rattle.ssh_transport.specs.States.{stands_of, state_at}
+use Rattle.ssh_transport.specs.Handling.{GivesKeys, GivesNothing, GivesPayload, Installs, KeepsKey, Outcome, outcome_of}
 use Rattle.ssh_transport.specs.declared.session.Disposition.{Disposition}
 use Rattle.ssh_transport.specs.declared.session.Disposition.TheVariants.{Delivers, Done, Rekeys}
 use Rattle.ssh_transport.specs.declared.session.Session.{Session}
@@ -51,17 +54,17 @@ own_of s m e o = subst (λ (k : SessionKexState Machine). IsOpenBy (setting_of s
 own_taken : (s : Session) (m : Machine) → IsOwn s m → IsOwn (record s { kex = Taken }) m
 own_taken s m o = record { setting_is = o.setting_is; flagged = o.flagged }
 
-handles_inside : (says : Says) (s s' : Session) (m : Machine) (inc : Incoming) (type : ℕ) (answer : Disposition)
+handles_inside : (says : Says) (s s' : Session) (m : Machine) (inc : Incoming) (type : ℕ) (answer : Outcome)
     → config_fault s.side s.config.now ≡ None → IsOwn s m → type ≡ message_type inc.payload.now → is_kex type ≡ true
     → Passes s inc.seqn type → s.kex ≡ InProgress m → Moves says (record s { kex = Taken }) m inc answer s'
     → Handles says s inc.seqn inc.payload.now answer s'
 handles_inside says s s' m inc type answer valid o t k passes e h at read i r q =
     let same : type_of i ≡ type = sym (t ∙ ap message_type r.payload_is) in
     let ordered : OrderBy s.side at.number i s.finished.items (names_in_stage m.stage) = subst
-        (λ (x : SessionKexState Machine). OrderBy s.side at.number i s.finished.items
-        (names_now (stands_of s.finished.items x))) e (passes at.number i r.small r.seqn_is same) in
+    (λ (x : SessionKexState Machine). OrderBy s.side at.number i s.finished.items
+    (names_now (stands_of s.finished.items x))) e (passes at.number i r.small r.seqn_is same) in
     let p = did_move says (record s { kex = Taken }) s' m inc at read i false answer valid tt
-        (kex_type type inc.payload.now i t r.payload_is k) (own_taken s m o) r ordered h in
+    (kex_type type inc.payload.now i t r.payload_is k) (own_taken s m o) r ordered h in
     let d = p.0 in
     record {
       events = d.events;
@@ -71,7 +74,7 @@ handles_inside says s s' m inc type answer valid o t k passes e h at read i r q 
       output = d.output;
       bytes = d.bytes;
       delivered = d.delivered ∙ sym p.1;
-      alone = λ f. absurd (subst (λ (x : Disposition). Moves says (record s { kex = Taken }) m inc x s') f h);
+      alone = λ f. absurd (subst (λ (x : Outcome). Moves says (record s { kex = Taken }) m inc x s') f h);
       input = d.input;
       silent = d.silent;
     }
@@ -79,20 +82,23 @@ handles_inside says s s' m inc type answer valid o t k passes e h at read i r q 
 -- ---- outside one
 
 handles_begun : (says : Says) (s s' : Session) (w : Writer) (item : Item) (m : Machine) (inc : Incoming) (type : ℕ)
-    (answer : Disposition) → config_fault s.side s.config.now ≡ None → stands_of s.finished.items s.kex ≡ Outside
+    (answer : Outcome) → config_fault s.side s.config.now ≡ None → stands_of s.finished.items s.kex ≡ Outside
     → SendsKexinit s.side s.config.now s.writer item w → m.setting ≡ setting_of s → m.stage ≡ Created item.payload
     → type ≡ message_type inc.payload.now → is_kex type ≡ true → Moves says (record s { writer = w }) m inc answer s'
     → Handles says s inc.seqn inc.payload.now answer s'
 handles_begun says s s' w item m inc type answer valid outside sends setting_is stage_is t k h at read i r q =
-    let o : IsOwn (record s { writer = w }) m = record { setting_is = setting_is; flagged = subst
-        (λ (x : Stage). IsFlagged m.setting (names_in_stage x)) (sym stage_is) tt } in
+    let o : IsOwn (record s { writer = w }) m = record {
+      setting_is = setting_is;
+      flagged = subst
+          (λ (x : Stage). IsFlagged m.setting (names_in_stage x)) (sym stage_is) tt;
+    } in
     let ordered : OrderBy s.side at.number i s.finished.items (names_in_stage m.stage) = order_none s.side at.number i
-        s.finished.items (names_in_stage m.stage) (ap names_in_stage stage_is) in
+    s.finished.items (names_in_stage m.stage) (ap names_in_stage stage_is) in
     let p = did_move says (record s { writer = w }) s' m inc at read i true answer valid (item.payload, stage_is)
-        (kex_type type inc.payload.now i t r.payload_is k) o r ordered h in
+    (kex_type type inc.payload.now i t r.payload_is k) o r ordered h in
     let d = p.0 in
     let begins : BeginsExchange s.side s.config.now (state_at s at read) Answering item
-        (inside (record s { writer = w }) m true at read) = record {
+    (inside (record s { writer = w }) m true at read) = record {
       may = outside;
       owes = refl;
       not_called = refl;
@@ -111,12 +117,12 @@ handles_begun says s s' w item m inc type answer valid outside sends setting_is 
           (sent_bytes s.side (spot_after (spot_of s.writer) item) d.events);
       bytes = d.bytes;
       delivered = d.delivered ∙ sym p.1;
-      alone = λ f. absurd (subst (λ (x : Disposition). Moves says (record s { writer = w }) m inc x s') f h);
+      alone = λ f. absurd (subst (λ (x : Outcome). Moves says (record s { writer = w }) m inc x s') f h);
       input = (d.input.0, (let u = d.input.1 in omega (arith, u)));
       silent = d.silent;
     }
 
-pub handles_moved : (says : Says) (s s1 s' : Session) (m : Machine) (inc : Incoming) (type : ℕ) (answer : Disposition)
+pub handles_moved : (says : Says) (s s1 s' : Session) (m : Machine) (inc : Incoming) (type : ℕ) (answer : Outcome)
     → config_fault s.side s.config.now ≡ None → IsOpen s → type ≡ message_type inc.payload.now → is_kex type ≡ true
     → Passes s inc.seqn type → IsFor s m s1 → Moves says s1 m inc answer s'
     → Handles says s inc.seqn inc.payload.now answer s'
@@ -139,26 +145,35 @@ next_own says s m inc next reset w written o (inr t) = record {
       (taken_flagged says m.setting m.stage next.stage inc.seqn inc.payload.now t.written t.takes o.flagged);
 }
 
-open_move : (says : Says) (s s' : Session) (m : Machine) (inc : Incoming) (answer : Disposition) → IsOwn s m
+open_move : (says : Says) (s s' : Session) (m : Machine) (inc : Incoming) (answer : Outcome) → IsOwn s m
     → IsHeard s.line → Moves says s m inc answer s' → IsOpen s'
-open_move says s s' m inc Delivers o l h = absurd h
-open_move says s s' m inc Done o l h = subst IsOpen (sym h.becomes)
-    (record { machine = (let n = next_own says s m inc h.next h.reset s.writer h.written o h.does in record
-    { setting_is = n.setting_is; flagged = n.flagged }); heard = λ b. l })
-open_move says s s' m inc (Rekeys opening again) o l h = subst IsOpen (sym h.installs.3)
+open_move says s s' m inc GivesPayload o l h = absurd h
+open_move says s s' m inc GivesNothing o l h = subst IsOpen (sym h.becomes)
+    (record {
+      machine = (let n = next_own says s m inc h.next h.reset s.writer h.written o h.does in record
+          { setting_is = n.setting_is; flagged = n.flagged });
+      heard = λ b. l;
+    })
+open_move says s s' m inc (GivesKeys opening again) o l h = subst IsOpen (sym h.installs.3)
     (record { machine = tt; heard = λ b. l })
 
-pub open_moved : (says : Says) (s s1 s' : Session) (m : Machine) (inc : Incoming) (answer : Disposition) → IsOpen s
+pub open_moved : (says : Says) (s s1 s' : Session) (m : Machine) (inc : Incoming) (answer : Outcome) → IsOpen s
     → IsBegun s → IsFor s m s1 → Moves says s1 m inc answer s' → IsOpen s'
 open_moved says s s1 s' m inc answer o b (inl f) h = open_move says (record s { writer = s1.writer }) s' m inc answer
-    (record { setting_is = (f.0).setting_is; flagged = subst (λ (x : Stage). IsFlagged m.setting (names_in_stage x))
-    (sym (f.0).stage_is) tt }) (o.heard b) (subst (λ (x : Session). Moves says x m inc answer s') (f.0).becomes h)
+    (record {
+      setting_is = (f.0).setting_is;
+      flagged = subst (λ (x : Stage). IsFlagged m.setting (names_in_stage x))
+          (sym (f.0).stage_is) tt;
+    }) (o.heard b) (subst (λ (x : Session). Moves says x m inc answer s') (f.0).becomes h)
 open_moved says s s1 s' m inc answer o b (inr f) h = open_move says (record s { kex = Taken }) s' m inc answer
     (own_taken s m (own_of s m f.0 o)) (o.heard b) (subst (λ (x : Session). Moves says x m inc answer s') f.1 h)
 
 pub for_config : (s s1 : Session) (m : Machine) → IsOpen s → IsFor s m s1 → m.setting.config ≡ s.config.now
-for_config s s1 m o (inl f) = own_config s m (record { setting_is = (f.0).setting_is; flagged = subst
-    (λ (x : Stage). IsFlagged m.setting (names_in_stage x)) (sym (f.0).stage_is) tt })
+for_config s s1 m o (inl f) = own_config s m (record {
+  setting_is = (f.0).setting_is;
+  flagged = subst
+      (λ (x : Stage). IsFlagged m.setting (names_in_stage x)) (sym (f.0).stage_is) tt;
+})
 for_config s s1 m o (inr f) = own_config s m (own_of s m f.0 o)
 
 pub if_ok : {T : Type 0} (answer : Result T Error) (P Q : T → Type 0) → ((x : T) → P x → Q x) → IfOk answer P
@@ -173,7 +188,7 @@ ok_if (Err e) P Q f h = tt
 
 -- by what its machine's configuration makes the parts say
 pub handles_taken : (says : Config → Says) (s s1 s' : Session) (m : Machine) (inc : Incoming) (type : ℕ)
-    (answer : Disposition) → config_fault s.side s.config.now ≡ None → IsOpen s → type ≡ message_type inc.payload.now
+    (answer : Outcome) → config_fault s.side s.config.now ≡ None → IsOpen s → type ≡ message_type inc.payload.now
     → is_kex type ≡ true → Passes s inc.seqn type → IsFor s m s1 → Moves (says m.setting.config) s1 m inc answer s'
     → Handles (says s.config.now) s inc.seqn inc.payload.now answer s'
 handles_taken says s s1 s' m inc type answer valid o t k passes f h = handles_moved (says s.config.now) s s1 s' m inc
@@ -185,8 +200,10 @@ handles_taken says s s1 s' m inc type answer valid o t k passes f h = handles_mo
 -- the writer's numbers begin again where told
 abbrev pub IsRenumbered : Session → Bool → Writer → Session → Type 0
 IsRenumbered s reset w s' = (s' ≡ record s { writer = s'.writer })
-    × (s'.writer ≡ record w { number = (spot_renumbered reset
-        (record { sealing = w.sealing; number = w.number })).number })
+    × (s'.writer ≡ record w {
+      number = (spot_renumbered reset
+          (record { sealing = w.sealing; number = w.number })).number;
+    })
 
 pub renumbered : (s : Session) (reset : Bool) (w w' : Writer) → reset ≡ true → w' ≡ record w { number = 0 }
     → IsRenumbered s reset w (record s { writer = w' })
@@ -201,7 +218,7 @@ numbered_on s false w r = (refl, refl)
 pub awaits_in : (says : Says) (s : Session) (m : Machine) (i : Incoming) (progress : KexProgress Machine)
     (next : Machine) (reset : Bool) (w : Writer) (s1 : Session) → progress ≡ NeedsReply next reset
     → Progresses says m (Some i) s.writer progress w → IsRenumbered s reset w s1
-    → Moves says s m i Done (record s1 { kex = InProgress next })
+    → Moves says s m i GivesNothing (record s1 { kex = InProgress next })
 awaits_in says s m i progress next reset w s1 e h n = record {
   next = next;
   reset = reset;
@@ -210,3 +227,13 @@ awaits_in says s m i progress next reset w s1 e h n = record {
   writer_is = n.1;
   becomes = ap (λ (x : Session). record x { kex = InProgress next }) n.0;
 }
+
+-- ---- the machine is at its end
+
+-- another key is there then
+pub installs_key : (s : Session) (k : NewKeys) (s' : Session) (key key' : OpenKey) (answer : Result Disposition Error)
+    → IfOk answer (λ h. Installs s k (outcome_of h key') s') → IfOk answer (λ h. KeepsKey h key key')
+installs_key s k s' key key' (Ok Delivers) h = absurd h
+installs_key s k s' key key' (Ok Done) h = absurd h
+installs_key s k s' key key' (Ok (Rekeys again)) h = tt
+installs_key s k s' key key' (Err e) h = tt

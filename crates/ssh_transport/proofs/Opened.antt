@@ -43,8 +43,11 @@ open_fresh side config s f = fresh_by s s.kex s.finished.items refl refl f.kex_i
 
 pub open_begun : (s s' : Session) → IsHeard s.line → Begins s s' → IsOpen s'
 open_begun s s' h b = subst IsOpen (sym b.becomes) (record {
-  machine = record { setting_is = b.setting_is; flagged = subst
-      (λ (x : Stage). IsFlagged b.machine.setting (names_in_stage x)) (sym b.stage_is) tt };
+  machine = record {
+    setting_is = b.setting_is;
+    flagged = subst
+        (λ (x : Stage). IsFlagged b.machine.setting (names_in_stage x)) (sym b.stage_is) tt;
+  };
   heard = λ n. h;
 })
 
@@ -126,8 +129,12 @@ pub short_heard : (line : IdReading) → IsHeard line → IsShort line
 short_heard line h = subst IsShort (sym h.1) tt
 
 short_fresh_line : (line : IdReading) → line ≡ Waiting [] 0 → IsShort line
-short_fresh_line line e = subst IsShort (sym e) (omega Rattle.std.proofs.Common.arith, refl, omega
-    Rattle.std.proofs.Common.arith)
+short_fresh_line line e = subst IsShort (sym e) (
+  omega Rattle.std.proofs.Common.arith,
+  refl,
+  omega
+      Rattle.std.proofs.Common.arith,
+)
 
 pub short_fresh : (side : Side) (config : Config) (s : Session) → IsFresh side config s → IsShort s.line
 short_fresh side config s f = short_fresh_line s.line f.line_is

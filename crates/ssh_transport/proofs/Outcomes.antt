@@ -1,14 +1,13 @@
 -- What a call on a connection answers, by what it took and by the end that an error is.
-use Rattle.std.proofs.Common.{◌≡◌, List, [], ℕ, ◌++◌, Bool, true, false, Result, Ok, Err, IfErr, IfOk, IsOk, OnErr, OnOk, refl, sym, ap, ◌∙◌, subst}
+use Rattle.std.proofs.Common.{◌≡◌, List, [], ℕ, ◌++◌, Bool, true, false, Result, Ok, Err, IfErr, IsOk, OnErr, OnOk, refl, sym, ap, ◌∙◌, subst}
 use Rattle.rand_core.specs.declared.Rng as rng
 use Rattle.ssh_wire.specs.declared.error.Error.{Error}
 use Rattle.ssh_wire.specs.declared.error.Error.TheVariants.{Disconnect, Memory}
 use Rattle.ssh_kex.specs.Members.{AgreementMembers, GroupLookupMembers, HostKeysMembers}
 use Rattle.ssh_kex.specs.declared.parts.Parts.{Parts}
-use Rattle.ssh_rules.specs.Polling.{MayWant}
 use Rattle.ssh_rules.specs.Standing.{unfinished}
 use Rattle.ssh_transport.specs.Asking.{AsksTo}
-use Rattle.ssh_transport.specs.Calls.{BrokeOff, EndsOn, FailsTaking, FeedsPiece, PartsCall, PollsPayload, TakesCall, TakesKept, TakesWholePiece, call_of}
+use Rattle.ssh_transport.specs.Calls.{EndsOn, FailsTaking, FeedsPiece, PartsCall, PollsPayload, TakesCall, TakesKept, TakesWholePiece, call_of}
 use Rattle.ssh_transport.specs.Drawing.{DrawsFirst}
 use Rattle.ssh_transport.specs.Kept.{IsKept}
 use Rattle.ssh_transport.specs.Saying.{IsFixed, IsFixedIn}
@@ -91,8 +90,8 @@ call_answer : {T : Type 0} (p : PartsCall) (c mid c' : Connection) (piece : List
     → DrawsFirst (IsOk answer) (standing_of c) (standing_of mid) p.stream p.left
     → OnOk answer (ServesBetween p.draws c.session mid.session p.before p.after p.stream p.left)
     → IfErr answer (λ e. Fails (p.says c.session.config.now) p.denies p.distrusts
-        (AsksTo c.session p.before.calls p.after.calls) (emptied c) (c.reader.waiting ++ piece) e mid)
-        → TakesCall p c piece done c'
+    (AsksTo c.session p.before.calls p.after.calls) (emptied c) (c.reader.waiting ++ piece) e mid)
+    → TakesCall p c piece done c'
 call_answer {T} p c mid c' piece answer done d kept h fixed keeps drawn serves fails = record {
   kept = ends_kept answer mid c' kept h;
   stays = (let x = ends_fixed answer mid c' h in (x.0 ∙ fixed.0.0, x.1 ∙ fixed.0.1));
@@ -111,7 +110,7 @@ call_answer {T} p c mid c' piece answer done d kept h fixed keeps drawn serves f
 call_dead : {A H G R : Type 0} (ma : AgreementMembers A) (mh : HostKeysMembers H) (mg : GroupLookupMembers G)
     (mr : rng.Ghosts R) (a : Parts A H G R)
     {T : Type 0} (c : Connection) (piece : List ℕ) → IsKept c → c.failed ≡ true
-        → TakesCall {T = T} (call_of ma mh mg mr a a) c piece (Err Disconnect) c
+    → TakesCall {T = T} (call_of ma mh mg mr a a) c piece (Err Disconnect) c
 call_dead ma mh mg mr a {T} c piece kept f = record {
   kept = kept;
   stays = (refl, refl);
@@ -126,14 +125,22 @@ call_dead ma mh mg mr a {T} c piece kept f = record {
 pub fed_dead : {A H G R : Type 0} (ma : AgreementMembers A) (mh : HostKeysMembers H) (mg : GroupLookupMembers G)
     (mr : rng.Ghosts R) (a : Parts A H G R) (c : Connection) (piece : List ℕ) → IsKept c → c.failed ≡ true
     → FeedsPiece (call_of ma mh mg mr a a) c piece (Err Disconnect) c
-fed_dead ma mh mg mr a c piece kept f = record { call = call_dead ma mh mg mr a {T = Unit {0}} c piece kept f; fed =
-    tt }
+fed_dead ma mh mg mr a c piece kept f = record {
+  call = call_dead ma mh mg mr a {T = Unit {0}} c piece kept f;
+  fed =
+      tt;
+}
 
 pub polled_dead : {A H G R : Type 0} (ma : AgreementMembers A) (mh : HostKeysMembers H) (mg : GroupLookupMembers G)
     (mr : rng.Ghosts R) (a : Parts A H G R) (c : Connection) → IsKept c → c.failed ≡ true
     → PollsPayload (call_of ma mh mg mr a a) c (Err Disconnect) c
-polled_dead ma mh mg mr a c kept f = record { call = call_dead ma mh mg mr a {T = Bool} c [] kept f; polled = tt; wants
-    = λ g. absurd (let e : true ≡ false = sym f ∙ g in cc); unqueued = refl }
+polled_dead ma mh mg mr a c kept f = record {
+  call = call_dead ma mh mg mr a {T = Bool} c [] kept f;
+  polled = tt;
+  wants
+      = λ g. absurd (let e : true ≡ false = sym f ∙ g in cc);
+  unqueued = refl;
+}
 
 pub fed_call : (p : PartsCall) (c mid c' : Connection) (piece : List ℕ) (answer done : Result (Unit {0}) Error)
     → c.failed ≡ false → done ≡ answer → EndsOn answer mid c' → TakesWholePiece p c piece answer mid

@@ -9,9 +9,14 @@ use Rattle.ssh_kex.specs.declared.group.GexParams.{GexParams}
 pub agreement_same : {A : Type 0} (lawful : A → Setup → Type 0) (obliging : A → A → Setup → Option DhGroup → Type 0)
     (offered : A → kexes.Name → Bool) (refusals calls : A → ℕ) (a : A)
     → KeepsAgreement lawful obliging offered refusals calls a a
-agreement_same lawful obliging offered refusals calls a = record
-    { refusals_later = omega arith; calls_later = omega arith; lawful_kept = λ s h. h; obliging_kept = λ w s q h. h;
-    obliging_sooner = λ v s q h. h; offered_kept = refl }
+agreement_same lawful obliging offered refusals calls a = record {
+  refusals_later = omega arith;
+  calls_later = omega arith;
+  lawful_kept = λ s h. h;
+  obliging_kept = λ w s q h. h;
+  obliging_sooner = λ v s q h. h;
+  offered_kept = refl;
+}
 
 pub agreement_after : {A : Type 0} (lawful : A → Setup → Type 0) (obliging : A → A → Setup → Option DhGroup → Type 0)
     (offered : A → kexes.Name → Bool) (refusals calls : A → ℕ) (a b c : A)
@@ -31,10 +36,20 @@ pub hosts_same : {H : Type 0} (lawful : H → Setup → Type 0) (signs judges : 
     (accepts : H → ServerHost → List ℕ → List ℕ → Bool) (trusts : H → ServerHost → Bool)
     (refused_sign refused_verify refused_check calls : H → ℕ) (a : H)
     → KeepsHosts lawful signs judges accepts trusts refused_sign refused_verify refused_check calls a a
-hosts_same lawful signs judges accepts trusts rs rv rc calls a = record
-    { sign_later = omega arith; verify_later = omega arith; check_later = omega arith; calls_later = omega arith;
-    lawful_kept = λ s h. h; signs_kept = λ w s h. h; signs_sooner = λ v s h. h; judges_kept = λ w s h. h; judges_sooner
-    = λ v s h. h; accepts_kept = refl; trusts_kept = refl }
+hosts_same lawful signs judges accepts trusts rs rv rc calls a = record {
+  sign_later = omega arith;
+  verify_later = omega arith;
+  check_later = omega arith;
+  calls_later = omega arith;
+  lawful_kept = λ s h. h;
+  signs_kept = λ w s h. h;
+  signs_sooner = λ v s h. h;
+  judges_kept = λ w s h. h;
+  judges_sooner
+      = λ v s h. h;
+  accepts_kept = refl;
+  trusts_kept = refl;
+}
 
 pub hosts_after : {H : Type 0} (lawful : H → Setup → Type 0) (signs judges : H → H → Setup → Type 0)
     (accepts : H → ServerHost → List ℕ → List ℕ → Bool) (trusts : H → ServerHost → Bool)
@@ -59,9 +74,14 @@ hosts_after lawful signs judges accepts trusts rs rv rc calls a b c h k = record
 pub groups_same : {G : Type 0} (lawful : G → Setup → Type 0) (obliging : G → G → Setup → Type 0)
     (group : G → GexParams → DhGroup) (refusals calls : G → ℕ) (a : G)
     → KeepsGroups lawful obliging group refusals calls a a
-groups_same lawful obliging group refusals calls a = record
-    { refusals_later = omega arith; calls_later = omega arith; lawful_kept = λ s h. h; obliging_kept = λ w s h. h;
-    obliging_sooner = λ v s h. h; group_kept = refl }
+groups_same lawful obliging group refusals calls a = record {
+  refusals_later = omega arith;
+  calls_later = omega arith;
+  lawful_kept = λ s h. h;
+  obliging_kept = λ w s h. h;
+  obliging_sooner = λ v s h. h;
+  group_kept = refl;
+}
 
 pub groups_after : {G : Type 0} (lawful : G → Setup → Type 0) (obliging : G → G → Setup → Type 0)
     (group : G → GexParams → DhGroup) (refusals calls : G → ℕ) (a b c : G)
@@ -79,10 +99,10 @@ groups_after lawful obliging group refusals calls a b c h k = record {
 pub parts_same : {A H G : Type 0} (lawful : A → Setup → Type 0) (obliging : A → A → Setup → Option DhGroup → Type 0)
     (offered : A → kexes.Name → Bool) (refusals calls : A → ℕ)
     (lawful_hosts : H → Setup → Type 0) (signs judges : H → H → Setup → Type 0)
-        (accepts : H → ServerHost → List ℕ → List ℕ → Bool) (trusts : H → ServerHost → Bool)
-        (refused_sign refused_verify refused_check calls_hosts : H → ℕ)
+    (accepts : H → ServerHost → List ℕ → List ℕ → Bool) (trusts : H → ServerHost → Bool)
+    (refused_sign refused_verify refused_check calls_hosts : H → ℕ)
     (lawful_groups : G → Setup → Type 0) (obliging_groups : G → G → Setup → Type 0) (group : G → GexParams → DhGroup)
-        (refusals_groups calls_groups : G → ℕ) (a : A) (h : H) (g : G)
+    (refusals_groups calls_groups : G → ℕ) (a : A) (h : H) (g : G)
     → KeepsParts (KeepsAgreement lawful obliging offered refusals calls a a)
     (KeepsHosts lawful_hosts signs judges accepts trusts refused_sign refused_verify refused_check calls_hosts h h)
     (KeepsGroups lawful_groups obliging_groups group refusals_groups calls_groups g g)

@@ -37,26 +37,26 @@ polls_as : (says : Says) (denies : Denies) (untrusted : ServerHost → Type 0) (
     (Made : Side → Stream → Stream → Type 0) (stream stream' : Stream) (old new : Standing) (handed : List ℕ)
     (answer : Result Bool Error) (result : Result (Option (Bor (List ℕ))) (Bor Error)) → LendsFor answer handed result
     → (old.failed ≡ true → answer ≡ Err Disconnect) → (old.failed ≡ true → new ≡ old)
-        → (new.side ≡ old.side) × (new.config ≡ old.config)
+    → (new.side ≡ old.side) × (new.config ≡ old.config)
     → (old.failed ≡ false → OnOk answer (new.failed ≡ false))
-        → (old.failed ≡ false → OnErr answer ((new.failed ≡ true) × (unfinished new ≡ [])))
+    → (old.failed ≡ false → OnErr answer ((new.failed ≡ true) × (unfinished new ≡ [])))
     → new.delivered ≡ old.delivered → IfOk answer (λ lends. Polls says old (lent_by lends handed) new)
-        → (old.failed ≡ false → IfErr answer (λ e. RefusesPieceAsking says denies untrusted old [] e new n.calls
-        n'.calls))
+    → (old.failed ≡ false → IfErr answer (λ e. RefusesPieceAsking says denies untrusted old [] e new n.calls
+    n'.calls))
     → OnOk answer (ServesCall Made old new n n' stream stream') → DrawsFirst (new.failed ≡ false) old new stream stream'
     → PollsAs says denies untrusted n n' Made stream stream' old result new
 polls_as says denies untrusted n n' Made stream stream' old new handed (Ok true) (Ok (Some p)) rel dead same stays lives
     ends unqueued polled refused serves drawn = record {
-  dead = λ f. alive old true _ dead f;
-  stays = stays;
-  lives = lives;
-  ends = λ f. tt;
-  unqueued = unqueued;
-  polled = subst (λ (x : List ℕ). LendsPayload says old x new) (sym rel) polled;
-  refused = λ f. tt;
-  serves = serves;
-  drawn = drawn;
-}
+      dead = λ f. alive old true _ dead f;
+      stays = stays;
+      lives = lives;
+      ends = λ f. tt;
+      unqueued = unqueued;
+      polled = subst (λ (x : List ℕ). LendsPayload says old x new) (sym rel) polled;
+      refused = λ f. tt;
+      serves = serves;
+      drawn = drawn;
+    }
 polls_as says denies untrusted n n' Made stream stream' old new handed (Ok true) (Ok None) rel dead same stays lives
     ends unqueued polled refused serves drawn = absurd rel
 polls_as says denies untrusted n n' Made stream stream' old new handed (Ok true) (Err e) rel dead same stays lives ends
@@ -65,35 +65,35 @@ polls_as says denies untrusted n n' Made stream stream' old new handed (Ok false
     lives ends unqueued polled refused serves drawn = absurd rel
 polls_as says denies untrusted n n' Made stream stream' old new handed (Ok false) (Ok None) rel dead same stays lives
     ends unqueued polled refused serves drawn = record {
-  dead = λ f. alive old false _ dead f;
-  stays = stays;
-  lives = lives;
-  ends = λ f. tt;
-  unqueued = unqueued;
-  polled = polled;
-  refused = λ f. tt;
-  serves = serves;
-  drawn = drawn;
-}
+      dead = λ f. alive old false _ dead f;
+      stays = stays;
+      lives = lives;
+      ends = λ f. tt;
+      unqueued = unqueued;
+      polled = polled;
+      refused = λ f. tt;
+      serves = serves;
+      drawn = drawn;
+    }
 polls_as says denies untrusted n n' Made stream stream' old new handed (Ok false) (Err e) rel dead same stays lives ends
     unqueued polled refused serves drawn = absurd rel
 polls_as says denies untrusted n n' Made stream stream' old new handed (Err x) (Ok o) rel dead same stays lives ends
     unqueued polled refused serves drawn = absurd rel
 polls_as says denies untrusted n n' Made stream stream' old new handed (Err x) (Err e) rel dead same stays lives ends
     unqueued polled refused serves drawn = record {
-  dead = λ f. (sym_is rel (dead f), same f);
-  stays = stays;
-  lives = λ f. tt;
-  ends = ends;
-  unqueued = unqueued;
-  polled = tt;
-  refused = λ f. subst (λ (y : Error). RefusesPieceAsking says denies untrusted old [] y new n.calls n'.calls) (sym rel)
-      (refused f);
-  serves = tt;
-  drawn = drawn;
-} where
-  sym_is : e.now ≡ x → (let r : Result Bool Error = Err x in r) ≡ Err Disconnect → e.now ≡ Disconnect
-  sym_is a b = cc
+      dead = λ f. (sym_is rel (dead f), same f);
+      stays = stays;
+      lives = λ f. tt;
+      ends = ends;
+      unqueued = unqueued;
+      polled = tt;
+      refused = λ f. subst (λ (y : Error). RefusesPieceAsking says denies untrusted old [] y new n.calls n'.calls) (sym rel)
+          (refused f);
+      serves = tt;
+      drawn = drawn;
+    } where
+      sym_is : e.now ≡ x → (let r : Result Bool Error = Err x in r) ≡ Err Disconnect → e.now ≡ Disconnect
+      sym_is a b = cc
 
 -- by what the step answered
 pub lends_some : (answer : Result Bool Error) (handed : List ℕ) (p : Bor (List ℕ)) → answer ≡ Ok true → p.now ≡ handed
@@ -113,16 +113,16 @@ pub polls_seen : (says : Config → Says) (denies : Denies) (untrusted : ServerH
     (answer : Result Bool Error) (result : Result (Option (Bor (List ℕ))) (Bor Error)) → old ≡ t
     → LendsFor answer handed result
     → (old.failed ≡ true → answer ≡ Err Disconnect) → (old.failed ≡ true → new ≡ old)
-        → (new.side ≡ old.side) × (new.config ≡ old.config)
+    → (new.side ≡ old.side) × (new.config ≡ old.config)
     → (old.failed ≡ false → OnOk answer (new.failed ≡ false))
-        → (old.failed ≡ false → OnErr answer ((new.failed ≡ true) × (unfinished new ≡ [])))
+    → (old.failed ≡ false → OnErr answer ((new.failed ≡ true) × (unfinished new ≡ [])))
     → new.delivered ≡ old.delivered → IfOk answer (λ lends. Polls (says old.config) old (lent_by lends handed) new)
-        → (old.failed ≡ false → IfErr answer (λ e. RefusesPieceAsking (says old.config) denies untrusted old [] e new
-        n.calls n'.calls))
+    → (old.failed ≡ false → IfErr answer (λ e. RefusesPieceAsking (says old.config) denies untrusted old [] e new
+    n.calls n'.calls))
     → OnOk answer (ServesCall Made old new n n' stream stream') → DrawsFirst (new.failed ≡ false) old new stream stream'
     → PollsAs (says t.config) denies untrusted n n' Made stream stream' t result new
 polls_seen says denies untrusted n n' Made stream stream' old t new handed answer result same rel dead kept stays lives
     ends unqueued polled refused serves drawn =
     subst (λ (x : Standing). PollsAs (says x.config) denies untrusted n n' Made stream stream' x result new) same
-        (polls_as (says old.config) denies untrusted n n' Made stream stream' old new handed answer result rel dead kept
-        stays lives ends unqueued polled refused serves drawn)
+    (polls_as (says old.config) denies untrusted n n' Made stream stream' old new handed answer result rel dead kept
+    stays lives ends unqueued polled refused serves drawn)

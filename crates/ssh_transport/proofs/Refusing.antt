@@ -148,9 +148,18 @@ host_refused says denies untrusted s s1 m inc type error t q f h = λ at read i 
         × (h.done.written ≡ [])) ⊎ Skips m.setting m.stage inc.seqn inc.payload.now h.done.written h.done.exchange
         h.done.made (Some h.host) → IsUntrusted untrusted s.side st i error
     by i p st e y (inl x) = let k = finish_stage m.stage inc.payload.now h.done.exchange h.done.made (Some h.host) x.0
-        in record { exchange = h.done.exchange; made = h.done.made; host = h.host; inside = e
-        ∙ host_stands s s1 m h.done.exchange h.done.made (Some h.host) f k.1; payload_is = sym p
-        ∙ k.0; ordered = y; denied = h.denied; error_is = h.error_is }
+        in record {
+          exchange = h.done.exchange;
+          made = h.done.made;
+          host = h.host;
+          inside = e
+              ∙ host_stands s s1 m h.done.exchange h.done.made (Some h.host) f k.1;
+          payload_is = sym p
+              ∙ k.0;
+          ordered = y;
+          denied = h.denied;
+          error_is = h.error_is;
+        }
     by i p st e y (inr x) = absurd (skips_none m.setting m.stage inc.seqn inc.payload.now h.done.written h.done.exchange
         h.done.made h.host x)
 
@@ -194,20 +203,30 @@ pub refuses_none : (says : Says) (denies : Denies) (untrusted : ServerHost → T
     ⊎ ((error ≡ errors.Inconsistent) × IsForNone s type) → Refuses says denies untrusted s seqn payload error
 refuses_none says denies untrusted s seqn type payload error o b t k q (inl e) = λ at read i r.
     let l = stage_there (stands_of s.finished.items s.kex) b in
-    inr (inr (inl (record { stage = l.0; looks = l.1; begins = λ x. same_type type payload i t r.payload_is
-        ∙ e.1 x; ordered = in_order s seqn type payload at i t q r; is_kex = kex_of type payload i t r.payload_is k;
-        refuses = memory_anyway says denies _ l.0 _ i.payload error e.0 })))
+    inr (inr (inl (record {
+      stage = l.0;
+      looks = l.1;
+      begins = λ x. same_type type payload i t r.payload_is
+          ∙ e.1 x;
+      ordered = in_order s seqn type payload at i t q r;
+      is_kex = kex_of type payload i t r.payload_is k;
+      refuses = memory_anyway says denies _ l.0 _ i.payload error e.0;
+    })))
 refuses_none says denies untrusted s seqn type payload error o b t k q (inr h) = λ at read i r.
     let same : type_of i ≡ type = same_type type payload i t r.payload_is in
     let outside : stands_of s.finished.items s.kex ≡ Outside = idle_outside s.finished.items s.kex (setting_of s)
-        o.machine (h.1).none b in
+    o.machine (h.1).none b in
     inr (inr (inr (inr (record {
       stays = λ e. kex_stays type k (sym same ∙ e);
       ordered = in_order s seqn type payload at i t q r;
       not_idle = subst (λ (x : ℕ). (nat_le 2 x && nat_le x 4) ≡ false) (sym same) (kex_not_idle type k);
-      place = inl (kex_of type payload i t r.payload_is k, outside, λ e.
-          (let f : is_outside (stands_of s.finished.items s.kex) ≡ false = (h.1).inside (sym same ∙ e) in let g : true ≡
-          false = sym (ap is_outside outside) ∙ f in cc));
+      place = inl (
+        kex_of type payload i t r.payload_is k,
+        outside,
+        λ e.
+            (let f : is_outside (stands_of s.finished.items s.kex) ≡ false = (h.1).inside (sym same ∙ e) in let g : true ≡
+            false = sym (ap is_outside outside) ∙ f in cc),
+      );
       error_is = h.0;
     }))))
 
@@ -238,8 +257,11 @@ refuses_place says denies untrusted s seqn type payload t z q n k d = λ at read
       stays = λ e. z (same ∙ e);
       ordered = in_order s seqn type payload at i t q r;
       not_idle = subst (λ (x : ℕ). (nat_le 2 x && nat_le x 4) ≡ false) same n;
-      place = inr (subst (λ (x : ℕ). is_kex x ≡ false) same k, λ p m. may_not (state_at s at read)
-          (and_false (is_payload_type type) _ d (subst (λ (x : ℕ). is_payload_type x ≡ true) (sym same) p)) m);
+      place = inr (
+        subst (λ (x : ℕ). is_kex x ≡ false) same k,
+        λ p m. may_not (state_at s at read)
+            (and_false (is_payload_type type) _ d (subst (λ (x : ℕ). is_payload_type x ≡ true) (sym same) p)) m,
+      );
       error_is = refl;
     }))))
 
@@ -258,9 +280,12 @@ pub breaks_by : (s : Session) (seqn type place : ℕ) (dropped ordered : Bool) (
     → BreaksAt s seqn type error
 breaks_by s seqn type place dropped ordered error o t d p h = λ number small e.
     let q : place ≡ number - (if counts_guess (names_now (stands_of s.finished.items s.kex)) then 1 else 0) = p number
-        small e ∙ ap (λ (b : Bool). number - (if b then 1 else 0)) d in
-    (sym o ∙ t, subst (λ (n : ℕ). is_violation (other_side s.side) type n ≡ true) q h.0, h.1
-        ∙ ap (λ (n : ℕ). errors.StrictKeyExchangeViolation type n) q)
+    small e ∙ ap (λ (b : Bool). number - (if b then 1 else 0)) d in (
+      sym o ∙ t,
+      subst (λ (n : ℕ). is_violation (other_side s.side) type n ≡ true) q h.0,
+      h.1
+          ∙ ap (λ (n : ℕ). errors.StrictKeyExchangeViolation type n) q,
+    )
 
 -- a refusal of the machine, or of the host at its end
 pub moves_host : (untrusted : ServerHost → Type 0) (says : Says) (denies : Denies) (m : Machine) (i : Incoming)
@@ -271,9 +296,16 @@ pub moves_host : (untrusted : ServerHost → Type 0) (says : Says) (denies : Den
 moves_host untrusted says denies m i old new host k error d (inl e) = inl
     (memory_anyway says denies m.setting m.stage i.seqn i.payload.now error e)
 moves_host untrusted says denies m i old new host k error d (inr h) = inr
-    (record { host = (h.1).0; newkeys = k; old = old; new = new; done = subst
-    (λ (x : Option ServerHost). Rattle.ssh_kex.specs.Stepping.IsDone m i old x k new) (h.1).1 d; denied = (h.1).2;
-    error_is = h.0 })
+    (record {
+      host = (h.1).0;
+      newkeys = k;
+      old = old;
+      new = new;
+      done = subst
+          (λ (x : Option ServerHost). Rattle.ssh_kex.specs.Stepping.IsDone m i old x k new) (h.1).1 d;
+      denied = (h.1).2;
+      error_is = h.0;
+    })
 
 pub moves_memory : (untrusted : ServerHost → Type 0) (says : Says) (denies : Denies) (m : Machine) (i : Incoming)
     (error : Error) → error ≡ errors.Memory → RefusesMove says denies untrusted m i error

@@ -50,16 +50,31 @@ pub record IsSilentLog (es : List Event) : Type 0 where
   pub hears_none : HearsNone es
 
 pub only_silent : (es : List Event) → OnlyWrites es → IsSilentLog es
-only_silent [] h = record { handled_none = refl; delivered_none = refl; submitted_none = refl; unasked = refl;
-    hears_none = tt }
+only_silent [] h = record {
+  handled_none = refl;
+  delivered_none = refl;
+  submitted_none = refl;
+  unasked = refl;
+  hears_none = tt;
+}
 only_silent (ExchangeBegun cause i ∷ es) h =
     let r = only_silent es h.1 in
-    record { handled_none = r.handled_none; delivered_none = r.delivered_none; submitted_none = r.submitted_none;
-        unasked = (let a = h.0 in let u = r.unasked in omega (arith, a, u)); hears_none = r.hears_none }
+    record {
+      handled_none = r.handled_none;
+      delivered_none = r.delivered_none;
+      submitted_none = r.submitted_none;
+      unasked = (let a = h.0 in let u = r.unasked in omega (arith, a, u));
+      hears_none = r.hears_none;
+    }
 only_silent (PayloadSent i ∷ es) h =
     let r = only_silent es h in
-    record { handled_none = r.handled_none; delivered_none = r.delivered_none; submitted_none = r.submitted_none;
-        unasked = r.unasked; hears_none = r.hears_none }
+    record {
+      handled_none = r.handled_none;
+      delivered_none = r.delivered_none;
+      submitted_none = r.submitted_none;
+      unasked = r.unasked;
+      hears_none = r.hears_none;
+    }
 only_silent (IdHeard id ∷ es) h = absurd h
 only_silent (PayloadSubmitted p ∷ es) h = absurd h
 only_silent (AnswerSent i again ∷ es) h = absurd h
@@ -99,8 +114,16 @@ nowhere : Spot
 nowhere = record { sealing = Clear; number = 0 }
 
 pub writes_none : (s : Session) (read : ℕ) → AreGood s.held.items → Writes s read [] s
-writes_none s read g = record { side = refl; config = refl; line = refl; only = tt; steps = λ at. refl; output = sym
-    (append-nil s.writer.output); good = g }
+writes_none s read g = record {
+  side = refl;
+  config = refl;
+  line = refl;
+  only = tt;
+  steps = λ at. refl;
+  output = sym
+      (append-nil s.writer.output);
+  good = g;
+}
 
 pub writes_join : (s mid s' : Session) (read : ℕ) (a b : List Event) → Writes s read a mid → Writes mid read b s'
     → Writes s read (a ++ b) s'
@@ -164,9 +187,9 @@ begins_exchange s s' read at cause b n m = record {
   becomes = ap (λ (x : Session). state_at x at read) b.becomes
       ∙ ap (λ (w : Writer). stated s s.held.items w (Inside b.machine.stage) false at read) b.sends.written
       ∙ ap (λ (stage : Stage). stated s s.held.items (with_item s.writer b.item) (Inside stage) false at read)
-          b.stage_is
+      b.stage_is
       ∙ ap (λ (called : Bool). stated s s.held.items (with_item s.writer b.item) (Inside (Created b.item.payload))
-          called at read) (sym n);
+      called at read) (sym n);
 }
 
 -- an exchange that is begun at a limit
@@ -217,16 +240,16 @@ good_type p h = and_last (not (is_bad_size (length p))) (is_payload_type (messag
 
 -- the first payload that is held is sealed
 pub record SendsFirst (s : Session) (payload : List ℕ) (more : List (List ℕ)) (stream : Stream) (s' : Session) : Type 0
-    where
-  pub outside : stands_of s.finished.items s.kex ≡ Outside
-  pub below_write : s.writer.count < s.config.now.limits.rekey_write_limit
-  pub holds : s.held.items ≡ payload ∷ more
-  pub some : 0 < length payload
-  pub admissible : IsAdmissible s.writer.sealing (item_of s.writer.sealing payload stream)
-  pub padded : IsPadded s.writer.sealing (item_of s.writer.sealing payload stream)
-  pub sends : Sends s.writer payload stream s'.writer
-  pub left : s'.held.items ≡ more
-  pub becomes : s' ≡ record s { held = s'.held; writer = s'.writer }
+  where
+    pub outside : stands_of s.finished.items s.kex ≡ Outside
+    pub below_write : s.writer.count < s.config.now.limits.rekey_write_limit
+    pub holds : s.held.items ≡ payload ∷ more
+    pub some : 0 < length payload
+    pub admissible : IsAdmissible s.writer.sealing (item_of s.writer.sealing payload stream)
+    pub padded : IsPadded s.writer.sealing (item_of s.writer.sealing payload stream)
+    pub sends : Sends s.writer payload stream s'.writer
+    pub left : s'.held.items ≡ more
+    pub becomes : s' ≡ record s { held = s'.held; writer = s'.writer }
 
 sends_step : (s s' : Session) (read : ℕ) (at : Spot) (payload : List ℕ) (more : List (List ℕ)) (stream : Stream)
     → read < s.config.now.limits.rekey_read_limit → SendsFirst s payload more stream s'
@@ -241,7 +264,7 @@ sends_step s s' read at payload more stream r h = record {
   becomes = ap (λ (x : Session). state_at x at read) h.becomes
       ∙ ap (λ (q : List (List ℕ)). stated s q s'.writer (stands_of s.finished.items s.kex) false at read) h.left
       ∙ ap (λ (w : Writer). stated s more w (stands_of s.finished.items s.kex) false at read)
-          (sends_item s.writer s'.writer payload stream h.some h.sends);
+      (sends_item s.writer s'.writer payload stream h.some h.sends);
 }
 
 pub writes_first : (s s' : Session) (read : ℕ) (payload : List ℕ) (more : List (List ℕ)) (stream : Stream)
@@ -333,8 +356,11 @@ reached write count limit read h = by (nat_le write count) refl h
 
 unreached : (write count limit read : ℕ) → (nat_le write count || nat_le limit read) ≡ false
     → (count < write) × (read < limit)
-unreached write count limit read h = (below write count (first (nat_le write count) (nat_le limit read) h), below limit
-    read (or_last (nat_le write count) (nat_le limit read) h))
+unreached write count limit read h = (
+  below write count (first (nat_le write count) (nat_le limit read) h),
+  below limit
+      read (or_last (nat_le write count) (nat_le limit read) h),
+)
   where
     below : (n m : ℕ) → nat_le n m ≡ false → m < n
     below n m k = grind (arith, nat_tests)
@@ -365,8 +391,12 @@ goes_on_begun s mid s' read outside limit oe o le l h b = by
 
     go : (cause : Cause) → is_answering cause ≡ false → asked cause ≡ 0
         → ((at : Spot) → MayBegin mid.config.now (state_at mid at read) cause) → GoesOn s read s'
-    go cause n a may = record { events = h.0 ++ ExchangeBegun cause b.item ∷ []; writes = writes_join s mid s' read h.0
-        (ExchangeBegun cause b.item ∷ []) h.1 (writes_begun mid s' read cause n a may h.1.good b); settled = settled }
+    go cause n a may = record {
+      events = h.0 ++ ExchangeBegun cause b.item ∷ [];
+      writes = writes_join s mid s' read h.0
+          (ExchangeBegun cause b.item ∷ []) h.1 (writes_begun mid s' read cause n a may h.1.good b);
+      settled = settled;
+    }
 
     by : (mid.config.now.limits.rekey_write_limit ≤ mid.writer.count) ⊎ (mid.config.now.limits.rekey_read_limit ≤ read)
         → GoesOn s read s'
@@ -381,10 +411,12 @@ pub sends_first : (s mid s' : Session) (read : ℕ) (outside limit : Bool) (payl
     → (0 < length bytes → IsAdmissible mid.writer.sealing (item_of mid.writer.sealing bytes stream))
     → (0 < length bytes → IsPadded mid.writer.sealing (item_of mid.writer.sealing bytes stream))
     → s' ≡ record mid { held = s'.held; writer = s'.writer } → (events : List Event) × Writes s read events s'
-sends_first s mid s' read outside limit payload bytes stream oe o le l h held e w a d becomes =
-    (h.0 ++ PayloadSent (item_of mid.writer.sealing payload stream) ∷ [], writes_join s mid s' read h.0
-        (PayloadSent (item_of mid.writer.sealing payload stream) ∷ []) h.1
-        (writes_first mid s' read payload s'.held.items stream below.1 good.1 sent))
+sends_first s mid s' read outside limit payload bytes stream oe o le l h held e w a d becomes = (
+  h.0 ++ PayloadSent (item_of mid.writer.sealing payload stream) ∷ [],
+  writes_join s mid s' read h.0
+      (PayloadSent (item_of mid.writer.sealing payload stream) ∷ []) h.1
+      (writes_first mid s' read payload s'.held.items stream below.1 good.1 sent),
+)
   where
     below : (mid.writer.count < mid.config.now.limits.rekey_write_limit)
         × (read < mid.config.now.limits.rekey_read_limit)

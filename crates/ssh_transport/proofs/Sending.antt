@@ -39,8 +39,11 @@ join_on : (Made : Stream → Stream → Type 0) (side : Side) (config : Config) 
     → SendsOn Made side config a sent b → SendsOn Made side config b more c
     → SendsOn Made side config a (sent ++ more) c
 join_on Made side config [] more a b c h k = subst (λ (x : Sender). SendsOn Made side config x more c) h k
-join_on Made side config (x ∷ sent) more a b c h k = (h.0, join_on Made side config sent more
-    (sent_next side config a x) b c h.1 k)
+join_on Made side config (x ∷ sent) more a b c h k = (
+  h.0,
+  join_on Made side config sent more
+      (sent_next side config a x) b c h.1 k,
+)
 
 pub sends_join : (Made : Stream → Stream → Type 0) (side : Side) (config : Config) (a b c : Sender)
     → SendsDrawn Made side config a b → SendsDrawn Made side config b c → SendsDrawn Made side config a c
@@ -89,7 +92,7 @@ written_sent Made side config [] old new records before left h =
 written_sent Made side config (p ∷ payloads) old new records before left h =
     let between = stream_after old.sealing p before in
     sends_join Made side config (sender_at old records before) (sender_at h.1 records between)
-        (sender_at new records left)
+    (sender_at new records left)
     (payload_sent Made side config old h.1 records p before between h.0 h.2 refl)
     (written_sent Made side config payloads h.1 new records between left h.3)
 
@@ -115,9 +118,14 @@ answered by_client by_server before behind (Some (AwaitsGroup o)) h = inl h
 answered by_client by_server before behind (Some (AwaitsReply o gex local public)) h = inl h
 answered by_client by_server before behind (Some (AwaitsRequest o)) h = inl h
 answered by_client by_server before behind (Some (AwaitsValue o gex)) h = inl h
-answered by_client by_server before behind (Some (AwaitsNewkeys exchange made host)) h = inr
-    (made.names.kex, Rattle.ssh_kex.specs.Setting.group_of exchange.gex, exchange.client_ephemeral,
-    exchange.server_ephemeral, h.secret, h.drawn)
+answered by_client by_server before behind (Some (AwaitsNewkeys exchange made host)) h = inr (
+  made.names.kex,
+  Rattle.ssh_kex.specs.Setting.group_of exchange.gex,
+  exchange.client_ephemeral,
+  exchange.server_ephemeral,
+  h.secret,
+  h.drawn,
+)
 
 made_in : (by_client : ClientRelation) (by_server : ServerRelation) (side : Side) (before behind : Stream)
     (stage : Stage) (next : Option Stage) → DrawnBySide by_client by_server side before stage next behind
@@ -143,16 +151,16 @@ pub step_sent : (by_client : ClientRelation) (by_server : ServerRelation) (side 
     (old new : Writer) (records : List FinishedExchange) (before left : Stream) (stage : Stage) (next : Option Stage)
     → StepDraws (DrawnBySide by_client by_server side before stage next) old new left
     → SendsDrawn (MadeBy by_client by_server side) side config (sender_at old records before)
-        (sender_at new records left)
+    (sender_at new records left)
 step_sent by_client by_server side config old new records before left stage next h = elim
     (made_in by_client by_server side before h.behind stage next h.values) [
-  | inl e ↦ written_sent (MadeBy by_client by_server side) side config h.written old new records before left
-      (subst (λ (s : Stream). SendsAll old h.written s new left) e h.sends)
-  | inr m ↦ sends_join (MadeBy by_client by_server side) side config (sender_at old records before)
-      (sender_at old records h.behind) (sender_at new records left)
-      (OfValue h.behind ∷ [], (m, refl)) (written_sent (MadeBy by_client by_server side) side config h.written old new
+      | inl e ↦ written_sent (MadeBy by_client by_server side) side config h.written old new records before left
+          (subst (λ (s : Stream). SendsAll old h.written s new left) e h.sends)
+      | inr m ↦ sends_join (MadeBy by_client by_server side) side config (sender_at old records before)
+          (sender_at old records h.behind) (sender_at new records left)
+          (OfValue h.behind ∷ [], (m, refl)) (written_sent (MadeBy by_client by_server side) side config h.written old new
           records h.behind left h.sends)
-]
+    ]
 
 -- the numbers behind it
 pub numbers_sent : (Made : Stream → Stream → Type 0) (side : Side) (config : Config) (reset : Bool) (old new : Writer)
@@ -175,9 +183,14 @@ kexinit_wrote : (side : Side) (config : Config) (old new : Writer) (records : Li
     (stream left : Stream) → Sends old (kexinit_with side config stream) (behind_cookie stream) new
     → left ≡ stream_after old.sealing (kexinit_with side config stream) (behind_cookie stream)
     → SendsDrawn (NoneMade side) side config (sender_at old records stream) (sender_at new records left)
-kexinit_wrote side config old new records stream left h l =
-    (OfKexinit ∷ [], (tt, packet_sent old new records (kexinit_with side config stream) stream (behind_cookie stream)
-    left h l))
+kexinit_wrote side config old new records stream left h l = (
+  OfKexinit ∷ [],
+  (
+    tt,
+    packet_sent old new records (kexinit_with side config stream) stream (behind_cookie stream)
+        left h l,
+  ),
+)
 
 pub client_wrote : (side : Side) (config : Config) (old new : Writer) (stream left : Stream)
     (answer : Result (Unit {0}) Error) → side ≡ Client → OnOk answer
@@ -216,9 +229,9 @@ pub opens_with : (s : Session) (m : Machine) (new : Writer) (cause : KexCause) (
 opens_with s m new cause peer stream left e h =
     let k : PutsKexinit s.side s.config.now s.writer stream new left =
     subst (λ (x : Config). PutsKexinit s.side x s.writer stream new left)
-        (ap (λ x. x.config) e ∙ between_config s.side s.config.now peer cause)
+    (ap (λ x. x.config) e ∙ between_config s.side s.config.now peer cause)
     (subst (λ (x : Side). PutsKexinit x m.setting.config s.writer stream new left)
-        (ap (λ x. x.side) e ∙ between_side s.side s.config.now peer cause) h) in
+    (ap (λ x. x.side) e ∙ between_side s.side s.config.now peer cause) h) in
     record {
       first = puts_output s.side s.config.now s.writer new stream left k;
       wrote = kexinit_wrote s.side s.config.now s.writer new s.finished.items stream left k.0 k.1;
@@ -231,7 +244,7 @@ pub wrote_join : (a b c : Session) (s t u : Stream) → IsFixed a b → WritesDr
 wrote_join a b c s t u f h k = sends_join (NoneMade a.side) a.side a.config.now (sender_of a s) (sender_of b t)
     (sender_of c u) h
     (subst (λ (x : Side). SendsDrawn (NoneMade x) x a.config.now (sender_of b t) (sender_of c u)) f.0
-        (subst (λ (x : Bor Config). SendsDrawn (NoneMade b.side) b.side x.now (sender_of b t) (sender_of c u)) f.1 k))
+    (subst (λ (x : Bor Config). SendsDrawn (NoneMade b.side) b.side x.now (sender_of b t) (sender_of c u)) f.1 k))
 
 -- a payload that may be submitted isn't a KEXINIT
 pub good_plain : (payload : List ℕ) → is_good_payload payload ≡ true → is_kexinit payload ≡ false

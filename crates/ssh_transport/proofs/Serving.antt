@@ -27,7 +27,7 @@ use Rattle.ssh_transport.specs.States.{standing_of}
 use Rattle.ssh_transport.specs.Taking.{TakesUp}
 use Rattle.ssh_transport.specs.declared.connection.Connection.{Connection}
 use Rattle.ssh_transport.specs.declared.session.Disposition.{Disposition}
-use Rattle.ssh_transport.specs.declared.session.Disposition.TheVariants.{Delivers, Done, Rekeys}
+use Rattle.ssh_transport.specs.Handling.{GivesKeys, GivesNothing, GivesPayload, Outcome}
 use Rattle.ssh_transport.specs.declared.session.Session.{Session}
 use Rattle.ssh_transport.proofs.Asking.{asks_on, between_join, between_same, message_asks}
 use Rattle.ssh_transport.proofs.Kexinits.{between_side}
@@ -79,49 +79,49 @@ serves_on Made c c1 c2 answer s' read n n' s t u f a up g w = record {
   drawn = sends_join (Made c.session.side) c.session.side c.session.config.now (sender_of c.session s)
       (sender_of c1.session t) (sender_of s' u) a.drawn
       (sends_fixed Made c.session c1.session (sender_of c1.session t) (sender_of s' u) f
-          (sends_weaker (Made c1.session.side) c1.session.side c1.session.config.now (sender_of c1.session t)
-          (sender_of s' u) (wrote_from c1.session c2.session s' t u (ap (λ (x : Connection). x.session) up.rest) w)));
+      (sends_weaker (Made c1.session.side) c1.session.side c1.session.config.now (sender_of c1.session t)
+      (sender_of s' u) (wrote_from c1.session c2.session s' t u (ap (λ (x : Connection). x.session) up.rest) w)));
 }
 
 -- ---- a message
 
 pub message_serves : (Made : Side → Stream → Stream → Type 0) (says : Says) (s s1 s' : Session) (m : Machine)
-    (i : Incoming) (answer : Disposition) (n n' : PartTally) (before between left : Stream)
+    (i : Incoming) (answer : Outcome) (n n' : PartTally) (before between left : Stream)
     → config_fault s.side s.config.now ≡ None → IsOpen s → IsFor s m s1 → IsFixed s s1 → WritesDrawn s s1 before between
     → Moves says s1 m i answer s' → MoveServes Made m s1 s' n n' between left → ServesBetween Made s s' n n' before left
 message_serves Made says s s1 s' m i answer n n' before between left v o f x w h a =
     let side : m.setting.side ≡ s.side = ap (λ (q : Setting). q.side) (set_for s s1 m o f)
-        ∙ between_side s.side s.config.now _ _ in
+    ∙ between_side s.side s.config.now _ _ in
     record {
       asks = message_asks says s s1 s' m i answer n n' v o f h a.asks;
       drawn = sends_join (Made s.side) s.side s.config.now (sender_of s before) (sender_of s1 between)
           (sender_of s' left)
           (sends_weaker (Made s.side) s.side s.config.now (sender_of s before) (sender_of s1 between) w)
           (subst (λ (q : Side). SendsDrawn (Made q) q s.config.now (sender_of s1 between) (sender_of s' left)) side
-              (subst (λ (q : Bor Config). SendsDrawn (Made m.setting.side) m.setting.side q.now (sender_of s1 between)
-              (sender_of s' left)) x.1 a.drawn));
+          (subst (λ (q : Bor Config). SendsDrawn (Made m.setting.side) m.setting.side q.now (sender_of s1 between)
+          (sender_of s' left)) x.1 a.drawn));
     }
 
 -- the keys of an exchange that ended
 pub installs_sent : (Made : Stream → Stream → Type 0) (m : Machine) (i : Incoming) (old new : Writer)
-    (host : Option ServerHost) (k : NewKeys) (s s' : Session) (config : Config) (answer : Disposition) (stream : Stream)
+    (host : Option ServerHost) (k : NewKeys) (s s' : Session) (config : Config) (answer : Outcome) (stream : Stream)
     → IsDone m i old host k new → Installs s k answer s' → SendsDrawn Made m.setting.side config (sender_of s stream)
     (sender_of s' stream)
-installs_sent Made m i old new host k s s' config Delivers stream d h = absurd h
-installs_sent Made m i old new host k s s' config Done stream d h = absurd h
-installs_sent Made m i old new host k s s' config (Rekeys opening again) stream d h =
+installs_sent Made m i old new host k s s' config GivesPayload stream d h = absurd h
+installs_sent Made m i old new host k s s' config GivesNothing stream d h = absurd h
+installs_sent Made m i old new host k s s' config (GivesKeys opening again) stream d h =
     let kept : FinishedExchange = record { names = k.names; hash = k.hash; session_id = k.session_id; keys = k.keys } in
     let seals : sealing_of k.cipher.value.local_to_remote ≡ (outgoing m.setting.side kept).sealing =
     d.newkeys.seals ∙ sym (ap (λ (n : Names). sealing_after m.setting.side n d.made.keys) d.newkeys.names_is)
-        ∙ sym (ap (λ (q : Keys). sealing_after m.setting.side k.names q) d.newkeys.keys_is) in (
+    ∙ sym (ap (λ (q : Keys). sealing_after m.setting.side k.names q) d.newkeys.keys_is) in (
       OfKeys kept ∷ [],
       (
         tt,
         ap (λ (x : Session). sender_at x.writer s'.finished.items stream) h.3
             ∙ ap (λ (r : List FinishedExchange). sender_at (record s.writer
-                { sealing = sealing_of k.cipher.value.local_to_remote; count = 0 }) r stream) h.2
+            { sealing = sealing_of k.cipher.value.local_to_remote; count = 0 }) r stream) h.2
             ∙ ap (λ (q : Sealing). sender_at (record s.writer { sealing = q; count = 0 })
-                (s.finished.items ++ kept ∷ []) stream) seals,
+            (s.finished.items ++ kept ∷ []) stream) seals,
       ),
     )
 
@@ -134,10 +134,19 @@ pub serves_answer : {T : Type 0} (Made : Side → Stream → Stream → Type 0) 
 serves_answer {T} Made n n' s s' c mid c' (Ok u) done d e h = subst
     (λ (y : Result T Error). OnOk y (ServesCall Made (standing_of c) (standing_of c') n n' s s')) (sym d)
     (subst (λ (x : Connection). ServesCall Made (standing_of c) (standing_of x) n n' s s') (sym e) (record {
-      asks = record { agreement = (h.asks.within).agreement; hosts = (h.asks.within).hosts; lookups =
-          (h.asks.within).lookups; groups = (h.asks.within).groups };
-      answers = record { agreement = (h.asks.answers).agreement; hosts = (h.asks.answers).hosts; lookups =
-          (h.asks.answers).lookups };
+      asks = record {
+        agreement = (h.asks.within).agreement;
+        hosts = (h.asks.within).hosts;
+        lookups =
+            (h.asks.within).lookups;
+        groups = (h.asks.within).groups;
+      };
+      answers = record {
+        agreement = (h.asks.answers).agreement;
+        hosts = (h.asks.answers).hosts;
+        lookups =
+            (h.asks.answers).lookups;
+      };
       sends = h.drawn;
     }))
 serves_answer {T} Made n n' s s' c mid c' (Err x) done d e h = subst

@@ -116,7 +116,7 @@ moved_before : (says : Says) (c mid : Connection) (events : List Event) (st : Si
 moved_before says c mid events st a b h = subst (λ (x : Side). Steps says x c.session.config.now
     (id_text c.session.config.now.id) (state_at mid.session (reading_spot mid) mid.reader.count) events st) a
     (subst (λ (x : Bor Config). Steps says mid.session.side x.now (id_text x.now.id)
-        (state_at mid.session (reading_spot mid) mid.reader.count) events st) b h)
+    (state_at mid.session (reading_spot mid) mid.reader.count) events st) b h)
 
 pub stops_join : (says : Says) (denies : Denies) (untrusted : ServerHost → Type 0)
     (asked later : RefusalCause → SideState → Type 0) (c mid c' : Connection) (error : Error) → Later mid later asked
@@ -132,11 +132,11 @@ stops_join says denies untrusted asked later c mid c' error a h k = record {
       h.output ∙ append_assoc c.session.writer.output (sent_bytes c.session.side (spot_of c.session.writer) h.events)
       (sent_bytes mid.session.side (spot_of mid.session.writer) k.events)
       ∙ ap (λ (x : Side). c.session.writer.output ++ (sent_bytes c.session.side (spot_of c.session.writer) h.events ++
-          sent_bytes x (spot_of mid.session.writer) k.events)) h.side
+      sent_bytes x (spot_of mid.session.writer) k.events)) h.side
       ∙ ap (λ (t : List ℕ). c.session.writer.output ++ t) (sym
-          (sent_join says c.session.side c.session.config.now (id_text c.session.config.now.id) h.events k.events
-          (state_at c.session (reading_spot c) c.reader.count)
-          (state_at mid.session (reading_spot mid) mid.reader.count) h.steps));
+      (sent_join says c.session.side c.session.config.now (id_text c.session.config.now.id) h.events k.events
+      (state_at c.session (reading_spot c) c.reader.count)
+      (state_at mid.session (reading_spot mid) mid.reader.count) h.steps));
   delivered = k.delivered ∙ ap (λ (t : List (List ℕ)). t ++ delivered_in k.events) h.delivered
       ∙ append_assoc c.delivered.items (delivered_in h.events) (delivered_in k.events)
       ∙ ap (λ (t : List (List ℕ)). c.delivered.items ++ t) (sym (delivered_more h.events k.events));
@@ -147,10 +147,10 @@ stops_join says denies untrusted asked later c mid c' error a h k = record {
   bytes = h.bytes ∙ ap (λ (t : List ℕ). read_bytes c.session.side (reading_spot c) h.events ++ t)
       (k.bytes ∙ ap (λ (x : Side). read_bytes x (reading_spot mid) k.events ++ k.left) h.side)
       ∙ sym (append_assoc (read_bytes c.session.side (reading_spot c) h.events)
-          (read_bytes c.session.side (reading_spot mid) k.events) k.left)
+      (read_bytes c.session.side (reading_spot mid) k.events) k.left)
       ∙ ap (λ (t : List ℕ). t ++ k.left) (sym (read_join says c.session.side c.session.config.now
-          (id_text c.session.config.now.id) h.events k.events (state_at c.session (reading_spot c) c.reader.count)
-          (state_at mid.session (reading_spot mid) mid.reader.count) h.steps));
+      (id_text c.session.config.now.id) h.events k.events (state_at c.session (reading_spot c) c.reader.count)
+      (state_at mid.session (reading_spot mid) mid.reader.count) h.steps));
   done = subst (λ (x : Bor Config). IsIdleBefore k.cause x.now k.state) h.config k.done;
   next = k.next;
   line = k.line;
@@ -195,8 +195,8 @@ pub stops_after : (says later : Config → Says) (denies denied : Denies) (untru
 stops_after says later denies denied untrusted distrusted w z asked asks c mid c' error a e h k = stops_join
     (says c.session.config.now) denies untrusted asked asks c mid c' error a h
     (stops_still (later c.session.config.now) (says c.session.config.now) denied denies distrusted untrusted
-        (w c.session.config.now) z asks mid c' error (subst
-        (λ (b : Bor Config). Stops (later b.now) denied distrusted asks mid error c') e k))
+    (w c.session.config.now) z asks mid c' error (subst
+    (λ (b : Bor Config). Stops (later b.now) denied distrusted asks mid error c') e k))
 
 -- ---- one packet
 
@@ -221,11 +221,11 @@ pub stops_fault : (says : Says) (denies : Denies) (untrusted : ServerHost → Ty
     → Stops says denies untrusted asked c error c'
 stops_fault says denies untrusted asked c c' result o error key' r' live l e x s d a =
     let h = subst (λ (r : Result (Option Incoming) OpenError). LeavesNext c.reader (opening_of c.opening) key' r r') e l
-        in
+    in
     let f = faulted (opening_of c.opening) c.reader o live.unbroken h.0 in
     stops_here says denies untrusted asked c c' (OfFault f.fault) error live (ap (λ (y : Session). y.writer.output) s) d
-        (ap (λ (y : Session). y.finished.items) s) f.stands (λ y. (let z : OfFault f.fault ≡ OfVersion = y in cc))
-        (x ∙ ap error_of f.error_is) (a f.fault)
+    (ap (λ (y : Session). y.finished.items) s) f.stands (λ y. (let z : OfFault f.fault ≡ OfVersion = y in cc))
+    (x ∙ ap error_of f.error_is) (a f.fault)
 
 pub stops_packet : (says : Says) (denies : Denies) (untrusted : ServerHost → Type 0)
     (asked : RefusalCause → SideState → Type 0) (c c' : Connection) (result : Result (Option Incoming) OpenError)
@@ -237,9 +237,14 @@ pub stops_packet : (says : Says) (denies : Denies) (untrusted : ServerHost → T
     → Stops says denies untrusted asked c error c'
 stops_packet says denies untrusted asked c c' result o incoming error key' r' live l e f h b d a =
     stops_here says denies untrusted asked c c' (OfPacket k.0) error live b.output d b.records (r'.waiting, (k.1).front)
-        (λ y. (let z : OfPacket k.0 ≡ OfVersion = y in cc))
-    (h (reading_spot c) c.reader.count k.0 (record { small = live.numbered; seqn_is = (k.1).seqn; payload_is =
-        (k.1).payload; admissible = (k.1).admissible })) (a k.0 (k.1).payload)
+    (λ y. (let z : OfPacket k.0 ≡ OfVersion = y in cc))
+    (h (reading_spot c) c.reader.count k.0 (record {
+      small = live.numbered;
+      seqn_is = (k.1).seqn;
+      payload_is =
+          (k.1).payload;
+      admissible = (k.1).admissible;
+    })) (a k.0 (k.1).payload)
   where
     k : LeavesNext c.reader (opening_of c.opening) key' (Ok (Some incoming)) r'
     k = subst (λ (x : Option Incoming). LeavesNext c.reader (opening_of c.opening) key' (Ok x) r') f
@@ -254,11 +259,11 @@ pub stops_wanting : (says : Says) (denies : Denies) (untrusted : ServerHost → 
     → Stops says denies untrusted asked c error (record c2 { session = s' })
 stops_wanting says denies untrusted asked c c1 c2 s' read answer error live t fixed line u e g m a =
     stops_join says denies untrusted asked asked c (record c2 { session = g.mid }) (record c2 { session = s' }) error
-        (λ cause at b h. h)
+    (λ cause at b h. h)
     (reads_join says c c2 (record c2 { session = g.mid }) (reads_up says c c1 c2 answer live t fixed line u)
-        (reads_written says c2 g.mid read g.events e g.writes))
+    (reads_written says c2 g.mid read g.events e g.writes))
     (stops_memory says denies untrusted asked (record c2 { session = g.mid }) (record c2 { session = s' }) error m
-        g.output refl g.records a)
+    g.output refl g.records a)
 
 -- a payload was to be handed up, and memory was wanting to keep it
 pub stops_keeping : (says : Says) (denies : Denies) (untrusted : ServerHost → Type 0)
@@ -272,8 +277,11 @@ stops_keeping says denies untrusted asked c c' error s d m a = stops_memory says
 next_stays : (cause : RefusalCause) (st : SideState) (left more : List ℕ) → StandsNext cause st left
     → StandsNext cause st (left ++ more)
 next_stays (OfFault fault) st left more h = front_stays_refused st.reading.sealing st.reading.number left more fault h
-next_stays (OfPacket i) st left more h = (h.0 ++ more, front_stays_whole st.reading.sealing st.reading.number left more
-    h.0 i h.1)
+next_stays (OfPacket i) st left more h = (
+  h.0 ++ more,
+  front_stays_whole st.reading.sealing st.reading.number left more
+      h.0 i h.1,
+)
 next_stays OfVersion st left more h = tt
 next_stays OfMemory st left more h = tt
 
@@ -305,7 +313,22 @@ pub stops_asked : (says : Says) (denies : Denies) (untrusted : ServerHost → Ty
     (asked asks : RefusalCause → SideState → Type 0) (c c' : Connection) (error : Error)
     → ((cause : RefusalCause) (at : SideState) → asked cause at → asks cause at)
     → Stops says denies untrusted asked c error c' → Stops says denies untrusted asks c error c'
-stops_asked says denies untrusted asked asks c c' error a h = record
-    { cause = h.cause; state = h.state; events = h.events; steps = h.steps; output = h.output; delivered = h.delivered;
-    records = h.records; input = h.input; silent = h.silent; left = h.left; bytes = h.bytes; done = h.done; next =
-    h.next; line = h.line; why = h.why; asks = a h.cause h.state h.asks }
+stops_asked says denies untrusted asked asks c c' error a h = record {
+  cause = h.cause;
+  state = h.state;
+  events = h.events;
+  steps = h.steps;
+  output = h.output;
+  delivered = h.delivered;
+  records = h.records;
+  input = h.input;
+  silent = h.silent;
+  left = h.left;
+  bytes = h.bytes;
+  done = h.done;
+  next =
+      h.next;
+  line = h.line;
+  why = h.why;
+  asks = a h.cause h.state h.asks;
+}

@@ -37,9 +37,16 @@ submits_inside s s' read p i q g v h e = record {
   line = ap (λ (x : Session). x.line) e;
   rest = [];
   only = tt;
-  steps = λ at. (state_at s' at read, record { allowed = good_type p v; becomes = ap
-      (λ (x : Session). state_at x at read) e ∙ ap (λ (held : List (List ℕ)). stated s held s.writer
-      (stands_of s.finished.items s.kex) false at read) h }, refl);
+  steps = λ at. (
+    state_at s' at read,
+    record {
+      allowed = good_type p v;
+      becomes = ap
+          (λ (x : Session). state_at x at read) e ∙ ap (λ (held : List (List ℕ)). stated s held s.writer
+          (stands_of s.finished.items s.kex) false at read) h;
+    },
+    refl,
+  );
   output = ap (λ (x : Session). x.writer.output) e ∙ sym (append-nil s.writer.output);
   settled = settled_inside s' read (ap (λ (x : Session). is_outside (stands_of x.finished.items x.kex)) e ∙ i)
       (λ k. ap (λ (x : Session). heard_of x.line) e ∙ (q (reading_at s)).silent
@@ -61,8 +68,12 @@ submits_outside s s1 s' read p stream o q v a d w e h = record {
   line = h.writes.line ∙ ap (λ (x : Session). x.line) e;
   rest = PayloadSent item ∷ h.events;
   only = h.writes.only;
-  steps = λ at. (record (state_at s at read) { held = s.held.items ++ p ∷ [] }, record
-      { allowed = good_type p v; becomes = refl }, (state_at s1 at read, sent at, behind at));
+  steps = λ at. (
+    record (state_at s at read) { held = s.held.items ++ p ∷ [] },
+    record
+        { allowed = good_type p v; becomes = refl },
+    (state_at s1 at read, sent at, behind at),
+  );
   output = h.writes.output ∙ ap (λ (t : List ℕ). t ++ sent_after) (ap (λ (x : Writer). x.output) moved) ∙ append_of;
   settled = h.settled;
   good = h.writes.good;
@@ -103,7 +114,7 @@ submits_outside s s1 s' read p stream o q v a d w e h = record {
     becomes = ap (λ (x : Session). state_at x at read) e
         ∙ ap (λ (x : Writer). stated s s.held.items x (stands_of s.finished.items s.kex) false at read) moved
         ∙ ap (λ (x : List (List ℕ)). stated s x (with_item s.writer item) (stands_of s.finished.items s.kex) false at
-            read) none;
+        read) none;
   }
 
   behind : (at : Spot) → Rattle.ssh_rules.specs.Machine.Steps nothing_said s.side s.config.now
@@ -251,9 +262,18 @@ rekeyed_outside c c' i h = subst (λ (b : Bool). RekeyedFrom b nothing_said (sta
 
 live_behind : (c : Connection) (s' : Session) (read : ℕ) (p : List ℕ) → read ≡ c.reader.count → CanBegin s' → IsLive c
     → Submits c.session read p s' → IsOpen s' → IsLive (record c { session = s' })
-live_behind c s' read p e b l h o = record { short = subst IsShort (sym h.line) l.short; heeds = subst
-    (λ (x : IdReading). x ≡ Failed → ⊥) (sym h.line) l.heeds; unbroken = l.unbroken; windowed = l.windowed; begins = b;
-    settled = subst (λ (n : ℕ). IsSettled s' n) e h.settled; good = h.good; opened = o; numbered = l.numbered }
+live_behind c s' read p e b l h o = record {
+  short = subst IsShort (sym h.line) l.short;
+  heeds = subst
+      (λ (x : IdReading). x ≡ Failed → ⊥) (sym h.line) l.heeds;
+  unbroken = l.unbroken;
+  windowed = l.windowed;
+  begins = b;
+  settled = subst (λ (n : ℕ). IsSettled s' n) e h.settled;
+  good = h.good;
+  opened = o;
+  numbered = l.numbered;
+}
 
 pub kept_behind : (c : Connection) (s' : Session) (read : ℕ) (p : List ℕ) → read ≡ c.reader.count → CanBegin s'
     → IsKept c → IsLive c → Submits c.session read p s' → IsOpen s' → IsKept (record c { session = s' })
@@ -265,8 +285,8 @@ sent_by : (c c' : Connection) (s' : Session) (read : ℕ) (p : List ℕ) → c.f
 sent_by c c' s' read p f r e h =
     let same : c'.session ≡ s' = ap (λ (x : Connection). x.session) e in
     submitted c c' p f (e ∙ ap (λ (x : Session). record c { session = x }) (sym same))
-        (subst (λ (x : Session). Submits c.session c.reader.count p x) (sym same)
-        (subst (λ (n : ℕ). Submits c.session n p s') r h))
+    (subst (λ (x : Session). Submits c.session c.reader.count p x) (sym same)
+    (subst (λ (n : ℕ). Submits c.session n p s') r h))
 
 pub sent_answer : (c c' : Connection) (s' : Session) (read : ℕ) (p : List ℕ) (answer done : Result (Unit {0}) Error)
     → c.failed ≡ false → read ≡ c.reader.count → done ≡ answer → OnOk answer (c' ≡ record c { session = s' })
@@ -284,6 +304,14 @@ pub broken_answer : (c : Connection) (s' : Session) (t : Standing) (answer done 
 broken_answer c s' t (Ok u) done side config d m b = subst
     (λ (y : Result (Unit {0}) Error). OnErr y ((y ≡ Err Memory) × Breaks (standing_of c) t)) (sym d) tt
 broken_answer c s' t (Err x) done side config d m b = subst
-    (λ (y : Result (Unit {0}) Error). OnErr y ((y ≡ Err Memory) × Breaks (standing_of c) t)) (sym d)
-    (ap (λ (y : Error). Err y) m, record { side = b.side ∙ side; config = b.config
-        ∙ ap (λ (y : Bor Config). y.now) config; delivered = b.delivered; failed = b.failed; nothing = b.nothing })
+    (λ (y : Result (Unit {0}) Error). OnErr y ((y ≡ Err Memory) × Breaks (standing_of c) t)) (sym d) (
+      ap (λ (y : Error). Err y) m,
+      record {
+        side = b.side ∙ side;
+        config = b.config
+            ∙ ap (λ (y : Bor Config). y.now) config;
+        delivered = b.delivered;
+        failed = b.failed;
+        nothing = b.nothing;
+      },
+    )

@@ -70,24 +70,28 @@ reads_turn : (says later : Config → Says) → ((x : Config) → Weaker (later 
     → self.session.config ≡ mid.session.config → r ≡ record self.reader
     { waiting = self.reader.waiting ++ take n (drop taken piece); handed = []; spent = spent }
     → Reads (says mid.session.config.now) mid (with_more self (drop taken piece))
-        → Reads (later self.session.config.now) (record self { reader = r }) c3
-        → Reads (says mid.session.config.now) mid (with_more c3 (drop (taken + n) piece))
+    → Reads (later self.session.config.now) (record self { reader = r }) c3
+    → Reads (says mid.session.config.now) mid (with_more c3 (drop (taken + n) piece))
 reads_turn says later w mid self c3 r piece taken n spent fixed f h k =
     subst (λ (b : List ℕ). Reads (says mid.session.config.now) mid (with_more c3 b)) (drop-drop n taken piece)
     (reads_after says later w mid (with_more self (drop taken piece)) (with_more c3 (drop n (drop taken piece))) fixed h
     (subst (λ (x : Connection). Reads (later x.session.config.now) x (with_more c3 (drop n (drop taken piece))))
-        (more_taken self (record self { reader = r }) (drop taken piece) [] n spent refl f)
+    (more_taken self (record self { reader = r }) (drop taken piece) [] n spent refl f)
     (reads_more (later self.session.config.now) (record self { reader = r }) c3 (drop n (drop taken piece)) k)))
 
 stops_turn : (says : Config → Says) (denies : Denies) (untrusted : ServerHost → Type 0)
     (asked : RefusalCause → SideState → Type 0) (self c2 c' : Connection) (piece : List ℕ) (taken n spent : ℕ)
     (error : Error) → c2 ≡ record self { reader = c2.reader }
-    → c2.reader ≡ record self.reader { waiting = self.reader.waiting ++ take n (drop taken piece); handed = []; spent =
-    spent } → Stops (says c2.session.config.now) denies untrusted asked c2 error c'
+    → c2.reader ≡ record self.reader {
+      waiting = self.reader.waiting ++ take n (drop taken piece);
+      handed = [];
+      spent =
+          spent;
+    } → Stops (says c2.session.config.now) denies untrusted asked c2 error c'
     → Stops (says self.session.config.now) denies untrusted asked (with_more self (drop taken piece)) error c'
 stops_turn says denies untrusted asked self c2 c' piece taken n spent error e f h =
     subst (λ (x : Connection). Stops (says x.session.config.now) denies untrusted asked x error c')
-        (more_taken self c2 (drop taken piece) [] n spent e f)
+    (more_taken self c2 (drop taken piece) [] n spent e f)
     (stops_more (says c2.session.config.now) denies untrusted asked c2 c' (drop n (drop taken piece)) error h)
 
 -- ---- turn by turn
@@ -119,8 +123,8 @@ read_wider says c mid c' more e h = reads_more (says mid.session.config.now) mid
 begin_heard : (p : PartsCall) (c : Connection) (r : Reader) (piece : List ℕ) (n spent : ℕ) (c1 : Connection)
     → r ≡ record c.reader { waiting = c.reader.waiting ++ take n piece; handed = []; spent = spent } → n ≤ length piece
     → (t : TookInput p (record c { reader = r }) c1 (Takes (p.says c.session.config.now)
-        (emptied (record c { reader = r })) r.waiting c1 × HasRoom (record c { reader = r }) c1))
-        → IsHeard t.takes.0.mid.session.line → TakesTo p c piece n c1
+    (emptied (record c { reader = r })) r.waiting c1 × HasRoom (record c { reader = r }) c1))
+    → IsHeard t.takes.0.mid.session.line → TakesTo p c piece n c1
 begin_heard p c r piece n spent c1 f w t i = record {
   live = t.live;
   kept = t.within;
@@ -142,8 +146,8 @@ begin_heard p c r piece n spent c1 f w t i = record {
 begin_whole : (p : PartsCall) (c : Connection) (r : Reader) (piece : List ℕ) (n spent : ℕ) (c1 : Connection)
     → r ≡ record c.reader { waiting = c.reader.waiting ++ take n piece; handed = []; spent = spent } → n ≡ length piece
     → (t : TookInput p (record c { reader = r }) c1 (Takes (p.says c.session.config.now)
-        (emptied (record c { reader = r })) r.waiting c1 × HasRoom (record c { reader = r }) c1))
-        → t.takes.0.reads.events ≡ [] → TakesTo p c piece n c1
+    (emptied (record c { reader = r })) r.waiting c1 × HasRoom (record c { reader = r }) c1))
+    → t.takes.0.reads.events ≡ [] → TakesTo p c piece n c1
 begin_whole p c r piece n spent c1 f all t none = record {
   live = t.live;
   kept = t.within;
@@ -184,7 +188,7 @@ pub turns_begin : (p : PartsCall) (c k : Connection) (piece : List ℕ) (n spent
     → k ≡ record c { reader = k.reader } → k.reader ≡ record c.reader
     { waiting = c.reader.waiting ++ take n piece; handed = []; spent = spent } → n ≤ length piece
     → (n + waiting_length c.session.line + length c.reader.waiting < window_length → n ≡ length piece)
-        → TakesKept true p k (Ok lends) c1 → TakesTo p c piece n c1
+    → TakesKept true p k (Ok lends) c1 → TakesTo p c piece n c1
 turns_begin p c k piece n spent lends c1 e f w all h = by lends
     (subst (λ (x : Connection). TakesKept true p x (Ok lends) c1) e h)
   where
@@ -214,11 +218,11 @@ turn_heard p c piece taken c' more t = subst IsHeard (sym t.reads.line) (mid_hea
 pub turns_on : {A H G R : Type 0} (ma : AgreementMembers A) (mh : HostKeysMembers H) (mg : GroupLookupMembers G)
     (mr : rng.Ghosts R) (a b d : Parts A H G R)
     (c self : Connection) (r : Reader) (c3 : Connection) (piece slice : List ℕ) (taken n spent : ℕ) (lends : Bool)
-        → taken < length piece → slice ≡ drop taken piece → n ≡ room_in self.reader (length slice)
-        → r ≡ record self.reader { waiting = self.reader.waiting ++ take n slice; handed = []; spent = spent }
+    → taken < length piece → slice ≡ drop taken piece → n ≡ room_in self.reader (length slice)
+    → r ≡ record self.reader { waiting = self.reader.waiting ++ take n slice; handed = []; spent = spent }
     → TakesTo (call_of ma mh mg mr a b) c piece taken self
-        → ReadsWaiting true (call_of ma mh mg mr b d) (record self { reader = r }) (Ok lends) c3
-        → TakesTo (call_of ma mh mg mr a d) c piece (taken + n) c3
+    → ReadsWaiting true (call_of ma mh mg mr b d) (record self { reader = r }) (Ok lends) c3
+    → TakesTo (call_of ma mh mg mr a d) c piece (taken + n) c3
 turns_on ma mh mg mr a b d c self r c3 piece slice taken n spent true more s fits f t h = absurd h.reads
 turns_on ma mh mg mr a b d c self r c3 piece slice taken n spent false more s fits f t h = record {
   live = h.live;
@@ -242,8 +246,8 @@ turns_on ma mh mg mr a b d c self r c3 piece slice taken n spent false more s fi
   reads = reads_turn (λ (x : Config). says_of ma mh mg x a.agreement a.hosts a.groups)
       (λ (x : Config). says_of ma mh mg x b.agreement b.hosts b.groups)
       (λ (x : Config). kept_weaker ma mh mg _ _ _ _ _ _ _ t.keeps.agreement t.keeps.hosts t.keeps.groups) t.mid self c3
-          r piece taken n spent t.reads.config (turn_taken self.reader r piece slice taken n spent s f) t.reads
-          h.reads.0;
+      r piece taken n spent t.reads.config (turn_taken self.reader r piece slice taken n spent s f) t.reads
+      h.reads.0;
   line = inl (mid_heard _ c piece taken self more t);
   part = h.reads.1;
 } where
@@ -310,10 +314,10 @@ begin_refused p c k piece n spent answer c1 x error a b e f h = piece_refused p 
   fails = subst (λ (y : List ℕ). Fails (p.says c.session.config.now) p.denies p.distrusts
       (AsksTo c.session p.before.calls p.after.calls) (emptied c) y error c1)
       (ap (λ (y : Reader). y.waiting ++ drop n piece) f ∙ append_assoc c.reader.waiting (take n piece) (drop n piece)
-          ∙ ap (λ (y : List ℕ). c.reader.waiting ++ y) (take-append-drop n piece))
+      ∙ ap (λ (y : List ℕ). c.reader.waiting ++ y) (take-append-drop n piece))
       (subst (λ (y : Connection). Fails (p.says c.session.config.now) p.denies p.distrusts
-          (AsksTo c.session p.before.calls p.after.calls) y (k.reader.waiting ++ drop n piece) error c1)
-          (emptied_same c (record c { reader = k.reader }) (c.reader.waiting ++ take n piece) [] spent refl f) t.fails);
+      (AsksTo c.session p.before.calls p.after.calls) y (k.reader.waiting ++ drop n piece) error c1)
+      (emptied_same c (record c { reader = k.reader }) (c.reader.waiting ++ take n piece) [] spent refl f) t.fails);
   wants = λ q. absurd (cc);
   unqueued = λ q. absurd (cc);
 }) where
@@ -323,31 +327,31 @@ begin_refused p c k piece n spent answer c1 x error a b e f h = piece_refused p 
 pub turns_refused : {A H G R : Type 0} (ma : AgreementMembers A) (mh : HostKeysMembers H) (mg : GroupLookupMembers G)
     (mr : rng.Ghosts R) (a b d : Parts A H G R)
     (c self : Connection) (r : Reader) (c3 : Connection) (piece slice : List ℕ) (taken n spent : ℕ)
-        (answer : Result (Unit {0}) Error) (x error : Error) → answer ≡ Err x → x ≡ error → taken < length piece
-        → slice ≡ drop taken piece → r ≡ record self.reader
-        { waiting = self.reader.waiting ++ take n slice; handed = []; spent = spent }
+    (answer : Result (Unit {0}) Error) (x error : Error) → answer ≡ Err x → x ≡ error → taken < length piece
+    → slice ≡ drop taken piece → r ≡ record self.reader
+    { waiting = self.reader.waiting ++ take n slice; handed = []; spent = spent }
     → TakesTo (call_of ma mh mg mr a b) c piece taken self
-        → StopsReading true (call_of ma mh mg mr b d) (record self { reader = r }) error c3
-        → TakesWholePiece (call_of ma mh mg mr a d) c piece answer c3
+    → StopsReading true (call_of ma mh mg mr b d) (record self { reader = r }) error c3
+    → TakesWholePiece (call_of ma mh mg mr a d) c piece answer c3
 turns_refused ma mh mg mr a b d c self r c3 piece slice taken n spent answer x error e g more s f t h = piece_refused _
     c piece answer c3 x error e g (record {
-  begins = h.begins;
-  fixed = ((h.fixed.0.0 ∙ t.fixed.0.0, h.fixed.0.1 ∙ t.fixed.0.1), h.fixed.1 ∙ t.fixed.1);
-  keeps = keeps_join ma mh mg mr a b d t.keeps h.keeps;
-  drawn = first_behind (false ≡ true) c self c3 _ _ _ _ t.drawn t.live (turn_heard _ c piece taken self more t)
-      h.stops.output;
-  fails = fails_read (λ (y : Config). says_of ma mh mg y a.agreement a.hosts a.groups) _ _ _ _ (emptied c) t.mid c3
-      (c.reader.waiting ++ piece) error (λ cause at late asks. asks) t.heard (mid_heard _ c piece taken self more t)
-      (stops_after (λ (y : Config). says_of ma mh mg y a.agreement a.hosts a.groups)
+      begins = h.begins;
+      fixed = ((h.fixed.0.0 ∙ t.fixed.0.0, h.fixed.0.1 ∙ t.fixed.0.1), h.fixed.1 ∙ t.fixed.1);
+      keeps = keeps_join ma mh mg mr a b d t.keeps h.keeps;
+      drawn = first_behind (false ≡ true) c self c3 _ _ _ _ t.drawn t.live (turn_heard _ c piece taken self more t)
+          h.stops.output;
+      fails = fails_read (λ (y : Config). says_of ma mh mg y a.agreement a.hosts a.groups) _ _ _ _ (emptied c) t.mid c3
+          (c.reader.waiting ++ piece) error (λ cause at late asks. asks) t.heard (mid_heard _ c piece taken self more t)
+          (stops_after (λ (y : Config). says_of ma mh mg y a.agreement a.hosts a.groups)
           (λ (y : Config). says_of ma mh mg y b.agreement b.hosts b.groups) _ _ _ _
-      (λ (y : Config). kept_denying ma mh mg y a.agreement b.agreement d.agreement a.hosts b.hosts d.hosts a.groups
+          (λ (y : Config). kept_denying ma mh mg y a.agreement b.agreement d.agreement a.hosts b.hosts d.hosts a.groups
           b.groups d.groups t.keeps.agreement t.keeps.hosts t.keeps.groups)
-      (λ (y : ServerHost) u. kept_untrusting mh a.hosts b.hosts d.hosts y t.keeps.hosts u)
-      _ _ t.mid (with_more self (drop taken piece)) c3 error
+          (λ (y : ServerHost) u. kept_untrusting mh a.hosts b.hosts d.hosts y t.keeps.hosts u)
+          _ _ t.mid (with_more self (drop taken piece)) c3 error
           (to_later c.session self.session _ _ _ t.fixed.0.0 t.serves.asks) t.reads.config t.reads
-      (stops_turn (λ (y : Config). says_of ma mh mg y b.agreement b.hosts b.groups) _ _ _ self
+          (stops_turn (λ (y : Config). says_of ma mh mg y b.agreement b.hosts b.groups) _ _ _ self
           (record self { reader = r }) c3 piece taken n spent error refl
           (turn_taken self.reader r piece slice taken n spent s f) h.stops));
-  wants = λ q. absurd (cc);
-  unqueued = λ q. absurd (cc);
-})
+      wants = λ q. absurd (cc);
+      unqueued = λ q. absurd (cc);
+    })

@@ -67,27 +67,35 @@ stops_polling says denies untrusted asked c c1 c2 s' read Delivers error live t 
     let same : c2.session ≡ c.session = ap (λ (x : Connection). x.session) u.rest ∙ t.still refl in
     let w = due (none_held c c2.session live same) in
     stops_memory says denies untrusted asked c (record c2 { session = s' }) error m
-        (w.still.output ∙ ap (λ (x : Session). x.writer.output) same)
-        (ap (λ (x : Connection). x.delivered.items) u.rest ∙ items_of c1 c t.delivered)
-        (w.still.records ∙ ap (λ (x : Session). x.finished.items) same) (b (t.still refl))
+    (w.still.output ∙ ap (λ (x : Session). x.writer.output) same)
+    (ap (λ (x : Connection). x.delivered.items) u.rest ∙ items_of c1 c t.delivered)
+    (w.still.records ∙ ap (λ (x : Session). x.finished.items) same) (b (t.still refl))
 stops_polling says denies untrusted asked c c1 c2 s' read Done error live t fixed line u e g due m a b = stops_wanting
     says denies untrusted asked c c1 c2 s' read Done error live (took_nothing says c c1 Done t refl) fixed line u e g m
     a
-stops_polling says denies untrusted asked c c1 c2 s' read (Rekeys opening again) error live t fixed line u e g due m a b
-    = stops_wanting says denies untrusted asked c c1 c2 s' read (Rekeys opening again) error live
-    (took_nothing says c c1 (Rekeys opening again) t refl) fixed line u e g m a
+stops_polling says denies untrusted asked c c1 c2 s' read (Rekeys again) error live t fixed line u e g due m a b
+    = stops_wanting says denies untrusted asked c c1 c2 s' read (Rekeys again) error live
+    (took_nothing says c c1 (Rekeys again) t refl) fixed line u e g m a
 
 wants_here : (says : Says) (c : Connection) → IsCostly c.session.config.now
     (state_at c.session (reading_spot c) c.reader.count) c.reader.waiting → Wants says c
-wants_here says c h = record { events = []; at = state_at c.session (reading_spot c) c.reader.count; steps = refl;
-    silent = tt; unlent = refl; left = c.reader.waiting; bytes = refl; at_cost = inr h }
+wants_here says c h = record {
+  events = [];
+  at = state_at c.session (reading_spot c) c.reader.count;
+  steps = refl;
+  silent = tt;
+  unlent = refl;
+  left = c.reader.waiting;
+  bytes = refl;
+  at_cost = inr h;
+}
 
 -- the count that reaches the limit is that behind the packet
 count_reached : (limit : ℕ) (answer : Disposition) (n m k : ℕ) → k ≡ count_up answer m → n < limit → limit ≤ k
     → limit ≤ m
 count_reached limit Delivers n m k e b r = omega (arith, e, r)
 count_reached limit Done n m k e b r = omega (arith, e, r)
-count_reached limit (Rekeys opening again) n m k e b r = absurd (omega (arith, e, b, r))
+count_reached limit (Rekeys again) n m k e b r = absurd (omega (arith, e, b, r))
 
 pub wants_polling : (says : Says) (c c1 c2 : Connection) (s' : Session) (read : ℕ) (answer : Disposition) → IsLive c
     → HandlesOne says c answer c1 → TakesUp answer c1 c2 → read ≡ c2.reader.count
@@ -101,7 +109,7 @@ wants_polling says c c1 c2 s' read answer live t u e due = by (is_kex_type (type
         let same : c2.session ≡ c.session = ap (λ (x : Connection). x.session) u.rest ∙ f in
         let w = due (none_held c c2.session live same) in
         let out : stands_of c.session.finished.items c.session.kex ≡ Outside = sym
-            (ap (λ (x : Session). stands_of x.finished.items x.kex) same) ∙ w.outside in
+        (ap (λ (x : Session). stands_of x.finished.items x.kex) same) ∙ w.outside in
         let quiet = live.settled (reading_spot c) in
         record {
           item = t.item;
@@ -118,14 +126,14 @@ wants_polling says c c1 c2 s' read answer live t u e due = by (is_kex_type (type
             → c.session.config.now.limits.rekey_read_limit ≤ count_after c.reader.count (length t.item.payload)
         reached same out below_write below_read (inl h) =
             let l : c.session.config.now.limits.rekey_write_limit ≤ c.session.writer.count = subst
-                (λ (x : Session). x.config.now.limits.rekey_write_limit ≤ x.writer.count) same h in
+            (λ (x : Session). x.config.now.limits.rekey_write_limit ≤ x.writer.count) same h in
             absurd (omega (arith, l, below_write))
         reached same out below_write below_read (inr h) =
             let l : c.session.config.now.limits.rekey_read_limit ≤ read = subst
-                (λ (x : Session). x.config.now.limits.rekey_read_limit ≤ read) same h in
+            (λ (x : Session). x.config.now.limits.rekey_read_limit ≤ read) same h in
             subst (λ (n : ℕ). c.session.config.now.limits.rekey_read_limit ≤ n) t.count
-                (count_reached c.session.config.now.limits.rekey_read_limit answer c.reader.count c1.reader.count read
-                (e ∙ u.count) below_read l)
+            (count_reached c.session.config.now.limits.rekey_read_limit answer c.reader.count c1.reader.count read
+            (e ∙ u.count) below_read l)
 
     by : (kex : Bool) → is_kex_type (type_of t.item) ≡ kex → Wants says c
     by true k = wants_here says c (record { item = t.item; rest = c1.reader.waiting; next = t.front; costs = inl k })
@@ -170,8 +178,13 @@ wants_packet says denies untrusted c result o incoming error key' r' live l e f 
   next = (k.1).front;
   costs = inl (costly_refused says denies untrusted c.session.side c.session.config.now
       (state_at c.session (reading_spot c) c.reader.count) k.0 error m
-      (h (reading_spot c) c.reader.count k.0 (record { small = live.numbered; seqn_is = (k.1).seqn; payload_is =
-      (k.1).payload; admissible = (k.1).admissible })));
+      (h (reading_spot c) c.reader.count k.0 (record {
+        small = live.numbered;
+        seqn_is = (k.1).seqn;
+        payload_is =
+            (k.1).payload;
+        admissible = (k.1).admissible;
+      })));
 }) where
   k : LeavesNext c.reader (opening_of c.opening) key' (Ok (Some incoming)) r'
   k = subst (λ (x : Option Incoming). LeavesNext c.reader (opening_of c.opening) key' (Ok x) r') f
@@ -199,9 +212,9 @@ wants_behind says c mid h d k = record {
       (state_at c.session (reading_spot c) c.reader.count) (state_at mid.session (reading_spot mid) mid.reader.count)
       k.at h.steps
       (subst (λ (x : Side). Steps says x c.session.config.now (id_text c.session.config.now.id)
-          (state_at mid.session (reading_spot mid) mid.reader.count) k.events k.at) h.side
+      (state_at mid.session (reading_spot mid) mid.reader.count) k.events k.at) h.side
       (subst (λ (x : Bor Config). Steps says mid.session.side x.now (id_text x.now.id)
-          (state_at mid.session (reading_spot mid) mid.reader.count) k.events k.at) h.config k.steps));
+      (state_at mid.session (reading_spot mid) mid.reader.count) k.events k.at) h.config k.steps));
   silent = silent_more h.events k.events h.silent k.silent;
   unlent = delivered_more h.events k.events ∙ ap (λ (x : List (List ℕ)). x ++ delivered_in k.events)
       (nothing_more c.delivered.items (delivered_in h.events) (sym (items_of mid c d) ∙ h.delivered)) ∙ k.unlent;
@@ -209,18 +222,27 @@ wants_behind says c mid h d k = record {
   bytes = h.bytes ∙ ap (λ (t : List ℕ). read_bytes c.session.side (reading_spot c) h.events ++ t)
       (k.bytes ∙ ap (λ (x : Side). read_bytes x (reading_spot mid) k.events ++ k.left) h.side)
       ∙ sym (append_assoc (read_bytes c.session.side (reading_spot c) h.events)
-          (read_bytes c.session.side (reading_spot mid) k.events) k.left)
+      (read_bytes c.session.side (reading_spot mid) k.events) k.left)
       ∙ ap (λ (t : List ℕ). t ++ k.left) (sym (read_join says c.session.side c.session.config.now
-          (id_text c.session.config.now.id) h.events k.events (state_at c.session (reading_spot c) c.reader.count)
-          (state_at mid.session (reading_spot mid) mid.reader.count) h.steps));
+      (id_text c.session.config.now.id) h.events k.events (state_at c.session (reading_spot c) c.reader.count)
+      (state_at mid.session (reading_spot mid) mid.reader.count) h.steps));
   at_cost = costs_behind h.events k.events c.session.config.now k.at k.left
       (subst (λ (x : Bor Config). (1 ≤ kex_count (handled k.events)) ⊎ IsCostly x.now k.at k.left) h.config k.at_cost);
 }
 
 wants_weaker : (a b : Says) → Weaker a b → (c : Connection) → Wants a c → Wants b c
-wants_weaker a b w c h = record { events = h.events; at = h.at; steps = steps_weaker a b w c.session.side
-    c.session.config.now (id_text c.session.config.now.id) h.events (state_at c.session (reading_spot c) c.reader.count)
-    h.at h.steps; silent = h.silent; unlent = h.unlent; left = h.left; bytes = h.bytes; at_cost = h.at_cost }
+wants_weaker a b w c h = record {
+  events = h.events;
+  at = h.at;
+  steps = steps_weaker a b w c.session.side
+      c.session.config.now (id_text c.session.config.now.id) h.events (state_at c.session (reading_spot c) c.reader.count)
+      h.at h.steps;
+  silent = h.silent;
+  unlent = h.unlent;
+  left = h.left;
+  bytes = h.bytes;
+  at_cost = h.at_cost;
+}
 
 pub wants_after : (says later : Config → Says) → ((x : Config) → Weaker (later x) (says x)) → (c mid : Connection)
     → mid.session.config ≡ c.session.config → Reads (says c.session.config.now) c mid → mid.delivered ≡ c.delivered
@@ -274,13 +296,13 @@ wants_heard says c mid h i d k = record {
     heard = kept_line c.session.side c.session.line [] c.reader.waiting [] (h.events ++ k.events) mid.session.line
         mid.reader.waiting
         (subst (λ (b : List ℕ). ReadsLineFrom c.session.side c.session.line [] b (h.events ++ k.events) mid.session.line
-            mid.reader.waiting) (sym (append-nil c.reader.waiting))
-            (line_more c.session.side c.session.line [] c.reader.waiting h.events k.events mid.session.line
-            mid.reader.waiting k.silent (inl i) h.line));
+        mid.reader.waiting) (sym (append-nil c.reader.waiting))
+        (line_more c.session.side c.session.line [] c.reader.waiting h.events k.events mid.session.line
+        mid.reader.waiting k.silent (inl i) h.line));
     read = k.bytes ∙ ap (λ (x : Side). read_bytes x (reading_spot mid) k.events ++ k.left) h.side
         ∙ ap (λ (b : List ℕ). b ++ k.left) (sym (read_join says c.session.side c.session.config.now
-            (id_text c.session.config.now.id) h.events k.events (state_at c.session (reading_spot c) c.reader.count)
-            (state_at mid.session (reading_spot mid) mid.reader.count) first
+        (id_text c.session.config.now.id) h.events k.events (state_at c.session (reading_spot c) c.reader.count)
+        (state_at mid.session (reading_spot mid) mid.reader.count) first
         ∙ ap (λ (b : List ℕ). b ++ read_bytes c.session.side (reading_spot mid) k.events) (h.bytes (reading_spot c))));
   };
   unlent = delivered_more h.events k.events ∙ ap (λ (x : List (List ℕ)). x ++ delivered_in k.events)
@@ -300,7 +322,7 @@ wants_heard says c mid h i d k = record {
   moved = subst (λ (x : Side). Steps says x c.session.config.now (id_text c.session.config.now.id)
       (state_at mid.session (reading_spot mid) mid.reader.count) k.events k.at) h.side
       (subst (λ (b : Bor Config). Steps says mid.session.side b.now (id_text b.now.id)
-          (state_at mid.session (reading_spot mid) mid.reader.count) k.events k.at) h.config k.steps)
+      (state_at mid.session (reading_spot mid) mid.reader.count) k.events k.at) h.config k.steps)
 
 pub may_want : (says : Config → Says) (c mid : Connection) → Hears (emptied c) c.reader.waiting mid
     → IsHeard mid.session.line → mid.delivered ≡ c.delivered → Wants (says mid.session.config.now) mid

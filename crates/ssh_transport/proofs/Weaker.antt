@@ -57,35 +57,84 @@ opens_weaker : (a b : Says) → Weaker a b → (side : Side) (kind : Bool) (s : 
     (written : List (List ℕ)) (next : Stage) → OpensBy side kind a s o written next
     → OpensBy side kind b s o written next
 opens_weaker a b w Client true s o written next h = h
-opens_weaker a b w Client false s o written next h = record
-    { local = h.local; public = h.public; starts = record
-    { makes = w.client_makes _ _ _ _ h.starts.makes; short = h.starts.short }; leads = h.leads }
+opens_weaker a b w Client false s o written next h = record {
+  local = h.local;
+  public = h.public;
+  starts = record
+      { makes = w.client_makes _ _ _ _ h.starts.makes; short = h.starts.short };
+  leads = h.leads;
+}
 opens_weaker a b w Server true s o written next h = h
 opens_weaker a b w Server false s o written next h = h
 
 pub takes_weaker : (a b : Says) → Weaker a b → (s : Setting) (stage : Stage) (n : ℕ) (payload : List ℕ)
     (written : List (List ℕ)) (next : Stage) → Takes a s stage n payload written next
     → Takes b s stage n payload written next
-takes_weaker a b w s (Created own) n payload written next h = record
-    { names = h.names; reads = h.reads; exchanges = h.exchanges; offered = w.offers _ h.offered; opens = opens_weaker a
-    b w s.side (is_gex h.names.kex) s (record { names = h.names; own_kexinit = own; peer_kexinit = payload }) written
-    next h.opens }
-takes_weaker a b w s (AwaitsGroup o) n payload written next h = record
-    { group = h.group; local = h.local; public = h.public; payload_is = h.payload_is; canonical = h.canonical; short =
-    h.short; least = h.least; most = h.most; starts = record
-    { makes = w.client_makes _ _ _ _ h.starts.makes; short = h.starts.short }; leads = h.leads }
-takes_weaker a b w s (AwaitsReply o gex local public) n payload written next h = record
-    { host = h.host; value = h.value; signature = h.signature; secret = h.secret; payload_is = h.payload_is; host_short
-    = h.host_short; value_short = h.value_short; signature_short = h.signature_short; agrees = w.reply _ _ _ _ _ _
-    h.agrees; accepts = w.accepts _ _ _ h.accepts; leads = h.leads }
-takes_weaker a b w s (AwaitsRequest o) n payload written next h = record
-    { sizes = h.sizes; group = h.group; payload_is = h.payload_is; finds = w.finds _ _ h.finds; short = h.short; leads =
-    h.leads }
-takes_weaker a b w s (AwaitsValue o gex) n payload written next h = record
-    { value = h.value; own_value = h.own_value; secret = h.secret; signature = h.signature; shown = h.shown; payload_is
-    = h.payload_is; value_short = h.value_short; own_value_short = h.own_value_short; host_short = h.host_short;
-    signature_short = h.signature_short; agrees = w.agrees _ _ _ _ _ h.agrees; makes = w.server_makes _ _ _ _ h.makes;
-    presents = h.presents; signs = w.signs _ _ _ h.signs; leads = h.leads }
+takes_weaker a b w s (Created own) n payload written next h = record {
+  names = h.names;
+  reads = h.reads;
+  exchanges = h.exchanges;
+  offered = w.offers _ h.offered;
+  opens = opens_weaker a
+      b w s.side (is_gex h.names.kex) s (record { names = h.names; own_kexinit = own; peer_kexinit = payload }) written
+      next h.opens;
+}
+takes_weaker a b w s (AwaitsGroup o) n payload written next h = record {
+  group = h.group;
+  local = h.local;
+  public = h.public;
+  payload_is = h.payload_is;
+  canonical = h.canonical;
+  short =
+      h.short;
+  least = h.least;
+  most = h.most;
+  starts = record
+      { makes = w.client_makes _ _ _ _ h.starts.makes; short = h.starts.short };
+  leads = h.leads;
+}
+takes_weaker a b w s (AwaitsReply o gex local public) n payload written next h = record {
+  host = h.host;
+  value = h.value;
+  signature = h.signature;
+  secret = h.secret;
+  payload_is = h.payload_is;
+  host_short
+      = h.host_short;
+  value_short = h.value_short;
+  signature_short = h.signature_short;
+  agrees = w.reply _ _ _ _ _ _
+      h.agrees;
+  accepts = w.accepts _ _ _ h.accepts;
+  leads = h.leads;
+}
+takes_weaker a b w s (AwaitsRequest o) n payload written next h = record {
+  sizes = h.sizes;
+  group = h.group;
+  payload_is = h.payload_is;
+  finds = w.finds _ _ h.finds;
+  short = h.short;
+  leads =
+      h.leads;
+}
+takes_weaker a b w s (AwaitsValue o gex) n payload written next h = record {
+  value = h.value;
+  own_value = h.own_value;
+  secret = h.secret;
+  signature = h.signature;
+  shown = h.shown;
+  payload_is
+      = h.payload_is;
+  value_short = h.value_short;
+  own_value_short = h.own_value_short;
+  host_short = h.host_short;
+  signature_short = h.signature_short;
+  agrees = w.agrees _ _ _ _ _ h.agrees;
+  makes = w.server_makes _ _ _ _ h.makes;
+  presents = h.presents;
+  signs = w.signs _ _ _ h.signs;
+  leads = h.leads;
+}
 takes_weaker a b w s (AwaitsNewkeys exchange made host) n payload written next h = absurd h
 
 trusted_weaker : (a b : Says) → Weaker a b → (host : Option ServerHost) → IfSome host a.trusts → IfSome host b.trusts
@@ -105,18 +154,44 @@ steps_weaker a b w side config own (PayloadSubmitted p ∷ es) st st' h =
     (h.0, h.1, steps_weaker a b w side config own es h.0 st' h.2)
 steps_weaker a b w side config own (AnswerSent i again ∷ es) st st' h =
     (h.0, h.1, steps_weaker a b w side config own es h.0 st' h.2)
-steps_weaker a b w side config own (MessageTaken i ∷ es) st st' h =
-    (h.0, record { stage = h.1.stage; next = h.1.next; answers = h.1.answers; inside = h.1.inside; owes = h.1.owes; kept
-        = h.1.kept; admissible = h.1.admissible; ordered = h.1.ordered; takes = takes_weaker a b w
-        (setting side config own st) h.1.stage _ i.payload h.1.answers h.1.next h.1.takes; becomes = h.1.becomes },
-        steps_weaker a b w side config own es h.0 st' h.2)
+steps_weaker a b w side config own (MessageTaken i ∷ es) st st' h = (
+  h.0,
+  record {
+    stage = h.1.stage;
+    next = h.1.next;
+    answers = h.1.answers;
+    inside = h.1.inside;
+    owes = h.1.owes;
+    kept
+        = h.1.kept;
+    admissible = h.1.admissible;
+    ordered = h.1.ordered;
+    takes = takes_weaker a b w
+        (setting side config own st) h.1.stage _ i.payload h.1.answers h.1.next h.1.takes;
+    becomes = h.1.becomes;
+  },
+  steps_weaker a b w side config own es h.0 st' h.2,
+)
 steps_weaker a b w side config own (GuessDropped i ∷ es) st st' h =
     (h.0, h.1, steps_weaker a b w side config own es h.0 st' h.2)
 steps_weaker a b w side config own (PayloadDelivered i ∷ es) st st' h =
     (h.0, h.1, steps_weaker a b w side config own es h.0 st' h.2)
 steps_weaker a b w side config own (PacketDropped i ∷ es) st st' h =
     (h.0, h.1, steps_weaker a b w side config own es h.0 st' h.2)
-steps_weaker a b w side config own (ExchangeFinished i x ∷ es) st st' h =
-    (h.0, record { exchange = h.1.exchange; host = h.1.host; inside = h.1.inside; owes = h.1.owes; payload_is =
-        h.1.payload_is; trusted = trusted_weaker a b w h.1.host h.1.trusted; admissible = h.1.admissible; ordered =
-        h.1.ordered; becomes = h.1.becomes }, steps_weaker a b w side config own es h.0 st' h.2)
+steps_weaker a b w side config own (ExchangeFinished i x ∷ es) st st' h = (
+  h.0,
+  record {
+    exchange = h.1.exchange;
+    host = h.1.host;
+    inside = h.1.inside;
+    owes = h.1.owes;
+    payload_is =
+        h.1.payload_is;
+    trusted = trusted_weaker a b w h.1.host h.1.trusted;
+    admissible = h.1.admissible;
+    ordered =
+        h.1.ordered;
+    becomes = h.1.becomes;
+  },
+  steps_weaker a b w side config own es h.0 st' h.2,
+)

@@ -9,6 +9,7 @@ use Rattle.ssh_wire.specs.declared.error.Error.TheVariants as errors
 use Rattle.ssh_wire.specs.declared.side.Side.{Side}
 use Rattle.ssh_packet.specs.Reading.{window_length}
 use Rattle.ssh_packet.specs.Stream.{message_type}
+use Rattle.ssh_packet.specs.declared.keys.OpenKey.{OpenKey}
 use Rattle.ssh_packet.specs.declared.reader.Incoming.{Incoming}
 use Rattle.ssh_kex.specs.Refusals.{Denies}
 use Rattle.ssh_kex.specs.Members.{AgreementKept, AgreementMembers, GroupLookupMembers, GroupsKept, HostKeysMembers, HostsKept}
@@ -28,7 +29,7 @@ use Rattle.ssh_rules.specs.Standing.{Rekeyed, Submitted, TakesInput, WaitsInPart
 use Rattle.ssh_rules.specs.Valid.{is_bad_size, is_good_payload}
 use Rattle.ssh_transport.specs.Asking.{AsksTo, PartTally, tally}
 use Rattle.ssh_transport.specs.Drawing.{AtMostNext, DrawsFirst, DrawsFirstOn, GoesNext, OpensDrawn, kexinit_packet, packet_with}
-use Rattle.ssh_transport.specs.Handling.{Handles, IsBegun, IsHeard, IsOpen}
+use Rattle.ssh_transport.specs.Handling.{Handles, IsBegun, IsHeard, IsOpen, KeepsKey, outcome_of}
 use Rattle.ssh_transport.specs.Hearing.{EndsBy}
 use Rattle.ssh_transport.specs.Kept.{IsKept, IsLive}
 use Rattle.ssh_transport.specs.Saying.{IsFixed, IsFixedIn, Stays}
@@ -76,14 +77,15 @@ call_of ma mh mg mr p q = record {
 }
 
 -- a message was taken
-pub record TreatsMessage (p : PartsCall) (s : Session) (i : Incoming) (handled : Disposition) (s' : Session) : Type 0
-    where
+pub record TreatsMessage (p : PartsCall) (s : Session) (i : Incoming) (key : OpenKey) (handled : Disposition)
+    (s' : Session) (key' : OpenKey) : Type 0 where
   pub stays : Stays s s'
   pub keeps : p.keeps
   pub unheard : IsUnheard s'
   pub opened : IsOpen s'
   pub serves : ServesBetween p.draws s s' p.before p.after p.stream p.left
-  pub handles : Handles (p.says s.config.now) s i.seqn i.payload.now handled s'
+  pub handles : Handles (p.says s.config.now) s i.seqn i.payload.now (outcome_of handled key') s'
+  pub key_is : KeepsKey handled key key'
   pub delivers : handled ≡ Delivers → s' ≡ s
   pub others : is_kex (message_type i.payload.now) ≡ false → s' ≡ s
 
@@ -97,11 +99,11 @@ pub record FailsMessage (Leaves : Session → Session → Type 0) (p : PartsCall
   pub refuses : Refuses (p.says s.config.now) p.denies p.distrusts s i.seqn i.payload.now error
   pub leaves : Leaves s s'
 
--- what is done with a message
-abbrev pub Treats : (Leaves : Session → Session → Type 0) → PartsCall → Session → Incoming → Result Disposition Error
-    → Session → Type 0
-Treats Leaves p s i (Ok handled) s' = TreatsMessage p s i handled s'
-Treats Leaves p s i (Err error) s' = FailsMessage Leaves p s i error s'
+-- what is done with a message, with the key of the packets that follow
+abbrev pub Treats : (Leaves : Session → Session → Type 0) → PartsCall → Session → Incoming → OpenKey
+    → Result Disposition Error → Session → OpenKey → Type 0
+Treats Leaves p s i key (Ok handled) s' key' = TreatsMessage p s i key handled s' key'
+Treats Leaves p s i key (Err error) s' key' = FailsMessage Leaves p s i error s'
 
 -- with what a message can be handled
 pub record CanTreat (s : Session) (i : Incoming) : Type 0 where
@@ -138,14 +140,14 @@ pub record OpensPacket (p : PartsCall) (c : Connection) (handled : Disposition) 
 -- A packet was refused, or memory was wanting. Where payloads aren't queued, it was wanting for no more than a call
 -- that lends them may want it for.
 pub record StopsReading (queues : Bool) (p : PartsCall) (c : Connection) (error : Error) (c' : Connection) : Type 0
-    where
-  pub begins : CanBegin c'.session
-  pub fixed : IsFixedIn c c'
-  pub keeps : p.keeps
-  pub stops : Stops (p.says c.session.config.now) p.denies p.distrusts (AsksTo c.session p.before.calls p.after.calls) c
-      error c'
-  pub wants : queues ≡ false → error ≡ errors.Memory → Wants (p.says c.session.config.now) c
-  pub unqueued : queues ≡ false → c'.delivered ≡ c.delivered
+  where
+    pub begins : CanBegin c'.session
+    pub fixed : IsFixedIn c c'
+    pub keeps : p.keeps
+    pub stops : Stops (p.says c.session.config.now) p.denies p.distrusts (AsksTo c.session p.before.calls p.after.calls) c
+        error c'
+    pub wants : queues ≡ false → error ≡ errors.Memory → Wants (p.says c.session.config.now) c
+    pub unqueued : queues ≡ false → c'.delivered ≡ c.delivered
 
 -- what was made of the next packet
 abbrev pub OpensNext : PartsCall → Connection → Result (Option Disposition) Error → Connection → Type 0
@@ -161,15 +163,16 @@ ReadsFor true says c Packet c' = Reads says c c'
 ReadsFor true says c Payload c' = ⊥
 
 -- packets were read, and all that they ask for was done
-pub record ReadSome (queues : Bool) (p : PartsCall) (c : Connection) (read : PacketRead) (c' : Connection) : Type 0 where
-  pub live : IsLive c'
-  pub line : c'.session.line ≡ c.session.line
-  pub fixed : IsFixedIn c c'
-  pub keeps : p.keeps
-  pub serves : ServesBetween p.draws c.session c'.session p.before p.after p.stream p.left
-  pub reads : ReadsFor queues (p.says c.session.config.now) c read c'
-  pub unqueued : queues ≡ false → c'.delivered ≡ c.delivered
-  pub shorter : length c'.reader.waiting ≤ length c.reader.waiting
+pub record ReadSome (queues : Bool) (p : PartsCall) (c : Connection) (read : PacketRead) (c' : Connection) : Type 0
+  where
+    pub live : IsLive c'
+    pub line : c'.session.line ≡ c.session.line
+    pub fixed : IsFixedIn c c'
+    pub keeps : p.keeps
+    pub serves : ServesBetween p.draws c.session c'.session p.before p.after p.stream p.left
+    pub reads : ReadsFor queues (p.says c.session.config.now) c read c'
+    pub unqueued : queues ≡ false → c'.delivered ≡ c.delivered
+    pub shorter : length c'.reader.waiting ≤ length c.reader.waiting
 
 -- of one packet, and of all up to one whose payload is handed up
 abbrev pub HandlesNext : (queues : Bool) → PartsCall → Connection → Result PacketRead Error → Connection → Type 0
@@ -189,12 +192,12 @@ HandsUp true c handled read c' = (read ≡ Packet) × (c' ≡ record c { deliver
 
 -- or memory was wanting to queue it
 pub record KeepsNot (queues : Bool) (c : Connection) (handled : Disposition) (error : Error) (c' : Connection) : Type 0
-    where
-  pub error_is : error ≡ errors.Memory
-  pub queueing : queues ≡ true
-  pub delivering : handled ≡ Delivers
-  pub rest : c' ≡ record c { delivered = c'.delivered }
-  pub still : c'.delivered.items ≡ c.delivered.items
+  where
+    pub error_is : error ≡ errors.Memory
+    pub queueing : queues ≡ true
+    pub delivering : handled ≡ Delivers
+    pub rest : c' ≡ record c { delivered = c'.delivered }
+    pub still : c'.delivered.items ≡ c.delivered.items
 
 -- ---- what a connection takes
 

@@ -80,9 +80,9 @@ BeginsDrawn side config stream wire = (wire ≡ id_line config.id)
 
 -- of both sides of a link
 pub record AreDrawn (client server : Config) (of_client of_server : Stream) (client_wire server_wire : List ℕ) : Type 0
-    where
-  pub from_client : BeginsDrawn Client client of_client client_wire
-  pub from_server : BeginsDrawn Server server of_server server_wire
+  where
+    pub from_client : BeginsDrawn Client client of_client client_wire
+    pub from_server : BeginsDrawn Server server of_server server_wire
 
 -- where it sent its version line alone and wasn't refused, nothing was drawn of the stream that it was given at first
 pub record WaitsUndrawn (config : Config) (first : Stream) (t : Standing) (stream : Stream) : Type 0 where

@@ -8,6 +8,7 @@ use Rattle.ssh_packet.specs.Keys.{opening_of, sealing_of}
 use Rattle.ssh_packet.specs.Sealing.{Item, IsAdmissible, next_number, sealed_packet}
 use Rattle.ssh_packet.specs.Writing.{Writer, count_after}
 use Rattle.ssh_packet.specs.declared.reader.Incoming.{Incoming}
+use Rattle.ssh_packet.specs.declared.keys.OpenKey.{OpenKey}
 use Rattle.ssh_kex.specs.Setting.{Says, Setting}
 use Rattle.ssh_kex.specs.Stages.{Machine, Stage, has_ignored, is_strict, names_in_stage}
 use Rattle.ssh_kex.specs.Stepping.{DropsGuess, IsDone, TakesOne}
@@ -89,26 +90,46 @@ may_deliver_by records Silent = false
 may_deliver_by records Outside = true
 may_deliver_by records (Inside stage) = may_deliver_at records stage
 
+-- what a packet comes to: a payload that is delivered, nothing, or the key of what follows and whether its numbers
+-- begin
+-- again
+pub data Outcome : Type 0 where
+  GivesPayload : Outcome
+  GivesNothing : Outcome
+  GivesKeys : OpenKey → Bool → Outcome
+
+-- by what was done with it, and the key that is left
+abbrev pub outcome_of : Disposition → OpenKey → Outcome
+outcome_of Delivers key = GivesPayload
+outcome_of Done key = GivesNothing
+outcome_of (Rekeys again) key = GivesKeys key again
+
+-- the key stays, unless the packet ended an exchange
+abbrev pub KeepsKey : Disposition → OpenKey → OpenKey → Type 0
+KeepsKey Delivers key key' = key' ≡ key
+KeepsKey Done key key' = key' ≡ key
+KeepsKey (Rekeys again) key key' = Unit {0}
+
 -- where the next packet is read
-abbrev pub spot_behind : Disposition → Spot → Item → Spot
-spot_behind Delivers at i = spot_after at i
-spot_behind Done at i = spot_after at i
-spot_behind (Rekeys opening again) at i =
+abbrev pub spot_behind : Outcome → Spot → Item → Spot
+spot_behind GivesPayload at i = spot_after at i
+spot_behind GivesNothing at i = spot_after at i
+spot_behind (GivesKeys opening again) at i =
     spot_renumbered again (record { sealing = opening_of opening; number = next_number at.number })
 
 -- how many bytes were read then
-abbrev pub read_behind : Disposition → ℕ → Item → ℕ
-read_behind Delivers read i = count_after read (length i.payload)
-read_behind Done read i = count_after read (length i.payload)
-read_behind (Rekeys opening again) read i = 0
+abbrev pub read_behind : Outcome → ℕ → Item → ℕ
+read_behind GivesPayload read i = count_after read (length i.payload)
+read_behind GivesNothing read i = count_after read (length i.payload)
+read_behind (GivesKeys opening again) read i = 0
 
-abbrev pub delivered_by : Disposition → Item → List (List ℕ)
-delivered_by Delivers i = i.payload ∷ []
-delivered_by Done i = []
-delivered_by (Rekeys opening again) i = []
+abbrev pub delivered_by : Outcome → Item → List (List ℕ)
+delivered_by GivesPayload i = i.payload ∷ []
+delivered_by GivesNothing i = []
+delivered_by (GivesKeys opening again) i = []
 
 -- the events of one packet
-pub record DoesWith (says : Says) (s : Session) (at : Spot) (read : ℕ) (i : Item) (answer : Disposition) (s' : Session)
+pub record DoesWith (says : Says) (s : Session) (at : Spot) (read : ℕ) (i : Item) (answer : Outcome) (s' : Session)
     : Type 0 where
   pub events : List Event
   pub steps : Steps says s.side s.config.now (id_text s.config.now.id) (state_at s at read) events
@@ -118,22 +139,22 @@ pub record DoesWith (says : Says) (s : Session) (at : Spot) (read : ℕ) (i : It
   pub bytes : read_bytes s.side at events ≡ sealed_packet at.sealing at.number i
   pub delivered : delivered_in events ≡ delivered_by answer i
   -- a payload is handed up, and no more
-  pub alone : answer ≡ Delivers → events ≡ PayloadDelivered i ∷ []
+  pub alone : answer ≡ GivesPayload → events ≡ PayloadDelivered i ∷ []
   pub input : IsInput events
   pub silent : HearsNone events
 
 -- one packet was handled, wherever it was read
-abbrev pub Handles : Says → Session → ℕ → List ℕ → Disposition → Session → Type 0
+abbrev pub Handles : Says → Session → ℕ → List ℕ → Outcome → Session → Type 0
 Handles says s seqn payload answer s' = (at : Spot) (read : ℕ) (i : Item) → IsReadAt at seqn payload i
     → IsSettled s read → DoesWith says s at read i answer s'
 
 -- ---- what the machine does with it
 
 -- the keys of an exchange were taken up
-abbrev pub Installs : Session → NewKeys → Disposition → Session → Type 0
-Installs s k Delivers s' = ⊥
-Installs s k Done s' = ⊥
-Installs s k (Rekeys opening again) s' = (opening ≡ k.cipher.value.remote_to_local) × (again ≡ k.names.strict_kex)
+abbrev pub Installs : Session → NewKeys → Outcome → Session → Type 0
+Installs s k GivesPayload s' = ⊥
+Installs s k GivesNothing s' = ⊥
+Installs s k (GivesKeys opening again) s' = (opening ≡ k.cipher.value.remote_to_local) × (again ≡ k.names.strict_kex)
     × (s'.finished.items ≡ s.finished.items
     ++ record { names = k.names; hash = k.hash; session_id = k.session_id; keys = k.keys } ∷ [])
     × (s' ≡ record s {
@@ -148,25 +169,27 @@ pub record Awaits (says : Says) (s : Session) (m : Machine) (i : Incoming) (s' :
   pub reset : Bool
   pub written : Writer
   pub does : DropsGuess m s.writer next reset written ⊎ TakesOne says m i s.writer next reset written
-  pub writer_is : s'.writer ≡ record written { number = (spot_renumbered reset
-      (record { sealing = written.sealing; number = written.number })).number }
+  pub writer_is : s'.writer ≡ record written {
+    number = (spot_renumbered reset
+        (record { sealing = written.sealing; number = written.number })).number;
+  }
   pub becomes : s' ≡ record s { writer = s'.writer; kex = InProgress next }
 
 -- the machine is at its end
-pub record Ended (says : Says) (s : Session) (m : Machine) (i : Incoming) (answer : Disposition) (s' : Session) : Type 0
-    where
-  pub host : Option ServerHost
-  pub newkeys : NewKeys
-  pub written : Writer
-  pub done : IsDone m i s.writer host newkeys written
-  pub trusted : IfSome host says.trusts
-  pub installs : Installs (record s { writer = written }) newkeys answer s'
+pub record Ended (says : Says) (s : Session) (m : Machine) (i : Incoming) (answer : Outcome) (s' : Session) : Type 0
+  where
+    pub host : Option ServerHost
+    pub newkeys : NewKeys
+    pub written : Writer
+    pub done : IsDone m i s.writer host newkeys written
+    pub trusted : IfSome host says.trusts
+    pub installs : Installs (record s { writer = written }) newkeys answer s'
 
 -- a message was handed to the machine
-abbrev pub Moves : Says → Session → Machine → Incoming → Disposition → Session → Type 0
-Moves says s m i Delivers s' = ⊥
-Moves says s m i Done s' = Awaits says s m i s'
-Moves says s m i (Rekeys opening again) s' = Ended says s m i (Rekeys opening again) s'
+abbrev pub Moves : Says → Session → Machine → Incoming → Outcome → Session → Type 0
+Moves says s m i GivesPayload s' = ⊥
+Moves says s m i GivesNothing s' = Awaits says s m i s'
+Moves says s m i (GivesKeys opening again) s' = Ended says s m i (GivesKeys opening again) s'
 
 -- the machine that a message is for: that of the open exchange, or outside one that of an exchange begun for it
 abbrev pub IsFor : Session → Machine → Session → Type 0

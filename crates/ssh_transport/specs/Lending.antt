@@ -32,7 +32,7 @@ IsRefusedWith {A} (Err e) error = e.now ≡ error
 -- often before and so often behind it, and its generator was at one stream and then at the other.
 pub record PollsAs (says : Says) (denies : Denies) (untrusted : ServerHost → Type 0) (n n' : PartTally)
     (Made : Side → Stream → Stream → Type 0) (stream stream' : Stream) (old : Standing)
-        (result : Result (Option (Bor (List ℕ))) (Bor Error)) (new : Standing) : Type 0 where
+    (result : Result (Option (Bor (List ℕ))) (Bor Error)) (new : Standing) : Type 0 where
   pub dead : old.failed ≡ true → IsRefusedWith result Disconnect × (new ≡ old)
   pub stays : (new.side ≡ old.side) × (new.config ≡ old.config)
   pub lives : old.failed ≡ false → OnOk result (new.failed ≡ false)

@@ -5,6 +5,7 @@ use Rattle.ssh_wire.specs.declared.error.Error.{Error}
 use Rattle.ssh_wire.specs.declared.error.Error.TheVariants as errors
 use Rattle.ssh_packet.specs.Sealing.{Item}
 use Rattle.ssh_packet.specs.Writing.{SameButRoom, Writer}
+use Rattle.ssh_packet.specs.declared.keys.OpenKey.{OpenKey}
 use Rattle.ssh_packet.specs.declared.reader.Incoming.{Incoming}
 use Rattle.ssh_kex.specs.Drawing.{StepDraws}
 use Rattle.ssh_kex.specs.Members.{HostKeysMembers, HostsKept}
@@ -21,7 +22,7 @@ use Rattle.ssh_rules.specs.Standing.{is_outside}
 use Rattle.ssh_transport.specs.Asking.{StepAnswers, StepCalls, asks_trust}
 use Rattle.ssh_transport.specs.Calls.{PartsCall}
 use Rattle.ssh_transport.specs.Drawing.{AtMostNext, GoesNext, OpensDrawn, packet_with, writing_at}
-use Rattle.ssh_transport.specs.Handling.{Installs, IsFor, IsOpen, Moves}
+use Rattle.ssh_transport.specs.Handling.{Installs, IsFor, IsOpen, KeepsKey, Moves, outcome_of}
 use Rattle.ssh_transport.specs.Hearing.{EndsBy, HearsLine}
 use Rattle.ssh_transport.specs.Kexinits.{SendsKexinit}
 use Rattle.ssh_transport.specs.Saying.{Begins, GoesOn, GoesPart, IsFixed, IsSettled, IsUnsaid, Opens, Stays}
@@ -59,14 +60,14 @@ pub record StepsMachine (p : PartsCall) (m : Machine) (i : Incoming) (w : Writer
 -- The KEXINIT of the exchange that is due was sent, and its machine handed out. If memory was wanting, nothing was
 -- sent.
 pub record OpensExchange (s : Session) (stream left : Stream) (result : Result Machine Error) (s' : Session) : Type 0
-    where
-  pub opens : IfOk result (λ m. Opens s m s')
-  pub drawn : OnOk result (OpensWith s s' stream left)
-  pub begins : CanBegin s'
-  pub line : s'.line ≡ s.line
-  pub unsaid : OnErr result (IsUnsaid s s')
-  pub err : IfErr result (λ e. e ≡ errors.Memory)
-  pub fixed : IsFixed s s'
+  where
+    pub opens : IfOk result (λ m. Opens s m s')
+    pub drawn : OnOk result (OpensWith s s' stream left)
+    pub begins : CanBegin s'
+    pub line : s'.line ≡ s.line
+    pub unsaid : OnErr result (IsUnsaid s s')
+    pub err : IfErr result (λ e. e ≡ errors.Memory)
+    pub fixed : IsFixed s s'
 
 -- The machine is kept.
 pub record StartsExchange (s : Session) (stream left : Stream) (result : Result (Unit {0}) Error) (s' : Session) : Type
@@ -93,14 +94,15 @@ pub record TakesMachine (s : Session) (type : ℕ) (stream left : Stream) (resul
 -- ---- an exchange goes on and ends
 
 -- A message was handed to this machine.
-pub record StepsExchange (p : PartsCall) (s : Session) (m : Machine) (i : Incoming) (result : Result Disposition Error)
-    (s' : Session) : Type 0 where
+pub record StepsExchange (p : PartsCall) (s : Session) (m : Machine) (i : Incoming) (key : OpenKey)
+    (result : Result Disposition Error) (s' : Session) (key' : OpenKey) : Type 0 where
   pub stays : Stays s s'
   pub unheard : OnOk result (IsUnheard s')
   pub keeps : p.keeps
   pub asks : OnOk result (MoveServes p.draws m s s' p.before p.after p.stream p.left)
   pub asked : OnErr result (AsksForMessage m.setting.side (Inside m.stage) p.before.calls p.after.calls)
-  pub moves : IfOk result (λ h. Moves (p.says m.setting.config) s m i h s')
+  pub moves : IfOk result (λ h. Moves (p.says m.setting.config) s m i (outcome_of h key') s')
+  pub key_is : IfOk result (λ h. KeepsKey h key key')
   pub refuses : IfErr result (λ e. RefusesMove (p.says m.setting.config) p.denies p.distrusts m i e)
   pub appends : OnErr result (Appends s s')
 
@@ -115,25 +117,25 @@ pub record TrustsHost {H : Type 0} (mh : HostKeysMembers H) (hosts hosts' : H) (
       × IsDistrusted (untrusted_of mh hosts hosts') host))
 
 -- The exchange is recorded, and its keys are taken up.
-pub record RecordsExchange (s : Session) (newkeys : NewKeys) (result : Result Disposition Error) (s' : Session) : Type 0
-    where
+pub record RecordsExchange (s : Session) (newkeys : NewKeys) (result : Result Disposition Error) (s' : Session)
+    (key' : OpenKey) : Type 0 where
   pub stays : Stays s s'
   pub unheard : OnOk result (IsUnheard s')
-  pub installs : IfOk result (λ h. Installs s newkeys h s')
+  pub installs : IfOk result (λ h. Installs s newkeys (outcome_of h key') s')
   pub err : IfErr result (λ e. e ≡ errors.Memory)
   pub rests : OnErr result (IsAsBefore s s')
 
 -- Its host was asked for before.
 pub record EndsExchange {H : Type 0} (mh : HostKeysMembers H) (hosts hosts' : H) (s : Session)
     (host : Option ServerHost)
-    (newkeys : NewKeys) (result : Result Disposition Error) (s' : Session) : Type 0 where
+    (newkeys : NewKeys) (result : Result Disposition Error) (s' : Session) (key' : OpenKey) : Type 0 where
   pub stays : Stays s s'
   pub unheard : OnOk result (IsUnheard s')
   pub keeps : HostsKept mh hosts hosts'
   pub calls : mh.calls hosts' ≤ mh.calls hosts + asks_trust host
   pub answers : OnOk result (Answers mh.answered (asks_trust host) hosts hosts')
   pub trusted : OnOk result (IfSome host (λ h. mh.trusts hosts h ≡ true))
-  pub installs : IfOk result (λ h. Installs s newkeys h s')
+  pub installs : IfOk result (λ h. Installs s newkeys (outcome_of h key') s')
   pub refused : IfErr result (λ e. (e ≡ errors.Memory) ⊎ ((e ≡ errors.UnknownKey)
       × IsDistrusted (untrusted_of mh hosts hosts') host))
   pub rests : OnErr result (IsAsBefore s s')

@@ -65,7 +65,7 @@ pub record Stops (says : Says) (denies : Denies) (untrusted : ServerHost → Typ
       (state_at c.session (reading_spot c) c.reader.count) events state
   pub output : c'.session.writer.output ≡ c.session.writer.output
       ++ sent_bytes c.session.side (record { sealing = c.session.writer.sealing; number = c.session.writer.number })
-          events
+      events
   pub delivered : c'.delivered.items ≡ c.delivered.items ++ delivered_in events
   pub records : c'.session.finished.items ≡ state.records
   pub input : IsInput events
@@ -89,7 +89,7 @@ pub record Fails (says : Says) (denies : Denies) (untrusted : ServerHost → Typ
       (state_at c.session (reading_spot c) c.reader.count) events state
   pub output : c'.session.writer.output ≡ c.session.writer.output
       ++ sent_bytes c.session.side (record { sealing = c.session.writer.sealing; number = c.session.writer.number })
-          events
+      events
   pub delivered : c'.delivered.items ≡ c.delivered.items ++ delivered_in events
   pub records : c'.session.finished.items ≡ state.records
   pub input : IsInput events
@@ -139,9 +139,9 @@ abbrev pub BreaksAt : Session → ℕ → ℕ → Error → Type 0
 BreaksAt s seqn type error = (number : ℕ) → number < 2 ^ 32 → seqn ≡ next_number number
     → (is_ordered s.finished.items (names_now (stands_of s.finished.items s.kex)) ≡ true)
     × (is_violation (other_side s.side) type (number - (if counts_guess (names_now (stands_of s.finished.items s.kex))
-        then 1 else 0)) ≡ true)
+    then 1 else 0)) ≡ true)
     × (error ≡ errors.StrictKeyExchangeViolation type (number -
-        (if counts_guess (names_now (stands_of s.finished.items s.kex)) then 1 else 0)))
+    (if counts_guess (names_now (stands_of s.finished.items s.kex)) then 1 else 0)))
 
 -- a host is there, and isn't trusted
 abbrev pub IsDistrusted : (ServerHost → Type 0) → Option ServerHost → Type 0

@@ -3,14 +3,14 @@ use Rattle.std.specs.Prelude.{◌≡◌, ◌⊎◌, ℕ, ◌<◌, Bool, true, fa
 use Rattle.ssh_wire.specs.Lines.{id_text}
 use Rattle.ssh_packet.specs.Front.{Whole, front_of}
 use Rattle.ssh_packet.specs.Keys.{opening_of}
-use Rattle.ssh_packet.specs.Sealing.{Item, moved_on, next_number, sealed_packet}
+use Rattle.ssh_packet.specs.Sealing.{Item, Sealing, moved_on, next_number, sealed_packet}
 use Rattle.ssh_packet.specs.Writing.{count_after}
 use Rattle.ssh_kex.specs.Setting.{Says}
 use Rattle.ssh_rules.specs.Log.{delivered_in, handled, read_bytes, sent_bytes}
 use Rattle.ssh_rules.specs.Machine.{Event, Spot, Steps, spot_renumbered}
 use Rattle.ssh_rules.specs.MessageTypes.{is_kex_type, type_of}
 use Rattle.ssh_rules.specs.Standing.{HearsNone, IsInput, ReadsLineFrom, WaitsInPart, nothing_said}
-use Rattle.ssh_transport.specs.Handling.{Handles, IsHeard, IsReadAt, delivered_by}
+use Rattle.ssh_transport.specs.Handling.{Handles, IsHeard, IsReadAt, delivered_by, outcome_of}
 use Rattle.ssh_transport.specs.States.{emptied, reading_spot, state_at}
 use Rattle.ssh_transport.specs.declared.connection.Connection.{Connection}
 use Rattle.ssh_transport.specs.declared.connection.PacketRead.{PacketRead}
@@ -25,10 +25,10 @@ pub record Goes (says : Says) (c : Connection) (events : List Event) (c' : Conne
   pub line : c'.session.line ≡ c.session.line
   pub steps : Steps says c.session.side c.session.config.now (id_text c.session.config.now.id)
       (state_at c.session (reading_spot c) c.reader.count) events
-          (state_at c'.session (reading_spot c') c'.reader.count)
+      (state_at c'.session (reading_spot c') c'.reader.count)
   pub output : c'.session.writer.output ≡ c.session.writer.output
       ++ sent_bytes c.session.side (record { sealing = c.session.writer.sealing; number = c.session.writer.number })
-          events
+      events
   pub bytes : c.reader.waiting ≡ read_bytes c.session.side (reading_spot c) events ++ c'.reader.waiting
   pub input : IsInput events
   pub silent : HearsNone events
@@ -41,25 +41,31 @@ pub record Reads (says : Says) (c c' : Connection) : Type 0 where
   pub line : c'.session.line ≡ c.session.line
   pub steps : Steps says c.session.side c.session.config.now (id_text c.session.config.now.id)
       (state_at c.session (reading_spot c) c.reader.count) events
-          (state_at c'.session (reading_spot c') c'.reader.count)
+      (state_at c'.session (reading_spot c') c'.reader.count)
   pub output : c'.session.writer.output ≡ c.session.writer.output
       ++ sent_bytes c.session.side (record { sealing = c.session.writer.sealing; number = c.session.writer.number })
-          events
+      events
   pub bytes : c.reader.waiting ≡ read_bytes c.session.side (reading_spot c) events ++ c'.reader.waiting
   pub delivered : c'.delivered.items ≡ c.delivered.items ++ delivered_in events
   pub input : IsInput events
   pub silent : HearsNone events
 
--- A packet was opened, and done with what it asks for by itself: its payload is lent. The keys of an exchange that it
--- ends aren't taken up yet.
+-- the key's state moved over a packet, unless that brought another key
+abbrev pub MovesKey : Disposition → Sealing → Item → Sealing → Type 0
+MovesKey Delivers old item new = new ≡ moved_on old item
+MovesKey Done old item new = new ≡ moved_on old item
+MovesKey (Rekeys again) old item new = Unit {0}
+
+-- A packet was opened, and done with what it asks for by itself: its payload is lent. If it ended an exchange, what
+-- follows is opened with another key, and the counts aren't begun anew yet.
 pub record HandlesOne (says : Says) (c : Connection) (answer : Disposition) (c' : Connection) : Type 0 where
   pub seqn : ℕ
   pub item : Item
   pub at : IsReadAt (reading_spot c) seqn item.payload item
-  pub handles : Handles says c.session seqn item.payload answer c'.session
+  pub handles : Handles says c.session seqn item.payload (outcome_of answer c'.opening) c'.session
   pub number : c'.reader.number ≡ next_number c.reader.number
   pub count : c'.reader.count ≡ count_after c.reader.count (length item.payload)
-  pub sealing : opening_of c'.opening ≡ moved_on (opening_of c.opening) item
+  pub sealing : MovesKey answer (opening_of c.opening) item (opening_of c'.opening)
   pub front : front_of (opening_of c.opening) c.reader.number c.reader.waiting ≡ Whole item c'.reader.waiting
   pub bytes : c.reader.waiting ≡ sealed_packet (opening_of c.opening) c.reader.number item ++ c'.reader.waiting
   pub shorter : length c'.reader.waiting < length c.reader.waiting
@@ -75,34 +81,34 @@ pub record Took (says : Says) (c : Connection) (answer : Disposition) (c' : Conn
   pub seqn : ℕ
   pub item : Item
   pub at : IsReadAt (reading_spot c) seqn item.payload item
-  pub handles : Handles says c.session seqn item.payload answer c'.session
+  pub handles : Handles says c.session seqn item.payload (outcome_of answer c'.opening) c'.session
   pub number : c'.reader.number ≡ next_number c.reader.number
   pub count : c'.reader.count ≡ count_after c.reader.count (length item.payload)
-  pub sealing : opening_of c'.opening ≡ moved_on (opening_of c.opening) item
+  pub sealing : MovesKey answer (opening_of c.opening) item (opening_of c'.opening)
   pub bytes : c.reader.waiting ≡ sealed_packet (opening_of c.opening) c.reader.number item ++ c'.reader.waiting
   pub shorter : length c'.reader.waiting < length c.reader.waiting
   pub unbroken : c'.reader.failed ≡ false
   pub window : c'.reader.window ≡ c.reader.window
-  pub delivered : c'.delivered.items ≡ c.delivered.items ++ delivered_by answer item
+  pub delivered : c'.delivered.items ≡ c.delivered.items ++ delivered_by (outcome_of answer c'.opening) item
 
 -- a payload that is delivered is kept
 abbrev pub kept_by : Disposition → List ℕ → List (List ℕ)
 kept_by Delivers payload = payload ∷ []
 kept_by Done payload = []
-kept_by (Rekeys opening again) payload = []
+kept_by (Rekeys again) payload = []
 
--- the next packet's spot, once the keys of an ended exchange are taken up
+-- the next packet's spot, once an ended exchange is taken up
 abbrev pub spot_up : Disposition → Spot → Spot
 spot_up Delivers at = at
 spot_up Done at = at
-spot_up (Rekeys opening again) at = spot_renumbered again (record at { sealing = opening_of opening })
+spot_up (Rekeys again) at = spot_renumbered again at
 
 abbrev pub count_up : Disposition → ℕ → ℕ
 count_up Delivers n = n
 count_up Done n = n
-count_up (Rekeys opening again) n = 0
+count_up (Rekeys again) n = 0
 
--- the keys of an ended exchange were taken up
+-- the counts of what is read were begun anew after an ended exchange
 pub record TakesUp (answer : Disposition) (c c' : Connection) : Type 0 where
   pub reading : reading_spot c' ≡ spot_up answer (reading_spot c)
   pub count : c'.reader.count ≡ count_up answer c.reader.count
@@ -110,7 +116,7 @@ pub record TakesUp (answer : Disposition) (c c' : Connection) : Type 0 where
   pub failed : c'.reader.failed ≡ c.reader.failed
   pub window : c'.reader.window ≡ c.reader.window
   pub still : answer ≡ Delivers → c' ≡ c
-  pub rest : c' ≡ record c { opening = c'.opening; reader = c'.reader }
+  pub rest : c' ≡ record c { reader = c'.reader }
 
 -- A piece of the peer's version line was heard, and what it begins was done; what stands behind the line waits.
 pub record Hears (c : Connection) (piece : List ℕ) (c' : Connection) : Type 0 where
@@ -119,10 +125,10 @@ pub record Hears (c : Connection) (piece : List ℕ) (c' : Connection) : Type 0 
   pub config : c'.session.config ≡ c.session.config
   pub steps : Steps nothing_said c.session.side c.session.config.now (id_text c.session.config.now.id)
       (state_at c.session (reading_spot c) c.reader.count) events
-          (state_at c'.session (reading_spot c') c'.reader.count)
+      (state_at c'.session (reading_spot c') c'.reader.count)
   pub output : c'.session.writer.output ≡ c.session.writer.output
       ++ sent_bytes c.session.side (record { sealing = c.session.writer.sealing; number = c.session.writer.number })
-          events
+      events
   pub unread : handled events ≡ []
   pub bytes : (at : Spot) → read_bytes c.session.side at events ≡ []
   pub delivered : c'.delivered.items ≡ c.delivered.items ++ delivered_in events
@@ -153,7 +159,7 @@ pub record Lends (says : Says) (c : Connection) (payload : List ℕ) (c' : Conne
 abbrev pub read_as : Disposition → PacketRead
 read_as Delivers = Payload
 read_as Done = Packet
-read_as (Rekeys opening again) = Packet
+read_as (Rekeys again) = Packet
 
 -- of all of them
 abbrev pub read_by : Bool → PacketRead

@@ -7,9 +7,9 @@ ghost use Rattle.ssh_transport.specs.declared.session.Disposition.TheVariants.{D
 ghost use Rattle.ssh_wire.specs.declared.error.ConfigFault.{ConfigFault};
 ghost use Rattle.ssh_wire.specs.declared.error.Error.TheVariants.{Disconnect, Inconsistent, InvalidConfig, Memory, PacketSize};
 
+use crate::calls::Calling;
 use crate::config::config_fault;
 use crate::message::{LONGEST_INPUT, LONGEST_PAYLOAD, is_payload, type_of};
-use crate::calls::Calling;
 use crate::session::{Disposition, Session};
 use rand_core::Rng;
 use ssh_kex::{Agreement, Config, GroupLookup, Handed, HostKeys, Parts};
@@ -222,7 +222,8 @@ impl<'c> Connection<'c> {
         queues: bool,
     ) -> Result<bool, Error>
         requires { CanRead self.old }
-        ensures { ReadsWaiting queues (⟦<Parts<A, H, G, R> as Calling>⟧.call parts.old parts.new) self.old result self.new }
+        ensures { ReadsWaiting queues (⟦<Parts<A, H, G, R> as Calling>⟧.call parts.old parts.new) self.old result
+            self.new }
     {
         'packets: loop {
             match self.next_packet(parts, queues)? {
@@ -241,7 +242,8 @@ impl<'c> Connection<'c> {
         queues: bool,
     ) -> Result<PacketRead, Error>
         requires { CanRead self.old }
-        ensures { HandlesNext queues (⟦<Parts<A, H, G, R> as Calling>⟧.call parts.old parts.new) self.old result self.new }
+        ensures { HandlesNext queues (⟦<Parts<A, H, G, R> as Calling>⟧.call parts.old parts.new) self.old result
+            self.new }
     {
         let Some(handled) = self.take_packet(parts)? else {
             return Ok(PacketRead::Nothing);
@@ -263,7 +265,7 @@ impl<'c> Connection<'c> {
         let Some(incoming) = self.reader.next(&mut self.opening)? else {
             return Ok(None);
         };
-        let handled = self.session.handle(parts, incoming)?;
+        let handled = self.session.handle(parts, incoming, &mut self.opening)?;
         Ok(Some(handled))
     }
 
@@ -284,16 +286,11 @@ impl<'c> Connection<'c> {
         Ok(PacketRead::Packet)
     }
 
-    /// Takes up the keys of an exchange that a packet ended: those of the packets that follow it.
+    /// After a packet that ended an exchange, counts bytes anew, and numbers if told.
     fn take_up(&mut self, handled: Disposition)
         ensures { TakesUp handled self.old self.new }
     {
-        if let Disposition::Rekeys {
-            opening,
-            reset_seqn,
-        } = handled
-        {
-            self.opening = opening;
+        if let Disposition::Rekeys { reset_seqn } = handled {
             self.reader.reset_bytes();
             if reset_seqn {
                 self.reader.reset_seqn();

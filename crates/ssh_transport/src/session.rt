@@ -12,9 +12,9 @@ ghost use Rattle.ssh_wire.specs.Sides.{other_side};
 ghost use Rattle.ssh_wire.specs.declared.error.Error.TheVariants.{Inconsistent, Memory, StrictKeyExchangeViolation, UnknownKey};
 ghost use Rattle.ssh_transport.specs.SessionCalls.{TrustsHost};
 
+use crate::calls::Calling;
 use crate::machine::SessionKex;
 use crate::message::{is_idle, is_payload, type_of};
-use crate::calls::Calling;
 use rand_core::Rng;
 use ssh_kex::{
     Agreement, Config, FinishedExchange, GroupLookup, Handed, HostKeys, KexProgress, NewKeys,
@@ -45,14 +45,14 @@ pub(crate) struct Session<'c> {
 }
 
 /// What is done with a packet.
-#[derive(Drop)]
+#[derive(Clone, Copy)]
 pub(crate) enum Disposition {
     /// Its payload is to be handed up.
     Delivers,
     /// Nothing is left to do with it.
     Done,
-    /// It ended an exchange: what comes behind is read under another key, and where told its numbers begin again.
-    Rekeys { opening: OpenKey, reset_seqn: bool },
+    /// It ended an exchange: the packets that follow are read under its key, and their numbers begin again if told.
+    Rekeys { reset_seqn: bool },
 }
 
 impl<'c> Session<'c> {
@@ -163,13 +163,14 @@ impl<'c> Session<'c> {
         &mut self,
         parts: &mut Parts<A, H, G, R>,
         incoming: Incoming<'_>,
+        opening: &mut OpenKey,
     ) -> Result<Disposition, Error>
         requires { CanTreat self.old incoming }
         ensures { Treats IsAsBefore (⟦<Parts<A, H, G, R> as Calling>⟧.call parts.old parts.new) self.old incoming.entry
-            result self.new }
+            opening.old result self.new opening.new }
     {
         let sent = self.writer.output().len();
-        match self.treat(parts, incoming) {
+        match self.treat(parts, incoming, opening) {
             Ok(handled) => Ok(handled),
             Err(error) => {
                 self.cut_output(sent);
@@ -184,10 +185,11 @@ impl<'c> Session<'c> {
         &mut self,
         parts: &mut Parts<A, H, G, R>,
         incoming: Incoming<'_>,
+        opening: &mut OpenKey,
     ) -> Result<Disposition, Error>
         requires { CanTreat self.old incoming }
         ensures { Treats Appends (⟦<Parts<A, H, G, R> as Calling>⟧.call parts.old parts.new) self.old incoming.entry
-            result self.new }
+            opening.old result self.new opening.new }
     {
         let message_type = type_of(incoming.payload);
         if message_type == msg::DISCONNECT {
@@ -198,7 +200,7 @@ impl<'c> Session<'c> {
             return Ok(Disposition::Done);
         }
         if is_kex_msg(message_type) {
-            return self.take_message(parts, incoming, message_type);
+            return self.take_message(parts, incoming, opening, message_type);
         }
         if self.delivers(message_type) {
             return Ok(Disposition::Delivers);
@@ -213,6 +215,7 @@ impl<'c> Session<'c> {
         &mut self,
         parts: &mut Parts<A, H, G, R>,
         incoming: Incoming<'_>,
+        opening: &mut OpenKey,
         message_type: u8,
     ) -> Result<Disposition, Error>
         requires can { CanTreat self.old incoming }
@@ -220,10 +223,10 @@ impl<'c> Session<'c> {
         requires kex { is_kex message_type ≡ true }
         requires passes { Passes self.old incoming.seqn message_type }
         ensures { Treats Appends (⟦<Parts<A, H, G, R> as Calling>⟧.call parts.old parts.new) self.old incoming.entry
-            result self.new }
+            opening.old result self.new opening.new }
     {
         let kex = self.take_kex(&mut parts.rng, message_type)?;
-        self.step(kex, parts, incoming)
+        self.step(kex, parts, incoming, opening)
     }
 
     /// The machine that a message is for: that of the open exchange, or outside one, at a KEXINIT, that of an exchange
@@ -248,11 +251,12 @@ impl<'c> Session<'c> {
         kex: SessionKex<'c>,
         parts: &mut Parts<A, H, G, R>,
         incoming: Incoming<'_>,
+        opening: &mut OpenKey,
     ) -> Result<Disposition, Error>
         requires begins { CanBegin self.old }
         requires short { length incoming.payload.now < 2 ^ 31 }
         ensures { StepsExchange (⟦<Parts<A, H, G, R> as Calling>⟧.call parts.old parts.new) self.old kex.entry
-            incoming.entry result self.new }
+            incoming.entry opening.old result self.new opening.new }
     {
         match kex.step(parts, incoming, &mut self.writer)? {
             KexProgress::NeedsReply { kex, reset_seqn } => {
@@ -265,7 +269,7 @@ impl<'c> Session<'c> {
             KexProgress::Done {
                 server_host,
                 newkeys,
-            } => self.end_exchange(&mut parts.hosts, server_host, newkeys),
+            } => self.end_exchange(&mut parts.hosts, server_host, newkeys, opening),
         }
     }
 
@@ -275,18 +279,20 @@ impl<'c> Session<'c> {
         hosts: &mut H,
         host: Option<ServerHost>,
         newkeys: NewKeys,
+        opening: &mut OpenKey,
     ) -> Result<Disposition, Error>
         requires { CanBegin self.old }
-        ensures { EndsExchange H.HostKeys hosts.old hosts.new self.old host newkeys result self.new }
+        ensures { EndsExchange H.HostKeys hosts.old hosts.new self.old host newkeys result self.new
+            opening.new }
     {
         check_host(self.alloc, hosts, host)?;
-        self.finish(newkeys)
+        self.finish(newkeys, opening)
     }
 
-    /// Records an exchange, and goes on under its keys. Fails with `Memory`.
-    fn finish(&mut self, newkeys: NewKeys) -> Result<Disposition, Error>
+    /// Records an exchange, and goes on under its keys in both directions. Fails with `Memory`.
+    fn finish(&mut self, newkeys: NewKeys, opening: &mut OpenKey) -> Result<Disposition, Error>
         requires { CanBegin self.old }
-        ensures { RecordsExchange self.old newkeys result self.new }
+        ensures { RecordsExchange self.old newkeys result self.new opening.new }
     {
         let NewKeys {
             names,
@@ -305,8 +311,8 @@ impl<'c> Session<'c> {
         let cipher = Box::into_inner(cipher);
         self.writer.set_cipher(cipher.local_to_remote);
         self.kex = SessionKexState::Idle;
+        *opening = cipher.remote_to_local;
         Ok(Disposition::Rekeys {
-            opening: cipher.remote_to_local,
             reset_seqn: names.strict_kex,
         })
     }

@@ -77,10 +77,12 @@ returns-in_default g c = record {
       (heard_at c.args.self.now c.hear.new.self c.unread.result.now c.in_ok-used.field-0 None c.unread.ensures
       c.in_default.is c.in_ok-used.ensures.line) c.skip.ensures;
   whole = search rules;
-  part = λ e. (none_left c.args.self.now.reader c.skip.new.self c.waiting.result [] _ c.waiting.ensures c.skip.ensures,
-      line_part c.args.self.now.session c.hear.new.self c.args.self.now.reader.waiting c.requires.short
-      (heard_at c.args.self.now c.hear.new.self c.unread.result.now c.in_ok-used.field-0 None c.unread.ensures
-      c.in_default.is c.in_ok-used.ensures.line));
+  part = λ e. (
+    none_left c.args.self.now.reader c.skip.new.self c.waiting.result [] _ c.waiting.ensures c.skip.ensures,
+    line_part c.args.self.now.session c.hear.new.self c.args.self.now.reader.waiting c.requires.short
+        (heard_at c.args.self.now c.hear.new.self c.unread.result.now c.in_ok-used.field-0 None c.unread.ensures
+        c.in_default.is c.in_ok-used.ensures.line),
+  );
   shorter = (let e : length c.skip.new.self.waiting ≡ length (drop c.waiting.result c.args.self.now.reader.waiting) = ap
       (λ (r : Reader). length r.waiting) c.skip.ensures in let d = length-drop c.waiting.result
       c.args.self.now.reader.waiting in omega (arith, e, d));
@@ -88,9 +90,12 @@ returns-in_default g c = record {
   fails = search rules;
   ended = search rules;
   drawn = search rules;
-  awaits = λ e. ((heard_at c.args.self.now c.hear.new.self c.unread.result.now c.in_ok-used.field-0 None
-      c.unread.ensures c.in_default.is c.in_ok-used.ensures.line).2, c.hear.ensures.undrawn
-      (c.in_ok-used.was ∙ ap (λ (o : Option ℕ). Ok o) c.in_default.is));
+  awaits = λ e. (
+    (heard_at c.args.self.now c.hear.new.self c.unread.result.now c.in_ok-used.field-0 None
+        c.unread.ensures c.in_default.is c.in_ok-used.ensures.line).2,
+    c.hear.ensures.undrawn
+        (c.in_ok-used.was ∙ ap (λ (o : Option ℕ). Ok o) c.in_default.is),
+  );
   wrote = search rules;
   fixed = search rules;
 }
@@ -106,14 +111,17 @@ returns-in_err-used g c = record {
   unqueued = search rules;
   fails = (let p = err_from_is_err_and c.from_residual.result c.from_residual.ensures.1 in
       from_err c.from_residual.result _ c.in_err-used.field-0.0 p.0 p.1 p.2
-          (record { not = subst (λ (b : List ℕ). HearsNot c.args.self.now.session b c.in_err-used.field-0.0
-          c.hear.new.self) c.unread.ensures c.in_err-used.ensures.unheard; delivered = refl }));
+      (record {
+        not = subst (λ (b : List ℕ). HearsNot c.args.self.now.session b c.in_err-used.field-0.0
+            c.hear.new.self) c.unread.ensures c.in_err-used.ensures.unheard;
+        delivered = refl;
+      }));
   ended = λ e.
       let p = err_from_is_err_and c.from_residual.result c.from_residual.ensures.1 in
       subst (λ (b : List ℕ). EndsBy c.args.self.now.session.side c.args.self.now.session.line b) c.unread.ensures
       (c.hear.ensures.ended (λ s. (c.requires.settled nowhere).silent s)
-          (c.in_err-used.was ∙ ap (λ (x : Error). Err x) (sym p.2
-          ∙ which_error c.from_residual.result p.0 Memory p.1 e)));
+      (c.in_err-used.was ∙ ap (λ (x : Error). Err x) (sym p.2
+      ∙ which_error c.from_residual.result p.0 Memory p.1 e)));
   drawn = search rules;
   awaits = search rules;
   wrote = search rules;

@@ -4,7 +4,8 @@ use Rattle.ssh_transport.specs.declared.connection.PacketRead.TheVariants.{Packe
 use Rattle.ssh_transport.proofs.connection.Connection.read_on.Given as goal
 
 abbrev pub invariant-packets : goal.invariant-packets
-invariant-packets g l = ReadSome l.queues (call_of g.A.Agreement g.H.HostKeys g.G.GroupLookup g.R.Rng l.fn.parts l.parts)
+invariant-packets g l = ReadSome l.queues (call_of g.A.Agreement g.H.HostKeys g.G.GroupLookup g.R.Rng l.fn.parts
+    l.parts)
     l.fn.self Packet l.self
 
 abbrev pub decreases-packets : goal.decreases-packets

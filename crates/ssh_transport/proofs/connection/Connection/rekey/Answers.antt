@@ -3,7 +3,7 @@ use Rattle.ssh_transport.specs.Drawing.{kexinit_packet, writing_at}
 use Rattle.ssh_transport.proofs.Drawing.{drawn_answer, left_answer, on_refusal, unsaid_left}
 use Rattle.ssh_transport.proofs.Kept.{kept_session}
 use Rattle.ssh_transport.proofs.Opened.{live_begun}
-use Rattle.ssh_transport.proofs.Outcomes.{ends_breaks, ends_kept, ends_rests, ends_same}
+use Rattle.ssh_transport.proofs.Outcomes.{ends_kept, ends_rests, ends_same}
 use Rattle.ssh_transport.proofs.Serving.{wrote_answer}
 use Rattle.ssh_transport.proofs.Saying.{flipped, on_ok, outside_is}
 use Rattle.ssh_transport.proofs.connection.Connection.rekey.Goals as goal

@@ -24,9 +24,9 @@ pub returns-clause-submits : goal.returns-clause-submits
 returns-clause-submits g c = record {
   kept = ends_kept c.submit-sent.result (record c.args.self.now { session = c.submit-sent.new.self }) c.fail_on.new.self
       (on_both c.submit-sent.result _ _ (IsKept (record c.args.self.now { session = c.submit-sent.new.self }))
-          (λ h o. kept_behind c.args.self.now c.submit-sent.new.self c.bytes-read.result c.args.payload.now
-          c.bytes-read.ensures c.submit-sent.ensures.begins c.requires (c.requires.live c.if-self.false) h o)
-          c.submit-sent.ensures.sent c.submit-sent.ensures.opened) c.fail_on.ensures.ends;
+      (λ h o. kept_behind c.args.self.now c.submit-sent.new.self c.bytes-read.result c.args.payload.now
+      c.bytes-read.ensures c.submit-sent.ensures.begins c.requires (c.requires.live c.if-self.false) h o)
+      c.submit-sent.ensures.sent c.submit-sent.ensures.opened) c.fail_on.ensures.ends;
   dead = λ f. absurd (let e : true ≡ false = sym f ∙ c.if-self.false in cc);
   size = search rules;
   inconsistent = search rules;

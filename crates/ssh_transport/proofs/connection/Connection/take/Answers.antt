@@ -6,8 +6,11 @@ use Rattle.ssh_transport.proofs.Turning.{begin_refused, slice_behind, turn_heard
 use Rattle.ssh_transport.proofs.connection.Connection.take.Goals as goal
 
 pub take_kept-requires : goal.take_kept-requires
-take_kept-requires g c = record { live = live_with c.args.self.now c.keep-taken.new.self _ [] _
-    c.keep-taken.ensures.rest c.keep-taken.ensures.taken c.requires.live; within = c.keep-taken.ensures.kept }
+take_kept-requires g c = record {
+  live = live_with c.args.self.now c.keep-taken.new.self _ [] _
+      c.keep-taken.ensures.rest c.keep-taken.ensures.taken c.requires.live;
+  within = c.keep-taken.ensures.kept;
+}
 
 pub turns-init : goal.turns-init
 turns-init g c = turns_begin _ c.args.self.now c.keep-taken.new.self c.args.piece.now c.keep-taken.result _
@@ -43,14 +46,14 @@ pub returns-in_err-take_kept : goal.returns-in_err-take_kept
 returns-in_err-take_kept g c =
     let p = err_from_is_err_and c.from_residual.result c.from_residual.ensures.1 in
     begin_refused _ c.args.self.now c.keep-taken.new.self c.args.piece.now c.keep-taken.result _ c.from_residual.result
-        c.take_kept.new.self p.0 c.in_err-take_kept.field-0.0 p.1 p.2 c.keep-taken.ensures.rest
-        c.keep-taken.ensures.taken c.in_err-take_kept.ensures
+    c.take_kept.new.self p.0 c.in_err-take_kept.field-0.0 p.1 p.2 c.keep-taken.ensures.rest
+    c.keep-taken.ensures.taken c.in_err-take_kept.ensures
 
 pub returns-in_err-read_on : goal.returns-in_err-read_on
 returns-in_err-read_on g c =
     let p = err_from_is_err_and c.from_residual-in_err-read_on.result c.from_residual-in_err-read_on.ensures.1 in
     turns_refused g.A.Agreement g.H.HostKeys g.G.GroupLookup g.R.Rng c.args.parts.now c.turns.parts c.read_on.new.parts
-        c.args.self.now c.turns.self c.take-taken.new.self c.read_on.new.self c.args.piece.now _ c.turns.taken
-        c.take-taken.result _ c.from_residual-in_err-read_on.result p.0 c.in_err-read_on.field-0.0 p.1 p.2
-        c.turns-test.true (slice_behind c.turns.taken c.args.piece.now) c.take-taken.ensures.taken c.turns.invariant
-        c.in_err-read_on.ensures
+    c.args.self.now c.turns.self c.take-taken.new.self c.read_on.new.self c.args.piece.now _ c.turns.taken
+    c.take-taken.result _ c.from_residual-in_err-read_on.result p.0 c.in_err-read_on.field-0.0 p.1 p.2
+    c.turns-test.true (slice_behind c.turns.taken c.args.piece.now) c.take-taken.ensures.taken c.turns.invariant
+    c.in_err-read_on.ensures

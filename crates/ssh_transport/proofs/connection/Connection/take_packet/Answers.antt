@@ -17,7 +17,7 @@ use Rattle.ssh_transport.proofs.connection.Connection.take_packet.Goals as goal
 pub handle-requires : goal.handle-requires
 handle-requires g c =
     let unheard : IsUnheard c.args.self.now.session = λ e.
-        (c.requires.live.settled (record { sealing = Clear; number = 0 })).silent e in
+    (c.requires.live.settled (record { sealing = Clear; number = 0 })).silent e in
     record {
       begins = c.requires.live.begins;
       unheard = unheard;
@@ -34,16 +34,17 @@ returns g c = record {
   opened = c.in_ok-handled.ensures.opened;
   keeps = c.in_ok-handled.ensures.keeps;
   serves = c.in_ok-handled.ensures.serves;
-  handles = handles_one _ c.args.self.now _ c.next.result _ c.in-Some.incoming c.in_ok-handled.handled
+  handles = handles_one _ c.args.self.now _ c.next.new.key c.next.result _ c.in-Some.incoming c.in_ok-handled.handled
       c.next.follows.holds-at-none c.in_ok-incoming.was c.in-Some.is c.requires.live.numbered
-      c.in_ok-handled.ensures.handles refl c.in_ok-handled.ensures.delivers c.in_ok-handled.ensures.others;
+      c.in_ok-handled.ensures.handles c.in_ok-handled.ensures.key_is refl c.in_ok-handled.ensures.delivers
+      c.in_ok-handled.ensures.others;
 }
 
 pub returns-in_err-incoming : goal.returns-in_err-incoming
 returns-in_err-incoming g c =
     let p = err_from_is_err_and c.from_residual.result c.from_residual.ensures.1 in
     next_refused (call_of g.A.Agreement g.H.HostKeys g.G.GroupLookup g.R.Rng c.args.parts.now c.args.parts.now)
-        c.args.self.now _ c.from_residual.result p.0 (error_of c.in_err-incoming.field-0.0) p.1 p.2
+    c.args.self.now _ c.from_residual.result p.0 (error_of c.in_err-incoming.field-0.0) p.1 p.2
     (record {
       begins = c.requires.live.begins;
       fixed = ((refl, refl), refl);
@@ -60,7 +61,7 @@ pub returns-in_err-handled : goal.returns-in_err-handled
 returns-in_err-handled g c =
     let p = err_from_is_err_and c.from_residual-in_err-handled.result c.from_residual-in_err-handled.ensures.1 in
     next_refused (call_of g.A.Agreement g.H.HostKeys g.G.GroupLookup g.R.Rng c.args.parts.now c.handle.new.parts)
-        c.args.self.now _ c.from_residual-in_err-handled.result p.0 c.in_err-handled.field-0.0 p.1 p.2
+    c.args.self.now _ c.from_residual-in_err-handled.result p.0 c.in_err-handled.field-0.0 p.1 p.2
     (record {
       begins = c.in_err-handled.ensures.stays.0;
       fixed = (c.in_err-handled.ensures.stays.3, refl);

@@ -21,9 +21,9 @@ held-preserved g c = record {
   wrote = wrote_join c.args.self.now c.held.self (record c.held.self { writer = c.packet_raw.new.self }) _ _ _
       (c.held.invariant.written.1.side, c.held.invariant.written.1.config) c.held.invariant.wrote
       (wrote_payload c.held.self c.packet_raw.new.self c.as_slice.result.now _ _
-          (popped_good c.held.self c.in-Some.payload c.as_slice.result.now _ c.held.invariant.written.1.good
-          c.in-Some.ensures.items c.as_slice.ensures) c.in_ok-packet_raw.ensures.sent
-          c.in_ok-packet_raw.ensures.stream);
+      (popped_good c.held.self c.in-Some.payload c.as_slice.result.now _ c.held.invariant.written.1.good
+      c.in-Some.ensures.items c.as_slice.ensures) c.in_ok-packet_raw.ensures.sent
+      c.in_ok-packet_raw.ensures.stream);
 }
 
 pub returns-then-is_at_limit : goal.returns-then-is_at_limit

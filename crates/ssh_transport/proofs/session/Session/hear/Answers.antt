@@ -21,8 +21,11 @@ use Rattle.ssh_transport.proofs.session.Session.hear.Goals.{then-is_first_due+in
 
 pub returns-in-NotYet : goal.returns-in-NotYet
 returns-in-NotYet g c = record {
-  begins = record { valid = c.requires.valid; short = heard_short c.passes_others.result c.args.self.now.line
-      c.args.piece.now (Ok c.in_ok-feed.field-0) c.feed.new.self c.in_ok-feed.ensures.fed c.requires.short };
+  begins = record {
+    valid = c.requires.valid;
+    short = heard_short c.passes_others.result c.args.self.now.line
+        c.args.piece.now (Ok c.in_ok-feed.field-0) c.feed.new.self c.in_ok-feed.ensures.fed c.requires.short;
+  };
   settled = λ read q. settled_not_yet c.passes_others.result c.args.self.now
       (record c.args.self.now { line = c.feed.new.self }) c.feed.new.self c.args.piece.now c.in_ok-feed.field-0 read
       c.in_ok-feed.ensures.fed c.in-NotYet.is refl q;
@@ -33,9 +36,12 @@ returns-in-NotYet g c = record {
   fixed = search rules;
   opened = λ o. open_not_yet c.passes_others.result c.args.self.now (record c.args.self.now { line = c.feed.new.self })
       c.feed.new.self c.args.piece.now c.in_ok-feed.field-0 c.in_ok-feed.ensures.fed c.in-NotYet.is refl o;
-  line = (fed_as c.passes_others.result c.args.self.now.side c.args.self.now.line c.args.piece.now c.in_ok-feed.field-0
-      progress.NotYet c.feed.new.self c.passes_others.ensures c.in-NotYet.is c.in_ok-feed.ensures.fed,
-      c.feed.ensures.short, refl);
+  line = (
+    fed_as c.passes_others.result c.args.self.now.side c.args.self.now.line c.args.piece.now c.in_ok-feed.field-0
+        progress.NotYet c.feed.new.self c.passes_others.ensures c.in-NotYet.is c.in_ok-feed.ensures.fed,
+    c.feed.ensures.short,
+    refl,
+  );
   drawn = search rules;
   undrawn = search rules;
   wrote = wrote_nothing c.args.self.now _;
@@ -48,8 +54,11 @@ returns-after-is_first_due g c = record {
   begins = elim c.if-is_first_due.branch [
     | then-is_first_due+in_ok-begin-in-Id w ↦ subst CanBegin (sym w.self-is) w.begin.ensures.begins
     | else-is_first_due w ↦ subst CanBegin (sym w.self-is)
-        (record { valid = c.requires.valid; short = heard_short c.passes_others.result c.args.self.now.line
-        c.args.piece.now (Ok c.in_ok-feed.field-0) c.feed.new.self c.in_ok-feed.ensures.fed c.requires.short })
+        (record {
+          valid = c.requires.valid;
+          short = heard_short c.passes_others.result c.args.self.now.line
+              c.args.piece.now (Ok c.in_ok-feed.field-0) c.feed.new.self c.in_ok-feed.ensures.fed c.requires.short;
+        })
   ];
   settled = λ read q. elim c.if-is_first_due.branch [
     | then-is_first_due+in_ok-begin-in-Id w ↦ subst (λ (x : Session). IsSettled x read) (sym w.self-is)
@@ -118,7 +127,7 @@ returns-in_err-feed g c = record {
   ended = λ u e.
       let p = err_from_is_err_and c.from_residual.result c.from_residual.ensures.1 in
       absurd (no_memory_heard c.passes_others.result c.args.self.now.line c.args.piece.now c.in_err-feed.field-0.0
-          c.feed.new.self c.in_err-feed.ensures.fed (sym p.2 ∙ which_error c.from_residual.result p.0 Memory p.1 e));
+      c.feed.new.self c.in_err-feed.ensures.fed (sym p.2 ∙ which_error c.from_residual.result p.0 Memory p.1 e));
 }
 
 pub returns-in_err-begin-in-Id : goal.returns-in_err-begin-in-Id

@@ -21,10 +21,10 @@ returns-in-Ok-true g c = (
         (lends_some c.poll.result c.poll.new.self.reader.handed c.handed.result
         (c.in-Ok-true.is ∙ ap (λ (b : Bool). Ok b) c.in-Ok-true.field-0-test) c.handed.ensures)
         (λ f. (c.poll.ensures.dead f).0) (λ f. ap standing_of (c.poll.ensures.dead f).1)
-            (c.poll.ensures.polled.call.stays.0, ap (λ (x : Bor Config). x.now) c.poll.ensures.polled.call.stays.1)
-            c.poll.ensures.polled.call.lives c.poll.ensures.polled.call.ends c.poll.ensures.polled.unqueued
-            c.poll.ensures.polled.polled c.poll.ensures.polled.call.refused c.poll.ensures.polled.call.serves
-            c.poll.ensures.polled.call.drawn,
+        (c.poll.ensures.polled.call.stays.0, ap (λ (x : Bor Config). x.now) c.poll.ensures.polled.call.stays.1)
+        c.poll.ensures.polled.call.lives c.poll.ensures.polled.call.ends c.poll.ensures.polled.unqueued
+        c.poll.ensures.polled.polled c.poll.ensures.polled.call.refused c.poll.ensures.polled.call.serves
+        c.poll.ensures.polled.call.drawn,
   ),
   record {
     after_borrow = tt;
@@ -47,10 +47,10 @@ returns-in-Ok-false g c = (
         (lends_none c.poll.result c.poll.new.self.reader.handed
         (c.in-Ok-false.is ∙ ap (λ (b : Bool). Ok b) c.in-Ok-false.field-0-test))
         (λ f. (c.poll.ensures.dead f).0) (λ f. ap standing_of (c.poll.ensures.dead f).1)
-            (c.poll.ensures.polled.call.stays.0, ap (λ (x : Bor Config). x.now) c.poll.ensures.polled.call.stays.1)
-            c.poll.ensures.polled.call.lives c.poll.ensures.polled.call.ends c.poll.ensures.polled.unqueued
-            c.poll.ensures.polled.polled c.poll.ensures.polled.call.refused c.poll.ensures.polled.call.serves
-            c.poll.ensures.polled.call.drawn,
+        (c.poll.ensures.polled.call.stays.0, ap (λ (x : Bor Config). x.now) c.poll.ensures.polled.call.stays.1)
+        c.poll.ensures.polled.call.lives c.poll.ensures.polled.call.ends c.poll.ensures.polled.unqueued
+        c.poll.ensures.polled.polled c.poll.ensures.polled.call.refused c.poll.ensures.polled.call.serves
+        c.poll.ensures.polled.call.drawn,
   ),
   record {
     after_borrow = tt;
@@ -72,16 +72,17 @@ returns-in-Err g c = (
         (standing_of c.poll.new.self) c.poll.new.self.reader.handed c.poll.result _ c.self.view_is
         (lends_refusal c.poll.result c.poll.new.self.reader.handed c.in-Err.error _ c.in-Err.is refl)
         (λ f. (c.poll.ensures.dead f).0) (λ f. ap standing_of (c.poll.ensures.dead f).1)
-            (c.poll.ensures.polled.call.stays.0, ap (λ (x : Bor Config). x.now) c.poll.ensures.polled.call.stays.1)
-            c.poll.ensures.polled.call.lives c.poll.ensures.polled.call.ends c.poll.ensures.polled.unqueued
-            c.poll.ensures.polled.polled c.poll.ensures.polled.call.refused c.poll.ensures.polled.call.serves
-            c.poll.ensures.polled.call.drawn,
+        (c.poll.ensures.polled.call.stays.0, ap (λ (x : Bor Config). x.now) c.poll.ensures.polled.call.stays.1)
+        c.poll.ensures.polled.call.lives c.poll.ensures.polled.call.ends c.poll.ensures.polled.unqueued
+        c.poll.ensures.polled.polled c.poll.ensures.polled.call.refused c.poll.ensures.polled.call.serves
+        c.poll.ensures.polled.call.drawn,
   ),
   record {
     after_borrow = tt;
-    dead = λ f. let d = c.poll.ensures.dead (ap (λ (t : Standing). t.failed) c.self.view_is ∙ f) in
-        ((let e : (let r : Result Bool Error = Err c.in-Err.error in r) ≡ Err Disconnect = sym c.in-Err.is ∙ d.0 in cc),
-        d.2);
+    dead = λ f. let d = c.poll.ensures.dead (ap (λ (t : Standing). t.failed) c.self.view_is ∙ f) in (
+      (let e : (let r : Result Bool Error = Err c.in-Err.error in r) ≡ Err Disconnect = sym c.in-Err.is ∙ d.0 in cc),
+      d.2,
+    );
     memory = subst (λ (t : Standing). t.failed ≡ false → c.in-Err.error ≡ Memory
         → MayWant (says_of g.A.Agreement g.H.HostKeys g.G.GroupLookup t.config c.args.parts.now.agreement
         c.args.parts.now.hosts c.args.parts.now.groups) t) c.self.view_is
