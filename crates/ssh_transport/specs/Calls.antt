@@ -1,4 +1,4 @@
--- What a call on a side does, level by level: one record for each level, over what its parts say.
+-- What each private call on a connection did: one record a level, over one value of what the parts say.
 use Rattle.std.specs.Prelude.{◌≡◌, ◌⊎◌, ◌+◌, ℕ, ◌<◌, ◌≤◌, ◌^◌, Bool, true, false, [], ◌++◌, List, length, Option, None, Some, Result, Ok, Err, IfErr, IfOk, IsTrue, OnErr, OnOk}
 use Rattle.rand_core.specs.Stream.{Stream}
 use Rattle.rand_core.specs.declared.Rng as rng
@@ -45,7 +45,7 @@ use Rattle.ssh_transport.specs.declared.session.Disposition.{Disposition}
 use Rattle.ssh_transport.specs.declared.session.Disposition.TheVariants.{Delivers}
 use Rattle.ssh_transport.specs.declared.session.Session.{Session}
 
--- What the parts of a side say in a call: from how it found them to how it leaves them.
+-- What the components of a side say in a call, from the state in which it found them to that in which it left them.
 pub record PartsCall : Type 1 where
   pub says : Config → Says
   pub denies : Denies
@@ -53,9 +53,9 @@ pub record PartsCall : Type 1 where
   pub keeps : Type 0
   pub before : PartTally
   pub after : PartTally
-  -- which values a side's agreement draws
+  -- which values the agreement of a side draws from the random stream
   pub draws : Side → Stream → Stream → Type 0
-  -- which ones a step of a side's machine draws
+  -- which values one step of a side's machine draws, by the stage before and after it
   pub steps : Side → Stream → Stage → Option Stage → Stream → Type 0
   pub stream : Stream
   pub left : Stream
@@ -76,7 +76,7 @@ call_of ma mh mg mr p q = record {
   left = mr.stream q.rng;
 }
 
--- a message was taken
+-- A session took a message.
 pub record TreatsMessage (p : PartsCall) (s : Session) (i : Incoming) (key : OpenKey) (handled : Disposition)
     (s' : Session) (key' : OpenKey) : Type 0 where
   pub stays : Stays s s'
@@ -89,7 +89,7 @@ pub record TreatsMessage (p : PartsCall) (s : Session) (i : Incoming) (key : Ope
   pub delivers : handled ≡ Delivers → s' ≡ s
   pub others : is_kex (message_type i.payload.now) ≡ false → s' ≡ s
 
--- a message was refused, which leaves this
+-- A session rejected a message. `Leaves` says what it left.
 pub record FailsMessage (Leaves : Session → Session → Type 0) (p : PartsCall) (s : Session) (i : Incoming)
     (error : Error) (s' : Session) : Type 0 where
   pub stays : Stays s s'
@@ -99,13 +99,13 @@ pub record FailsMessage (Leaves : Session → Session → Type 0) (p : PartsCall
   pub refuses : Refuses (p.says s.config.now) p.denies p.distrusts s i.seqn i.payload.now error
   pub leaves : Leaves s s'
 
--- what is done with a message, with the key of the packets that follow
+-- What a session did with a message, by the result. `key` and `key'` open the packets that follow.
 abbrev pub Treats : (Leaves : Session → Session → Type 0) → PartsCall → Session → Incoming → OpenKey
     → Result Disposition Error → Session → OpenKey → Type 0
 Treats Leaves p s i key (Ok handled) s' key' = TreatsMessage p s i key handled s' key'
 Treats Leaves p s i key (Err error) s' key' = FailsMessage Leaves p s i error s'
 
--- with what a message can be handled
+-- A session can handle this message.
 pub record CanTreat (s : Session) (i : Incoming) : Type 0 where
   pub begins : CanBegin s
   pub unheard : IsUnheard s
@@ -115,19 +115,19 @@ pub record CanTreat (s : Session) (i : Incoming) : Type 0 where
 
 -- ---- what a connection reads
 
--- with what packets can be read
+-- A connection can read packets.
 pub record CanRead (c : Connection) : Type 0 where
   pub live : IsLive c
   pub heard : IsHeard c.session.line
 
--- none of what waits is whole
+-- No packet that waits is whole.
 pub record StaysInPart (p : PartsCall) (c c' : Connection) : Type 0 where
   pub keeps : p.keeps
   pub serves : ServesBetween p.draws c.session c'.session p.before p.after p.stream p.left
   pub still : c' ≡ record c { reader = record c.reader { handed = [] } }
   pub part : WaitsInPart (reading_spot c) c.reader.waiting
 
--- a packet was opened, and done with what it asks for by itself
+-- A connection opened a packet, and did what the packet asks for by itself.
 pub record OpensPacket (p : PartsCall) (c : Connection) (handled : Disposition) (c' : Connection) : Type 0 where
   pub stays : Stays c.session c'.session
   pub failed : c'.failed ≡ c.failed
@@ -137,8 +137,8 @@ pub record OpensPacket (p : PartsCall) (c : Connection) (handled : Disposition) 
   pub serves : ServesBetween p.draws c.session c'.session p.before p.after p.stream p.left
   pub handles : HandlesOne (p.says c.session.config.now) c handled c'
 
--- A packet was refused, or memory was wanting. Where payloads aren't queued, it was wanting for no more than a call
--- that lends them may want it for.
+-- A connection rejected a packet, or ran out of memory. If payloads aren't queued, it ran out only for what `Wants`
+-- names.
 pub record StopsReading (queues : Bool) (p : PartsCall) (c : Connection) (error : Error) (c' : Connection) : Type 0
   where
     pub begins : CanBegin c'.session
@@ -149,20 +149,20 @@ pub record StopsReading (queues : Bool) (p : PartsCall) (c : Connection) (error 
     pub wants : queues ≡ false → error ≡ errors.Memory → Wants (p.says c.session.config.now) c
     pub unqueued : queues ≡ false → c'.delivered ≡ c.delivered
 
--- what was made of the next packet
+-- What became of the next packet, by the result of the call that opens it.
 abbrev pub OpensNext : PartsCall → Connection → Result (Option Disposition) Error → Connection → Type 0
 OpensNext p c (Ok None) c' = StaysInPart p c c'
 OpensNext p c (Ok (Some handled)) c' = OpensPacket p c handled c'
 OpensNext p c (Err error) c' = StopsReading false p c error c'
 
--- by what was made of the last packet, where payloads are queued or handed up
+-- What was read, by what became of the last packet and by whether payloads are queued or lent.
 abbrev pub ReadsFor : (queues : Bool) → Says → Connection → PacketRead → Connection → Type 0
 ReadsFor false says c read c' = PollsOne says c read c'
 ReadsFor true says c Nothing c' = Reads says c c' × WaitsInPart (reading_spot c') c'.reader.waiting
 ReadsFor true says c Packet c' = Reads says c c'
 ReadsFor true says c Payload c' = ⊥
 
--- packets were read, and all that they ask for was done
+-- A connection read packets, and did all that they ask for.
 pub record ReadSome (queues : Bool) (p : PartsCall) (c : Connection) (read : PacketRead) (c' : Connection) : Type 0
   where
     pub live : IsLive c'
@@ -174,7 +174,7 @@ pub record ReadSome (queues : Bool) (p : PartsCall) (c : Connection) (read : Pac
     pub unqueued : queues ≡ false → c'.delivered ≡ c.delivered
     pub shorter : length c'.reader.waiting ≤ length c.reader.waiting
 
--- of one packet, and of all up to one whose payload is handed up
+-- `HandlesNext` is said of at most one packet, `ReadsWaiting` of all that are whole, up to one that is lent.
 abbrev pub HandlesNext : (queues : Bool) → PartsCall → Connection → Result PacketRead Error → Connection → Type 0
 HandlesNext queues p c (Ok read) c' = ReadSome queues p c read c'
     × IfPacket read (length c'.reader.waiting < length c.reader.waiting)
@@ -184,13 +184,13 @@ abbrev pub ReadsWaiting : (queues : Bool) → PartsCall → Connection → Resul
 ReadsWaiting queues p c (Ok lends) c' = ReadSome queues p c (read_by lends) c'
 ReadsWaiting queues p c (Err error) c' = StopsReading queues p c error c'
 
--- what becomes of a payload that is delivered
+-- What became of a payload that is delivered: it is lent, or it was queued.
 abbrev pub HandsUp : (queues : Bool) → Connection → Disposition → PacketRead → Connection → Type 0
 HandsUp false c handled read c' = (read ≡ read_as handled) × (c' ≡ c)
 HandsUp true c handled read c' = (read ≡ Packet) × (c' ≡ record c { delivered = c'.delivered })
     × (c'.delivered.items ≡ c.delivered.items ++ kept_by handled c.reader.handed)
 
--- or memory was wanting to queue it
+-- A connection ran out of memory for queuing a payload.
 pub record KeepsNot (queues : Bool) (c : Connection) (handled : Disposition) (error : Error) (c' : Connection) : Type 0
   where
     pub error_is : error ≡ errors.Memory
@@ -201,18 +201,18 @@ pub record KeepsNot (queues : Bool) (c : Connection) (handled : Disposition) (er
 
 -- ---- what a connection takes
 
--- the version line is read, or there is room for more behind what waited
+-- The version line is read, or there is room for more bytes after those that waited.
 abbrev pub HasRoom : Connection → Connection → Type 0
 HasRoom c c' = IsHeard c'.session.line
     ⊎ (waiting_length c.session.line + length c.reader.waiting < window_length)
 
--- what was taken, by whether payloads are queued and whether one is lent
+-- What was taken of the input, by whether payloads are queued and whether one is lent.
 abbrev pub TakesFor : (queues : Bool) → Says → Connection → Bool → Connection → Type 0
 TakesFor false says c lends c' = TakesPayload says c lends c'
 TakesFor true says c false c' = Takes says (emptied c) c.reader.waiting c' × HasRoom c c'
 TakesFor true says c true c' = ⊥
 
--- what waited was taken, so
+-- A connection took input, of which `Takes` says what became.
 pub record TookInput (p : PartsCall) (c c' : Connection) (Takes : Type 0) : Type 0 where
   pub live : IsLive c'
   pub within : IsKept c'
@@ -223,9 +223,8 @@ pub record TookInput (p : PartsCall) (c c' : Connection) (Takes : Type 0) : Type
   pub drawn : DrawsFirst (true ≡ true) (standing_of c) (standing_of c') p.stream p.left
   pub takes : Takes
 
--- Of what waits and a piece behind it some was refused, or memory was wanting. If payloads aren't queued, it was
--- wanting
--- for no more than a call that lends them may want it for.
+-- A connection rejected some of what waited and of a piece after it, or ran out of memory. If payloads aren't queued,
+-- it ran out only for what `MayWant` names.
 pub record FailsTaking (queues : Bool) (p : PartsCall) (c : Connection) (piece : List ℕ) (error : Error)
     (c' : Connection) : Type 0 where
   pub begins : CanBegin c'.session
@@ -237,23 +236,23 @@ pub record FailsTaking (queues : Bool) (p : PartsCall) (c : Connection) (piece :
   pub wants : queues ≡ false → error ≡ errors.Memory → MayWant (p.says c.session.config.now) (standing_of c)
   pub unqueued : queues ≡ false → c'.delivered.items ≡ c.delivered.items
 
--- What waited was taken. Whatever comes behind it, it is refused for the same.
+-- What a connection made of the bytes that waited, by the result. An error is the same whatever follows them.
 abbrev pub TakesKept : (queues : Bool) → PartsCall → Connection → Result Bool Error → Connection → Type 0
 TakesKept queues p c (Ok lends) c' = TookInput p c c' (TakesFor queues (p.says c.session.config.now) c lends c')
 TakesKept queues p c (Err error) c' = (more : List ℕ) → FailsTaking queues p c more error c'
 
--- what waited was taken, and a piece behind it
+-- What a connection made of the bytes that waited and a piece after them, by the result.
 abbrev pub TakesWholePiece : PartsCall → Connection → List ℕ → Result (Unit {0}) Error → Connection → Type 0
 TakesWholePiece p c piece (Ok done) c' =
     TookInput p c c' (Takes (p.says c.session.config.now) (emptied c) (c.reader.waiting ++ piece) c')
 TakesWholePiece p c piece (Err error) c' = FailsTaking true p c piece error c'
 
--- with what it can be taken
+-- A connection can take input.
 pub record CanTake (c : Connection) : Type 0 where
   pub live : IsLive c
   pub within : IsKept c
 
--- What a call that takes input did, if the connection hadn't failed: of what waits and a piece behind it.
+-- What each call that takes input did with the bytes that waited and a piece after them.
 pub record TakesCall {T : Type 0} (p : PartsCall) (c : Connection) (piece : List ℕ) (result : Result T Error)
     (c' : Connection) : Type 0 where
   pub kept : IsKept c'
@@ -266,13 +265,13 @@ pub record TakesCall {T : Type 0} (p : PartsCall) (c : Connection) (piece : List
   pub keeps : p.keeps
   pub serves : OnOk result (ServesCall p.draws (standing_of c) (standing_of c') p.before p.after p.stream p.left)
 
--- a piece was fed
+-- What `feed` did.
 pub record FeedsPiece (p : PartsCall) (c : Connection) (piece : List ℕ) (result : Result (Unit {0}) Error)
     (c' : Connection) : Type 0 where
   pub call : TakesCall p c piece result c'
   pub fed : OnOk result (TakesInput (p.says c.session.config.now) (standing_of c) piece (standing_of c'))
 
--- what was kept was handled up to a payload, which is lent
+-- What `poll` did: it handled what was kept, up to a payload that is lent.
 pub record PollsPayload (p : PartsCall) (c : Connection) (result : Result Bool Error) (c' : Connection) : Type 0 where
   pub call : TakesCall p c [] result c'
   pub polled : IfOk result (λ lends. Polls (p.says c.session.config.now) (standing_of c)
@@ -280,7 +279,7 @@ pub record PollsPayload (p : PartsCall) (c : Connection) (result : Result Bool E
   pub wants : c.failed ≡ false → result ≡ Err errors.Memory → MayWant (p.says c.session.config.now) (standing_of c)
   pub unqueued : c'.delivered.items ≡ c.delivered.items
 
--- an error is the end of a connection: nothing is kept of its input
+-- A connection failed, and kept nothing of its input.
 pub record BrokeOff (c c' : Connection) : Type 0 where
   pub kept : IsKept c'
   pub fixed : IsFixed c.session c'.session
@@ -293,7 +292,7 @@ EndsOn {T} (Err error) c c' = BrokeOff c c'
 
 -- ---- what a connection hears
 
--- What waits was read of the peer's version line, up to its end or all of it.
+-- A connection read the peer's version line, up to its end or as far as bytes wait.
 pub record HearsInput (c : Connection) (stream left : Stream) (still : Type 0) (result : Result Bool Error)
     (c' : Connection) : Type 0 where
   pub begins : CanBegin c'.session
@@ -313,12 +312,12 @@ pub record HearsInput (c : Connection) (stream left : Stream) (still : Type 0) (
 
 -- ---- what a connection is asked to send
 
--- a call answered this, and nothing changed, of the parts neither
+-- A call returned this result, and nothing changed, nor did the components (`still`).
 abbrev pub AnswersOnly : (still : Type 0) → Result (Unit {0}) Error → Result (Unit {0}) Error → Connection → Connection
     → Type 0
 AnswersOnly still answer result c c' = (result ≡ answer) × (c' ≡ c) × still
 
--- a payload was submitted
+-- What `submit` did.
 pub record SubmitsTo (stream left : Stream) (still : Type 0) (c : Connection) (payload : List ℕ)
     (result : Result (Unit {0}) Error) (c' : Connection) : Type 0 where
   pub kept : IsKept c'
@@ -339,7 +338,7 @@ pub record SubmitsTo (stream left : Stream) (still : Type 0) (c : Connection) (p
   pub memory : c.failed ≡ false → is_good_payload payload ≡ true
       → OnErr result ((result ≡ Err errors.Memory) × Breaks (standing_of c) (standing_of c'))
 
--- an exchange was asked for
+-- What `rekey` did.
 pub record AsksExchange (stream left : Stream) (still : Type 0) (c : Connection) (result : Result (Unit {0}) Error)
     (c' : Connection) : Type 0 where
   pub kept : IsKept c'

@@ -1,4 +1,4 @@
--- What a call on a session or on the machine of its exchange does.
+-- What each private call on a session, or on the machine of its exchange, did.
 use Rattle.std.specs.Prelude.{◌≡◌, ◌⊎◌, ℕ, ◌≤◌, ◌+◌, true, false, List, [], length, Option, None, Some, Result, Ok, Err, IfErr, IfOk, IfSome, OnErr, OnOk}
 use Rattle.rand_core.specs.Stream.{Stream}
 use Rattle.ssh_wire.specs.declared.error.Error.{Error}
@@ -35,7 +35,7 @@ use Rattle.ssh_transport.specs.declared.session.Session.{Session}
 
 -- ---- the machine of an exchange
 
--- It sent its KEXINIT, or memory was wanting, and then it and the writer are as they were.
+-- A machine sent its KEXINIT. If it ran out of memory, machine and writer are as they were.
 pub record SaysKexinit (m : Machine) (w : Writer) (stream : Stream) (result : Result (Unit {0}) Error) (m' : Machine)
     (w' : Writer) (left : Stream) : Type 0 where
   pub sent : OnOk result ((item : Item) × SendsKexinit m.setting.side m.setting.config w item w'
@@ -44,7 +44,7 @@ pub record SaysKexinit (m : Machine) (w : Writer) (stream : Stream) (result : Re
   pub unchanged : OnErr result ((m' ≡ m) × SameButRoom w w')
   pub err : IfErr result (λ e. e ≡ errors.Memory)
 
--- It took a message of the peer, or refused it.
+-- A machine took a message of the peer, or rejected it.
 pub record StepsMachine (p : PartsCall) (m : Machine) (i : Incoming) (w : Writer)
     (result : Result (KexProgress Machine) Error) (w' : Writer) : Type 0 where
   pub keeps : p.keeps
@@ -57,8 +57,8 @@ pub record StepsMachine (p : PartsCall) (m : Machine) (i : Incoming) (w : Writer
 
 -- ---- an exchange begins
 
--- The KEXINIT of the exchange that is due was sent, and its machine handed out. If memory was wanting, nothing was
--- sent.
+-- A session sent the KEXINIT of the exchange that is due, and returned its machine. If it ran out of memory, it sent
+-- nothing.
 pub record OpensExchange (s : Session) (stream left : Stream) (result : Result Machine Error) (s' : Session) : Type 0
   where
     pub opens : IfOk result (λ m. Opens s m s')
@@ -69,7 +69,7 @@ pub record OpensExchange (s : Session) (stream left : Stream) (result : Result M
     pub err : IfErr result (λ e. e ≡ errors.Memory)
     pub fixed : IsFixed s s'
 
--- The machine is kept.
+-- A session sent the KEXINIT of the exchange that is due, and kept its machine.
 pub record StartsExchange (s : Session) (stream left : Stream) (result : Result (Unit {0}) Error) (s' : Session) : Type
     0 where
   pub begun : OnOk result (Begins s s')
@@ -80,7 +80,7 @@ pub record StartsExchange (s : Session) (stream left : Stream) (result : Result 
   pub err : IfErr result (λ e. e ≡ errors.Memory)
   pub fixed : IsFixed s s'
 
--- The machine that a message of this type is for was handed out.
+-- A session returned the machine that a message of this type is for.
 pub record TakesMachine (s : Session) (type : ℕ) (stream left : Stream) (result : Result Machine Error) (s' : Session) :
     Type 0 where
   pub stays : Stays s s'
@@ -93,7 +93,7 @@ pub record TakesMachine (s : Session) (type : ℕ) (stream left : Stream) (resul
 
 -- ---- an exchange goes on and ends
 
--- A message was handed to this machine.
+-- A session gave a message to this machine, and took up what the machine led to.
 pub record StepsExchange (p : PartsCall) (s : Session) (m : Machine) (i : Incoming) (key : OpenKey)
     (result : Result Disposition Error) (s' : Session) (key' : OpenKey) : Type 0 where
   pub stays : Stays s s'
@@ -106,7 +106,7 @@ pub record StepsExchange (p : PartsCall) (s : Session) (m : Machine) (i : Incomi
   pub refuses : IfErr result (λ e. RefusesMove (p.says m.setting.config) p.denies p.distrusts m i e)
   pub appends : OnErr result (Appends s s')
 
--- The host of an exchange is trusted, if it has one.
+-- The host keys trust the host of an exchange, if it has one.
 pub record TrustsHost {H : Type 0} (mh : HostKeysMembers H) (hosts hosts' : H) (host : Option ServerHost)
     (result : Result (Unit {0}) Error) : Type 0 where
   pub keeps : HostsKept mh hosts hosts'
@@ -116,7 +116,7 @@ pub record TrustsHost {H : Type 0} (mh : HostKeysMembers H) (hosts hosts' : H) (
   pub refused : IfErr result (λ e. (e ≡ errors.Memory) ⊎ ((e ≡ errors.UnknownKey)
       × IsDistrusted (untrusted_of mh hosts hosts') host))
 
--- The exchange is recorded, and its keys are taken up.
+-- A session recorded an exchange, and took up its keys.
 pub record RecordsExchange (s : Session) (newkeys : NewKeys) (result : Result Disposition Error) (s' : Session)
     (key' : OpenKey) : Type 0 where
   pub stays : Stays s s'
@@ -125,7 +125,7 @@ pub record RecordsExchange (s : Session) (newkeys : NewKeys) (result : Result Di
   pub err : IfErr result (λ e. e ≡ errors.Memory)
   pub rests : OnErr result (IsAsBefore s s')
 
--- Its host was asked for before.
+-- A session asked for the host of an exchange, and then recorded it and took up its keys.
 pub record EndsExchange {H : Type 0} (mh : HostKeysMembers H) (hosts hosts' : H) (s : Session)
     (host : Option ServerHost)
     (newkeys : NewKeys) (result : Result Disposition Error) (s' : Session) (key' : OpenKey) : Type 0 where
@@ -142,7 +142,7 @@ pub record EndsExchange {H : Type 0} (mh : HostKeysMembers H) (hosts hosts' : H)
 
 -- ---- what a session says of itself
 
--- A part of the peer's version line was read, and what its end begins was done.
+-- A session read a part of the peer's version line, and did what the end of the line begins.
 pub record HearsPiece (s : Session) (piece : List ℕ) (stream left : Stream) (still : Type 0)
     (result : Result (Option ℕ) Error) (s' : Session) : Type 0 where
   pub begins : CanBegin s'
@@ -160,7 +160,7 @@ pub record HearsPiece (s : Session) (piece : List ℕ) (stream left : Stream) (s
   pub unheard : IfErr result (λ e. HearsNot s piece e s')
   pub ended : IsUnheard s → result ≡ Err errors.Memory → EndsBy s.side s.line piece
 
--- A payload was sealed or held.
+-- A session sealed a payload, or held it.
 pub record SealsOrHolds (s : Session) (read : ℕ) (payload : List ℕ) (stream left : Stream) (still : Type 0)
     (result : Result (Unit {0}) Error) (s' : Session) : Type 0 where
   pub opened : OnOk result (IsOpen s')
@@ -175,7 +175,7 @@ pub record SealsOrHolds (s : Session) (read : ℕ) (payload : List ℕ) (stream 
   pub begins : CanBegin s'
   pub err : IfErr result (λ e. e ≡ errors.Memory)
 
--- What was held was sealed up to a limit, at which an exchange begins.
+-- A session sealed what it held, up to a limit, at which it began an exchange.
 pub record SaysHeld (s : Session) (read : ℕ) (stream left : Stream) (result : Result (Unit {0}) Error) (s' : Session)
     : Type 0 where
   pub opened : OnOk result (IsOpen s')
