@@ -1,7 +1,8 @@
 -- What is told beside a talk, on standard error: lines.
-use Rattle.std.specs.Prelude.{◌≡◌, ◌⊎◌, ℕ, ◌+◌, if◌then◌else◌, List, [], ◌∷◌, ◌++◌, codes, Option, refl}
+use Rattle.std.specs.Prelude.{◌≡◌, ◌⊎◌, ℕ, ◌+◌, ◌==◌, ◌&&◌, nat_le, not, if◌then◌else◌, Bool, List, [], ◌∷◌, ◌++◌, codes, Option, refl}
 use Rattle.std.specs.Fmt.{decimal}
 use Rattle.std.specs.List.{flat_map}
+use Rattle.hex.specs.Hex.{encode_lower, encode_with}
 use Rattle.ssh_wire.specs.Algorithms.{algorithm_name}
 use Rattle.ssh_wire.specs.Outside.{Appends, AppendsFront, Rose}
 use Rattle.ssh_mac.specs.Names.{mac_name}
@@ -51,13 +52,26 @@ abbrev pub exchange_notes : ℕ → List FinishedExchange → List (List ℕ)
 exchange_notes k [] = []
 exchange_notes k (x ∷ xs) = exchange_note k x ∷ exchange_notes (k + 1) xs
 
+-- ---- text from the peer, so that no byte of it controls the terminal that shows it
+
+-- whether a byte is shown as it is: printable ASCII, except for the backslash
+abbrev pub is_shown : ℕ → Bool
+is_shown b = nat_le 32 b && nat_le b 126 && not (b == 92)
+
+-- a byte as it is, or `\xHH` with its two hex digits
+abbrev pub escaped_byte : ℕ → List ℕ
+escaped_byte b = if is_shown b then b ∷ [] else 92 ∷ 120 ∷ encode_lower (b ∷ [])
+
+abbrev pub escaped : List ℕ → List ℕ
+escaped text = flat_map escaped_byte text
+
 -- ---- the line of an end
 
 abbrev pub end_words : TalkEnd → List ℕ
 end_words InputEnded = codes "the input has ended"
 end_words Disconnected = codes "the other side has disconnected"
 end_words Granted = codes "the service is granted"
-end_words (Refused e) = codes "refused " ++ error_text e
+end_words (Refused e) = codes "refused " ++ escaped (error_text e)
 end_words NotServed = codes "the service isn't offered"
 end_words SourceFailed = codes "reading failed"
 end_words SinkFailed = codes "writing failed"
@@ -86,3 +100,8 @@ unseeded_note = codes "sshpipe: there are no random bytes" ++ 10 ∷ []
 
 end-example : end_note Granted ≡ codes "sshpipe: the service is granted" ++ 10 ∷ []
 end-example = refl
+
+-- a title for a terminal's window, and a path
+escaped-example : escaped (27 ∷ codes "]0;a" ++ 7 ∷ 92 ∷ 127 ∷ 200 ∷ codes "~") ≡ codes "\\x1b]0;a\\x07\\x5c\\x7f\\xc8~"
+unfolding encode_with
+escaped-example = refl

@@ -3,18 +3,19 @@
 ghost use Rattle.std.specs.Prelude.{[], ◌≡◌, ◌≤◌, ◌+◌, ◌++◌, ◌∷◌, drop, length, IfErr, IfOk, OnErr, OnOk};
 ghost use Rattle.std.specs.List.{flat_map};
 ghost use Rattle.ssh_wire.specs.declared.error.Error.TheVariants.{Memory};
-ghost use Rattle.ssh_pipe.specs.Notes.{IsTold, TellsLines, noted, end_note, end_words, exchange_note, exchange_notes, exchange_words};
+ghost use Rattle.ssh_pipe.specs.declared.end.TalkEnd.TheVariants.{Refused};
+ghost use Rattle.ssh_pipe.specs.Notes.{IsTold, TellsLines, noted, end_note, end_words, escaped, escaped_byte, exchange_note, exchange_notes, exchange_words, is_shown};
 
 use crate::end::TalkEnd;
 use ssh_kex::FinishedExchange;
-use ssh_lines::{push_error, push_numbered, push_text};
+use ssh_lines::{push_error, push_hex, push_numbered, push_text};
 use ssh_negotiate::Names;
 use ssh_transport::Transport;
 use ssh_wire::{Error, Sink, put_u8, write_all};
 use std::alloc::Global;
 
-/// Tells the exchanges behind the first so many, and answers how many are told then. Where the sink fails, a front of a
-/// line is told. Where memory is wanting, the line is left out.
+/// Reports the exchanges after the first `told`, and returns how many are reported then. If the sink fails, a prefix of a
+/// line was written. If there is no memory for a line, it is left out.
 pub(crate) fn tell_exchanges<N: Sink>(
     alloc: Global,
     transport: &Transport<'_>,
@@ -47,7 +48,7 @@ fn write_note<N: Sink>(line: Result<Vec<u8>, Error>, notes: &mut N)
     }
 }
 
-/// The line of an exchange: its number, and what was negotiated. Memory.
+/// The line of an exchange: its number, and what was negotiated. Fails with `Memory`.
 fn exchange_line(alloc: Global, k: usize, exchange: &FinishedExchange) -> Result<Vec<u8>, Error>
     ensures line { IfOk result (λ text. text.items ≡ exchange_note k exchange.now) }
     ensures err { IfErr result (λ e. e ≡ Memory) }
@@ -90,7 +91,7 @@ pub(crate) fn tell_end<N: Sink>(alloc: Global, end: &TalkEnd, notes: &mut N)
     write_note(end_line(alloc, end), notes);
 }
 
-/// The line of an end. Memory.
+/// The line of an end. Fails with `Memory`.
 fn end_line(alloc: Global, end: &TalkEnd) -> Result<Vec<u8>, Error>
     ensures line { IfOk result (λ text. text.items ≡ end_note end.now) }
     ensures err { IfErr result (λ e. e ≡ Memory) }
@@ -111,10 +112,7 @@ fn push_end(out: &mut Vec<u8>, end: &TalkEnd) -> Result<(), Error>
         TalkEnd::InputEnded => push_text(out, b"the input has ended"),
         TalkEnd::Disconnected => push_text(out, b"the other side has disconnected"),
         TalkEnd::Granted => push_text(out, b"the service is granted"),
-        TalkEnd::Refused(error) => {
-            push_text(out, b"refused ")?;
-            push_error(out, error)
-        }
+        TalkEnd::Refused(error) => push_refused(out, error),
         TalkEnd::NotServed => push_text(out, b"the service isn't offered"),
         TalkEnd::SourceFailed => push_text(out, b"reading failed"),
         TalkEnd::SinkFailed => push_text(out, b"writing failed"),
@@ -122,7 +120,48 @@ fn push_end(out: &mut Vec<u8>, end: &TalkEnd) -> Result<(), Error>
     }
 }
 
-/// Tells a text, or a front of it where the sink fails.
+/// The error for which the session was ended. It may have names from the peer in it.
+fn push_refused(out: &mut Vec<u8>, error: &Error) -> Result<(), Error>
+    ensures ok { OnOk result (out.new.items ≡ out.old.items ++ end_words (Refused error.now)) }
+    ensures err { IfErr result (λ e. e ≡ Memory) }
+{
+    let mut text = Vec::new(*out.allocator());
+    push_error(&mut text, error)?;
+    push_text(out, b"refused ")?;
+    push_escaped(out, text.as_slice())
+}
+
+/// A text, so that no byte of it controls the terminal that shows it.
+fn push_escaped(out: &mut Vec<u8>, text: &[u8]) -> Result<(), Error>
+    ensures ok { OnOk result (out.new.items ≡ out.old.items ++ escaped text.now) }
+    ensures err { IfErr result (λ e. e ≡ Memory) }
+{
+    for byte in text {
+        push_escaped_byte(out, *byte)?;
+    }
+    Ok(())
+}
+
+/// The byte as it is, or `\xHH`.
+fn push_escaped_byte(out: &mut Vec<u8>, byte: u8) -> Result<(), Error>
+    ensures ok { OnOk result (out.new.items ≡ out.old.items ++ escaped_byte byte) }
+    ensures err { IfErr result (λ e. e ≡ Memory) }
+{
+    if is_shown(byte) {
+        return put_u8(out, byte);
+    }
+    push_text(out, b"\\x")?;
+    push_hex(out, &[byte])
+}
+
+/// Whether a byte is shown as it is: printable ASCII, except for the backslash.
+fn is_shown(byte: u8) -> bool
+    ensures { result ≡ is_shown byte }
+{
+    (b' '..=b'~').contains(&byte) && byte != b'\\'
+}
+
+/// Writes a text, or a prefix of it if the sink fails.
 pub(crate) fn tell<N: Sink>(text: &[u8], notes: &mut N)
     ensures { IsTold text.now (noted (N.held notes.old) (N.faults notes.old))
         (noted (N.held notes.new) (N.faults notes.new)) }
