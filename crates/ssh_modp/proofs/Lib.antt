@@ -1,3 +1,5 @@
+pub mod Armour
+pub mod FirstLines
 pub mod Values
 pub mod Messages
 pub mod Encoded

@@ -7,3 +7,5 @@ pub mod PrimeSizes
 pub mod Rsa
 pub mod Keys
 pub mod Hosts
+pub mod KeyFiles
+pub mod Preferred

@@ -1,5 +1,3 @@
-pub mod Armour
-pub mod FirstLines
 pub mod Ways
 pub mod Telling
 pub mod Known

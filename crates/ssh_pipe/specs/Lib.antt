@@ -1,7 +1,6 @@
 pub mod Commands
 pub mod Ends
 pub mod Desks
-pub mod KeyFiles
 pub mod Keys
 pub mod Known
 pub mod Notes

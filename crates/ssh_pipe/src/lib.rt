@@ -4,7 +4,6 @@
 mod command;
 mod desk;
 mod end;
-mod keys;
 mod notes;
 mod program;
 mod setup;
@@ -14,7 +13,6 @@ mod told;
 pub use crate::command::{PipeCommand, command_of};
 pub use crate::desk::{Desk, Reply};
 pub use crate::end::{TalkEnd, status_of};
-pub use crate::keys::{known_blob, private_key};
 pub use crate::program::{exit_code, run_with_key, set_up, talk_as};
 pub use crate::setup::{PipeParts, config_of, parts_of};
 pub use crate::talking::talk;

@@ -22,14 +22,13 @@ ghost use Rattle.ssh_pipe.specs.declared.end.TalkEnd.TheVariants.{Exhausted, Inp
 use crate::command::{PipeCommand, command_of};
 use crate::desk::Desk;
 use crate::end::{TalkEnd, status_of};
-use crate::keys::{known_blob, private_key};
 use crate::notes::{tell, tell_end};
 use crate::setup::{PipeParts, config_of, parts_of};
 use crate::talking::talk;
 use crate::told::RunTold;
 use rand_chacha::ChaCha20Rng;
 use ssh_kex::{Config, Handed, Parts};
-use ssh_modp::{FieldAgreement, ModpGroups, RsaHosts};
+use ssh_modp::{FieldAgreement, ModpGroups, RsaHosts, known_blob, private_key};
 use ssh_program::{NO_COMMAND, SCRIPT_FAULTY, StdSource, WANT_OF_MEMORY, Word, words_of};
 use ssh_rules::Asked;
 use ssh_transport::Transport;

@@ -3,7 +3,7 @@ use Rattle.std.proofs.Common.{◌≡◌, ℕ, ◌==◌, ◌||◌, not, Bool, tru
 use Rattle.std.specs.Prelude.{filter, flat_map}
 use Rattle.std.proofs.lemmas.Grind.{common_steps}
 use Rattle.ssh_lines.specs.Lines.{pieces, onto_first}
-use Rattle.ssh_pipe.specs.KeyFiles.{armour_line, armoured, is_kept}
+use Rattle.ssh_modp.specs.KeyFiles.{armour_line, armoured, is_kept}
 
 -- a byte of a line, before what comes after it: line ends are left out, and so is a line that is skipped
 abbrev pub before_rest : (ends skips : Bool) → ℕ → List ℕ → List ℕ

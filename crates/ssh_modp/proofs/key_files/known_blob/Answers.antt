@@ -1,6 +1,6 @@
 use Rattle.std.proofs.Common.{rules, codes}
-use Rattle.ssh_pipe.proofs.FirstLines.{first_line, no_host, no_host_or_memory, three_words}
-use Rattle.ssh_pipe.proofs.keys.known_blob.Goals as goal
+use Rattle.ssh_modp.proofs.FirstLines.{first_line, no_host, no_host_or_memory, three_words}
+use Rattle.ssh_modp.proofs.key_files.known_blob.Goals as goal
 
 pub returns-clause-named : goal.returns-clause-named
 returns-clause-named c =

@@ -2,13 +2,12 @@
 
 ghost use Rattle.std.specs.Prelude.{◌≡◌, ◌⊎◌, IfErr, IfOk, MatchOption, None, Some};
 ghost use Rattle.ssh_wire.specs.declared.error.Error.TheVariants.{Memory};
-ghost use Rattle.ssh_pipe.specs.KeyFiles.{armoured, base64_bytes, exponent_of, key_in, key_of_bytes, one_in_clear, outer_at, private_at};
-ghost use Rattle.ssh_pipe.specs.Keys.{NamesHost, NamesNone};
+ghost use Rattle.ssh_modp.specs.KeyFiles.{NamesHost, NamesNone, armoured, base64_bytes, exponent_of, key_in, key_of_bytes, one_in_clear, outer_at, private_at};
 
+use crate::hosts::RsaKey;
 use base64::DecodeAllocError;
 use base64::engine::general_purpose::STANDARD;
 use ssh_lines::{Words, cut};
-use ssh_modp::RsaKey;
 use ssh_wire::{Blob, EncodingFault, Error, Reader};
 use std::alloc::{AllocError, Global};
 
@@ -21,7 +20,8 @@ const RSA: &[u8] = b"ssh-rsa";
 /// The file isn't a key of this form.
 const NO_KEY: Error = Error::SshEncoding(EncodingFault::CharacterEncoding);
 
-/// The bytes that a text in base64 stands for. SshEncoding(CharacterEncoding) where it isn't base64; Memory.
+/// The bytes that a text in base64 stands for. Fails with `SshEncoding(CharacterEncoding)` if it isn't base64, or with
+/// `Memory`.
 fn decoded(alloc: Global, text: &[u8]) -> Result<Vec<u8>, Error>
     ensures decoded { IfOk result (λ v. base64_bytes text.now ≡ Some v.items) }
     ensures faulty { IfErr result (λ e. (e ≡ Memory) ⊎ (base64_bytes text.now ≡ None)) }
@@ -52,9 +52,9 @@ fn armoured(alloc: Global, text: &[u8]) -> Result<Vec<u8>, AllocError>
     Ok(body)
 }
 
-/// The RSA key of a private key's file in OpenSSH's own form, without a passphrase. SshEncoding where the file isn't
-/// one; Memory. Whether the private exponent belongs to the public key isn't tested here: a key signs nothing that
-/// its public key doesn't accept.
+/// The RSA key of a private key's file in OpenSSH's own form, without a passphrase. Fails with `SshEncoding` if the file
+/// isn't one, or with `Memory`. Whether the private exponent belongs to the public key isn't tested here, since a key
+/// signs nothing that its public key doesn't accept.
 pub fn private_key(alloc: Global, text: &[u8]) -> Result<RsaKey, Error>
     ensures key { IfOk result (λ k. key_in text.now ≡ Some k) }
     ensures faulty { IfErr result (λ e. (e ≡ Memory) ⊎ (key_in text.now ≡ None)) }
@@ -119,7 +119,8 @@ fn private_exponent<'a>(private: &'a [u8]) -> Result<&'a [u8], Error>
     }
 }
 
-/// The blob of an RSA key from the line of its public key's file. SshEncoding where the file isn't one; Memory.
+/// The blob of an RSA key, from the first line of its public key's file. Fails with `SshEncoding` if the file isn't one,
+/// or with `Memory`.
 pub fn known_blob(alloc: Global, text: &[u8]) -> Result<Blob, Error>
     ensures named { IfOk result (NamesHost text.now) }
     ensures faulty { IfErr result (λ e. (e ≡ Memory) ⊎ NamesNone text.now) }

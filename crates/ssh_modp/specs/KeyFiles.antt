@@ -1,4 +1,4 @@
--- The file of a private key, in OpenSSH's own form (OpenSSH's PROTOCOL.key).
+-- The files of keys: of a private key in OpenSSH's own form (OpenSSH's PROTOCOL.key), and of a public key.
 use Rattle.std.specs.Prelude.{◌≡◌, ℕ, ◌==◌, ◌&&◌, Bool, false, not, if◌then◌else◌, List, [], ◌∷◌, ◌++◌, codes, length, take, drop, filter, flat_map, Option, Some, None, Result, Ok, Err, refl}
 use Rattle.std.specs.Result.{result_ok}
 use Rattle.std.specs.Str.{bytes_eq}
@@ -6,7 +6,7 @@ use Rattle.base64.specs.Engines.{standard}
 use Rattle.base64.specs.GeneralPurpose.{decode_of}
 use Rattle.ssh_wire.specs.Fields.{◌>>=◌, mpint_at, string_at, u32_at}
 use Rattle.ssh_wire.specs.declared.error.EncodingFault.{EncodingFault}
-use Rattle.ssh_lines.specs.Lines.{pieces}
+use Rattle.ssh_lines.specs.Lines.{pieces, words_of}
 use Rattle.ssh_modp.specs.Hosts.{RsaSecret}
 
 -- the bytes that a text in base64 stands for (RFC 4648)
@@ -33,7 +33,8 @@ armoured text = flat_map armour_line (pieces 10 text)
 abbrev pub key_magic : List ℕ
 key_magic = codes "openssh-key-v1" ++ 0 ∷ []
 
--- ---- the fields: the name of a cipher, those of a derivation, a number of keys, the public key's blob, the private part
+-- ---- the fields: the name of a cipher, those of a derivation, a number of keys, the public key's blob, the private
+-- part
 
 pub record OuterFields : Type 0 where
   pub cipher : List ℕ
@@ -84,8 +85,8 @@ key_by (Some parts) = with_blob parts.0 (exponent_of (private_at parts.1))
 -- the key of decoded bytes
 abbrev pub key_of_bytes : List ℕ → Option RsaSecret
 key_of_bytes bytes =
-    if bytes_eq (take (length key_magic) bytes) key_magic then key_by (one_in_clear (outer_at (drop (length key_magic) bytes)))
-    else None
+    if bytes_eq (take (length key_magic) bytes) key_magic
+    then key_by (one_in_clear (outer_at (drop (length key_magic) bytes))) else None
 
 abbrev pub key_of_decoded : Option (List ℕ) → Option RsaSecret
 key_of_decoded None = None
@@ -94,6 +95,23 @@ key_of_decoded (Some bytes) = key_of_bytes bytes
 -- the RSA key of a file's text
 abbrev pub key_in : List ℕ → Option RsaSecret
 key_in text = key_of_decoded (base64_bytes (armoured text))
+
+-- ---- the file of a public key
+
+-- The first line of a public key's file names this blob: the type ssh-rsa, the blob in base64 (RFC 4648), and a comment
+-- (sshd(8), AUTHORIZED_KEYS FILE FORMAT; RFC 4253 section 6.6).
+pub record NamesHost (text blob : List ℕ) : Type 0 where
+  pub line : List ℕ
+  pub lines : List (List ℕ)
+  pub text_is : pieces 10 text ≡ line ∷ lines
+  pub key : List ℕ
+  pub comment : List (List ℕ)
+  pub words_are : words_of line ≡ codes "ssh-rsa" ∷ key ∷ comment
+  pub key_is : base64_bytes key ≡ Some blob
+
+-- it names none
+abbrev pub NamesNone : (text : List ℕ) → Type 0
+NamesNone text = (blob : List ℕ) → NamesHost text blob → ⊥
 
 armoured-example : armoured (codes "-a" ++ 10 ∷ codes "bc" ++ 13 ∷ 10 ∷ codes "d") ≡ codes "bcd"
 armoured-example = refl

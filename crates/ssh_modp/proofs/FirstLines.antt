@@ -3,8 +3,7 @@ use Rattle.std.proofs.Common.{inl, inr, ◌≡◌, ◌⊎◌, ℕ, List, [], ◌
 use Rattle.ssh_wire.specs.declared.error.Error.{Error}
 use Rattle.ssh_wire.specs.declared.error.Error.TheVariants.{Memory}
 use Rattle.ssh_lines.specs.Lines.{pieces, words_of}
-use Rattle.ssh_pipe.specs.KeyFiles.{base64_bytes}
-use Rattle.ssh_pipe.specs.Keys.{NamesNone}
+use Rattle.ssh_modp.specs.KeyFiles.{NamesNone, base64_bytes}
 
 -- the first line of a text, and those behind it
 pub first_line : (text line : List ℕ) (o : Option (Bor (List ℕ))) → MatchOption o (pieces 10 text ≡ line ∷ []) (λ rest. pieces 10 text ≡ line ∷ pieces 10 rest.now) → (lines : List (List ℕ)) × (pieces 10 text ≡ line ∷ lines)
