@@ -1,9 +1,10 @@
 #!/usr/bin/env bash
 # Usage: check/wrappers.sh
-# Tries the wrappers of the programs (./sshlink and the others) in a copy of the repository whose programs, and whose `rt`,
-# are stand-ins: small scripts that answer what a row wants. Nothing is built. A row is a call with its status, and with
-# what it must write, or must not, to standard output and standard error. Prints each row that comes out otherwise, and
-# then how many passed and failed. Rows that need a terminal are passed over if there is no python3 to make one.
+# Tries the wrappers of the programs (./sshlink and the others) in a copy of the repository whose programs, and whose
+# `rt`, are stand-ins: small scripts that answer what a row wants. Nothing is built. ./vendor is tried on crates of one
+# line. A row is a call with its status, and with what it must write, or must not, to standard output and standard
+# error. Prints each row that comes out otherwise, and then how many passed and failed. Rows that need a terminal are
+# passed over if there is no python3 to make one.
 set -u
 case ${1:-} in
 --help) sed -n '2,/^[^#]/s/^# \{0,1\}//p' "$0"; exit ;;
@@ -237,6 +238,69 @@ row 'installed' 0 '^installed in .*: sshlink sshservice sshaudit sshmux sshpipe$
 row 'the installed files' 0 '^bin/sshpipe share/doc/lirghette/LICENSE share/man/man1/sshpipe.1 $' '' \
   bash -c "cd '$room/prefix' && ls bin/sshpipe share/doc/lirghette/LICENSE share/man/man1/sshpipe.1 | tr '\n' ' '"
 row 'no prefix' 2 '' '^usage' "$tree/install"
+
+# --- Crates copied into another repository
+source=$room/source
+there="$room/a repository"
+mkdir -p "$source" "$there"
+cp vendor VERSION LICENSE NOTICE "$source"
+printf '%s\n' '# Crates' 'low: hex' 'mid: low thiserror' 'aside:' 'high: mid' >"$source/crates.txt"
+for crate in low mid aside high; do
+  mkdir -p "$source/crates/$crate/src" "$source/crates/$crate/planted" "$source/crates/$crate/out"
+  echo "//! The crate $crate." | tee "$source/crates/$crate/src/lib.rt" >"$source/crates/$crate/out/made"
+  echo 'file: src/lib.rt' >"$source/crates/$crate/planted/wrong.edit"
+done
+# What stands in the other repository, with the first lines of files.
+standing() { (cd "$there" && { find crates -type f ! -name VENDORED | sort | xargs head -qn1; cat crates.txt; } 2>/dev/null); }
+row 'copied to no folder' 2 '' '^usage' "$source/vendor"
+row 'copied to a folder that is not there' 1 '' 'there is no folder' "$source/vendor" "$room/nothing" low
+row 'copied to a folder that is no repository' 1 '' 'git init' "$source/vendor" "$there" low
+mkdir "$there/.git"
+row 'copied, no crate named' 1 '' 'no crate is named' "$source/vendor" "$there"
+row 'copied, a crate that is not there' 1 '' 'no crate lowest' "$source/vendor" "$there" lowest
+row 'copied, a word of sed' 1 '' 'no crate l.w' "$source/vendor" "$there" l.w
+row 'nothing was copied so far' 0 '^$' '' bash -c "ls '$there'; echo"
+echo 'own: mid' >"$there/crates.txt"
+row 'copied' 0 'copied to .*: 2 crates of commit unknown' '' "$source/vendor" "$there" mid
+row 'the copies, and lines of crates.txt' 0 '^//! The crate low. //! The crate mid. own: mid # .* low: hex mid: low thiserror # ' '' \
+  bash -c "cd '$there' && cat crates/*/src/lib.rt crates.txt | tr '\n' ' '"
+row 'neither edits nor what was made' 1 '' '' bash -c "find '$there' | grep -E 'planted|out|aside|high'"
+row 'the license' 0 'NOTICE' '' bash -c "cmp '$source/LICENSE' '$there/crates/VENDORED.LICENSE'; ls '$there/crates'"
+row 'the sums' 0 'crates/mid/src/lib.rt: OK' '' bash -c "cd '$there' && sha256sum -c crates/VENDORED"
+cp "$there/crates.txt" "$room/before"
+row 'copied again' 0 ': 2 crates' '' "$source/vendor" "$there"
+row 'crates.txt is the same then' 0 '' '' cmp "$room/before" "$there/crates.txt"
+echo '//! Low, newer.' >"$source/crates/low/src/lib.rt"
+echo '//! New.' >"$source/crates/low/src/new.rt"
+rm "$source/crates/mid/src/lib.rt"
+echo '//! Mid, elsewhere.' >"$source/crates/mid/src/main.rt"
+row 'brought up to date' 0 ': 3 crates' '' "$source/vendor" "$there" high
+row 'what stands then' 0 '^//! The crate high. //! Low, newer. //! New. //! Mid, elsewhere. own: mid # .* high: mid # ' '' \
+  bash -c "cd '$there' && cat crates/*/src/*.rt crates.txt | tr '\n' ' '"
+echo '//! Changed there.' >"$there/crates/low/src/lib.rt"
+echo '//! Added there.' >"$there/crates/mid/src/added.rt"
+rm "$there/crates/high/src/lib.rt"
+sed -i 's/^low: hex/low: hex bytes/' "$there/crates.txt"
+standing >"$room/before"
+row 'a file changed there' 1 '' 'crates/low/src/lib.rt was changed' "$source/vendor" "$there"
+row 'a file added there' 1 '' 'crates/mid/src/added.rt was added' "$source/vendor" "$there"
+row 'a file removed there' 1 '' 'crates/high/src/lib.rt was removed' "$source/vendor" "$there"
+row 'a line changed there' 1 '' 'lines of ./vendor in crates.txt were changed' "$source/vendor" "$there"
+standing >"$room/after"
+row 'nothing is written then' 0 '' '' cmp "$room/before" "$room/after"
+rm -r "$there/crates" "$there/crates.txt"
+mkdir -p "$there/crates/low/src"
+echo '//! Another crate of that name.' >"$there/crates/low/src/lib.rt"
+row 'a crate in the way' 1 '' 'crates/low/src/lib.rt was added' "$source/vendor" "$there" mid
+rm -r "$there/crates/low"
+ln -s "$source/crates/low" "$there/crates/low"
+row 'a link in the way' 1 '' 'crates/low is no plain file' "$source/vendor" "$there" mid
+rm "$there/crates/low"
+echo 'low:' >"$there/crates.txt"
+row 'a line in the way' 1 '' 'crates.txt has a line for low of its own' "$source/vendor" "$there" mid
+printf '%s\n' '# crate gone' >"$there/crates/VENDORED"
+row 'a crate that is gone' 1 '' 'no crate gone any more' "$source/vendor" "$there"
+row 'copied into itself' 1 '' 'this repository itself' bash -c "mkdir '$source/.git'; '$source/vendor' '$source' mid"
 
 # --- At a terminal
 if command -v python3 >/dev/null; then
