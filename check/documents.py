@@ -3,7 +3,7 @@
 
 Checks what the documents show, prints what isn't so, and ends with status 1 then:
 
-- Each piece of code of README.md and docs/LIBRARY.md is in a source file.
+- Each piece of code of README.md and docs/LIBRARY.md is in a source file, or in one of examples/library.
 - The first script and report of README.md are those of examples/clear.
 - Each link of a page leads to a file. Each page of docs/ is in its index, and each example in its own.
 - Each row of docs/PROTOCOL.md names definitions of its crates, functions of some source, and files of rows.
@@ -28,7 +28,8 @@ def defined(path):
 
 
 def faulty_snippets():
-    sources = [path.read_text(encoding="utf-8") for path in TOP.glob("crates/*/src/*.rt")]
+    files = [*TOP.glob("crates/*/src/*.rt"), *TOP.glob("examples/library/**/*.in")]
+    sources = [path.read_text(encoding="utf-8") for path in files]
     for page in ("README.md", "docs/LIBRARY.md"):
         for snippet in re.findall(r"^```rust\n(.*?)^```", (TOP / page).read_text(encoding="utf-8"), re.M | re.S):
             if not any(snippet in source for source in sources):
@@ -106,7 +107,7 @@ def faulty_names():
     kinds = ("src", "specs", "proofs", "must-fail", "planted")
     roots = [*(TOP / top for top in (".ci", "bench", "check", "cases", "docs", "examples", "vectors")),
              *(folder for kind in kinds for folder in TOP.glob(f"crates/*/{kind}"))]
-    tops = ("sshlink", "sshservice", "sshaudit", "sshmux", "sshpipe", "wrapper.sh", "install", "NOTICE", "LICENSE", "VERSION", "crates.txt")
+    tops = ("sshlink", "sshservice", "sshaudit", "sshmux", "sshpipe", "wrapper.sh", "install", "vendor", "NOTICE", "LICENSE", "VERSION", "crates.txt")
     files = [*(TOP / file for file in tops), *(path for root in roots for path in root.rglob("*"))]
     read = [path for path in files if path.is_file() and path.suffix != ".md"]
     texts = (path.read_text(encoding="utf-8", errors="replace") for path in read)

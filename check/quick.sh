@@ -140,6 +140,7 @@ start try_rows check_parts vectors/real_parts.txt
 start try_rows check_replay vectors/peers/*.txt
 while read -r crate; do start try_tests "$crate"; done < <(grep -l '#\[test\]' crates/*/src/*.rt | cut -d/ -f2 | sort -u)
 start check check/edited.sh
+start check check/library.sh
 start check check/wrappers.sh
 for script in edits documents reference grammar programs layers; do start check "check/$script.py"; done
 start check check/english.py
