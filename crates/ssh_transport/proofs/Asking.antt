@@ -1,5 +1,5 @@
 -- How often the parts are asked: a machine's step, a packet, and packets one after the other.
-use Rattle.std.proofs.Common.{◌≡◌, ℕ, ◌+◌, ◌-◌, ◌*◌, ◌≤◌, Bool, true, false, List, [], ◌∷◌, ◌++◌, length, refl, sym, ap, ◌∙◌, subst, arith, Option, Some, None, Result, Ok, Err, IfOk, OnOk, OnErr, length-append, ◌⊎◌, inl, inr}
+use Rattle.std.proofs.Common.{◌≡◌, ℕ, ◌+◌, ◌-◌, ◌*◌, ◌≤◌, Bool, true, false, List, [], ◌∷◌, ◌++◌, length, refl, sym, ap, ◌∙◌, subst, arith, Option, Some, None, Result, Ok, Err, IfOk, OnOk, length-append, ◌⊎◌, inl, inr}
 use Rattle.ssh_wire.specs.Lines.{id_text}
 use Rattle.ssh_wire.specs.Orders.{is_kex}
 use Rattle.ssh_wire.specs.declared.error.Error.{Error}
@@ -710,11 +710,3 @@ pub by_answer : {T : Type 0} (answer : Result T Error) (P : T → Type 0) (A Q :
     → IfOk answer P → OnOk answer A → OnOk answer Q
 by_answer (Ok x) P A Q f h a = f x h a
 by_answer (Err e) P A Q f h a = tt
-
-pub where_ok : {T : Type 0} (answer : Result T Error) (A Q : Type 0) → (A → Q) → OnOk answer A → OnOk answer Q
-where_ok (Ok x) A Q f a = f a
-where_ok (Err e) A Q f a = tt
-
-pub where_err : {T : Type 0} (answer : Result T Error) (A Q : Type 0) → (A → Q) → OnErr answer A → OnErr answer Q
-where_err (Ok x) A Q f a = tt
-where_err (Err e) A Q f a = f a

@@ -317,14 +317,6 @@ hears_left c s' used r' more handed spent live within h e = hears_by (emptied c)
     (e ∙ ap (λ (b : List ℕ). record c.reader { waiting = b; handed = handed; spent = spent })
     (sym (drop-append-le used c.reader.waiting more within)))) refl
 
-pub hears_more : (c : Connection) (s' : Session) (used : ℕ) (r' : Reader) (more handed : List ℕ) (spent : ℕ) → IsLive c
-    → used ≤ length c.reader.waiting → HearsLine c.session c.reader.waiting (Some used) s'
-    → r' ≡ record c.reader { waiting = drop used c.reader.waiting; handed = handed; spent = spent }
-    → Hears (emptied c) (c.reader.waiting ++ more) (with_more (record c { session = s'; reader = r' }) more)
-hears_more c s' used r' more handed spent live within h e = hears_left c s' used
-    (record r' { waiting = r'.waiting ++ more; handed = []; spent = 0 }) more [] 0 live within h
-    (ap (λ (x : Reader). record x { waiting = x.waiting ++ more; handed = []; spent = 0 }) e)
-
 pub hears_some : (c : Connection) (s' : Session) (used : ℕ) (r' : Reader) (handed : List ℕ) (spent : ℕ) → IsLive c
     → used ≤ length c.reader.waiting → HearsLine c.session c.reader.waiting (Some used) s'
     → r' ≡ record c.reader { waiting = drop used c.reader.waiting; handed = handed; spent = spent }

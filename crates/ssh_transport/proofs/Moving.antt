@@ -1,5 +1,5 @@
 -- What is done with a message of an exchange, and what holds behind it.
-use Rattle.std.proofs.Common.{◌≡◌, ℕ, Bool, true, false, List, [], ◌∷◌, ◌++◌, Option, Some, None, Result, Ok, Err, IfOk, OnOk, refl, sym, ap, ◌∙◌, subst, arith, append_assoc, ◌⊎◌, inl, inr}
+use Rattle.std.proofs.Common.{◌≡◌, ℕ, Bool, true, false, List, [], ◌∷◌, ◌++◌, Option, Some, None, Result, Ok, Err, IfOk, refl, sym, ap, ◌∙◌, subst, arith, append_assoc, ◌⊎◌, inl, inr}
 use Rattle.ssh_wire.specs.Lines.{id_text}
 use Rattle.ssh_wire.specs.Orders.{is_kex}
 use Rattle.ssh_wire.specs.declared.error.Error.{Error}
@@ -175,16 +175,6 @@ for_config s s1 m o (inl f) = own_config s m (record {
       (λ (x : Stage). IsFlagged m.setting (names_in_stage x)) (sym (f.0).stage_is) tt;
 })
 for_config s s1 m o (inr f) = own_config s m (own_of s m f.0 o)
-
-pub if_ok : {T : Type 0} (answer : Result T Error) (P Q : T → Type 0) → ((x : T) → P x → Q x) → IfOk answer P
-    → IfOk answer Q
-if_ok (Ok x) P Q f h = f x h
-if_ok (Err e) P Q f h = tt
-
-pub ok_if : {T : Type 0} (answer : Result T Error) (P : T → Type 0) (Q : Type 0) → ((x : T) → P x → Q) → IfOk answer P
-    → OnOk answer Q
-ok_if (Ok x) P Q f h = f x h
-ok_if (Err e) P Q f h = tt
 
 -- by what its machine's configuration makes the parts say
 pub handles_taken : (says : Config → Says) (s s1 s' : Session) (m : Machine) (inc : Incoming) (type : ℕ)

@@ -1,5 +1,5 @@
 -- Packets that are read one after the other.
-use Rattle.std.proofs.Common.{◌≡◌, ℕ, ◌+◌, ◌<◌, ◌≤◌, ◌^◌, Bool, true, false, Option, Some, IfSome, Result, Ok, List, [], ◌∷◌, ◌++◌, length, refl, sym, ap, ◌∙◌, subst, arith, append_assoc, append-nil}
+use Rattle.std.proofs.Common.{◌≡◌, ℕ, ◌+◌, ◌<◌, ◌^◌, Bool, true, false, Option, Some, IfSome, Result, Ok, List, [], ◌∷◌, ◌++◌, length, refl, sym, ap, ◌∙◌, subst, arith, append_assoc, append-nil}
 use Rattle.std.specs.Borrow.{Bor}
 use Rattle.ssh_wire.specs.Lines.{id_text}
 use Rattle.ssh_wire.specs.Orders.{is_kex}
@@ -21,7 +21,7 @@ use Rattle.ssh_transport.specs.Handling.{DoesWith, Handles, IsReadAt, delivered_
 use Rattle.ssh_transport.specs.Kept.{IsLive}
 use Rattle.ssh_transport.specs.Saying.{GoesOn, IsFixed, OnlyWrites, Writes}
 use Rattle.ssh_transport.specs.States.{reading_spot, state_at, with_more}
-use Rattle.ssh_transport.specs.Taking.{MovesKey, Goes, HandlesOne, IfPacket, Lends, PollsOne, Reads, TakesUp, Took, count_up, kept_by, read_as, spot_up}
+use Rattle.ssh_transport.specs.Taking.{MovesKey, Goes, HandlesOne, Lends, PollsOne, Reads, TakesUp, Took, count_up, kept_by, read_as, spot_up}
 use Rattle.ssh_transport.specs.declared.connection.Connection.{Connection}
 use Rattle.ssh_transport.specs.declared.connection.PacketRead.{PacketRead}
 use Rattle.ssh_transport.specs.declared.connection.PacketRead.TheVariants.{Nothing, Packet, Payload}
@@ -610,14 +610,3 @@ polls_after says later w c mid c' Payload e h d k = lends_behind (says c.session
 
 pub some_is : {A : Type 0} (o : Option A) (x : A) (P : A → Type 0) → IfSome o P → o ≡ Some x → P x
 some_is {A} o x P h e = subst (λ (y : Option A). IfSome y P) e h
-
--- what was made of a packet, by the answer
-pub polls_at : (says : Says) (c c' : Connection) (got read : PacketRead) → got ≡ read → PollsOne says c got c'
-    → PollsOne says c read c'
-polls_at says c c' got read e h = subst (λ (x : PacketRead). PollsOne says c x c') e h
-
-pub packet_shorter : (got read : PacketRead) (a b n : ℕ) → got ≡ read → read ≡ Packet → IfPacket got (a < b) → b ≤ n
-    → a ≤ n
-packet_shorter got read a b n e f h k =
-    let l : a < b = subst (λ (x : PacketRead). IfPacket x (a < b)) (e ∙ f) h in
-    omega (arith, l, k)

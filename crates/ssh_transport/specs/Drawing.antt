@@ -1,8 +1,7 @@
 -- What a side sends of itself, with what it draws for it.
-use Rattle.std.specs.Prelude.{◌≡◌, ℕ, true, false, List, ◌++◌, Some, None, Result, IsOk, ◌⊎◌}
+use Rattle.std.specs.Prelude.{◌≡◌, ℕ, true, false, List, ◌++◌, Some, None, ◌⊎◌}
 use Rattle.rand_core.specs.Stream.{Stream}
 use Rattle.ssh_wire.specs.Lines.{id_line}
-use Rattle.ssh_wire.specs.declared.error.Error.{Error}
 use Rattle.ssh_wire.specs.declared.side.Side.{Side}
 use Rattle.ssh_wire.specs.declared.side.Side.TheVariants.{Client, Server}
 use Rattle.ssh_negotiate.specs.Reading.{behind_cookie, kexinit_drawn}
@@ -63,11 +62,7 @@ abbrev pub DrawsFirst : (done : Type 0) → (old new : Standing) → (stream str
 DrawsFirst done old new stream stream' = is_silent old.state.stands ≡ true → IsUndrawn done old new stream stream'
     ⊎ GoesNext old.output (kexinit_packet old.side old.config old.state.writing stream) new.output
 
--- the same of a connection, by whether the call was answered with Ok
-abbrev pub DrawsFirstIn : {T : Type 0} → Result T Error → (c c' : Connection) → (stream stream' : Stream) → Type 0
-DrawsFirstIn result c c' stream stream' = DrawsFirst (IsOk result) (standing_of c) (standing_of c') stream stream'
-
--- or by whether the connection goes on
+-- the same of a connection, by whether it goes on
 abbrev pub DrawsFirstOn : (c c' : Connection) → (stream stream' : Stream) → Type 0
 DrawsFirstOn c c' stream stream' = DrawsFirst (c'.failed ≡ false) (standing_of c) (standing_of c') stream stream'
 

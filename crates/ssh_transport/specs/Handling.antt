@@ -90,9 +90,8 @@ may_deliver_by records Silent = false
 may_deliver_by records Outside = true
 may_deliver_by records (Inside stage) = may_deliver_at records stage
 
--- what a packet comes to: a payload that is delivered, nothing, or the key of what follows and whether its numbers
--- begin
--- again
+-- what a packet comes to: a payload that is delivered, nothing, or the key of what follows and whether its numbers begin
+-- anew
 pub data Outcome : Type 0 where
   GivesPayload : Outcome
   GivesNothing : Outcome
