@@ -55,7 +55,7 @@ folders_read() {
 is_stale() {
   local now looked='' folders
   printf -v now '%(%s)T' -1
-  if [ "${1:-}" != anew ] && [ "$fresh" -nt "$program" ]; then read -r looked <"$fresh"; fi
+  if [ "${1:-}" != anew ] && [ -f "$fresh" ] && [ "$fresh" -nt "$program" ]; then read -r looked <"$fresh"; fi
   if [[ $looked =~ ^[0-9]{1,12}$ ]] && ((now >= looked && now - looked < 60)); then
     return 1
   fi

@@ -156,6 +156,33 @@ row 'out of memory' 6 '' 'out of memory' env STATUS=6 "$tree/sshlink" run </dev/
 row 'standard input closed' 4 '' '^sshlink: standard input is closed$' bash -c "'$tree/sshlink' run <&-"
 row 'standard input closed, which gen needs not' 0 '' '' bash -c "STATUS=0 '$tree/sshlink' gen 1 0 <&-"
 
+# --- Odd input and output
+program sshlink <<'SH'
+[ "$1" != gen ] || exit 0
+script=$(tr -d '\000') || exit 4
+case $script in
+'') echo empty; exit 0 ;;
+esac
+echo "read ${#script}" || exit 5
+SH
+head -c 100000 /dev/urandom >"$room/random"
+row 'an empty script' 0 '^empty$' '' "$tree/sshlink" run /dev/null
+row 'an empty script by standard input' 0 '^empty$' '' "$tree/sshlink" run </dev/null
+row 'random bytes' 0 '^read' '!warning|command substitution' bash -c "'$tree/sshlink' run <'$room/random'"
+row 'standard input that is a folder' 4 '' "standard input couldn't be read" bash -c "'$tree/sshlink' run <'$room'"
+row 'standard output closed' 5 '' "standard output couldn't be written" bash -c "echo x | '$tree/sshlink' run >&-"
+row 'standard output full' 5 '' "standard output couldn't be written" bash -c "echo x | '$tree/sshlink' run >/dev/full"
+row 'standard error closed' 0 '^read' '' bash -c "echo x | '$tree/sshlink' run 2>&-"
+row 'cut off by head' 0 '^re' '' bash -c "set -o pipefail; echo x | '$tree/sshlink' run | head -c 2"
+row 'no environment' 0 '^read' '' env -i PATH="$PATH" bash -c "echo x | '$tree/sshlink' run"
+row 'two at once' 0 '^same$' '' bash -c "
+  echo x | '$tree/sshlink' run >'$room/one' & echo x | '$tree/sshlink' run >'$room/two'; wait
+  cmp '$room/one' '$room/two' && echo same"
+rm -f "$tree/crates/sshlink/out/sshlink.fresh"
+mkdir "$tree/crates/sshlink/out/sshlink.fresh"
+row 'no note of the last look can be written' 0 '^read' '' bash -c "echo x | '$tree/sshlink' run"
+rmdir "$tree/crates/sshlink/out/sshlink.fresh"
+
 # --- Words
 program sshlink <<'SH'
 case $* in
@@ -169,10 +196,15 @@ row 'no words' 2 '^usage$' '^usage: sshlink' "$tree/sshlink"
 row 'a script from a file' 0 '^from the file$' '' "$tree/sshlink" run "$room/a script.txt"
 row 'a file that is not there' 2 '^usage$' '^usage: sshlink' "$tree/sshlink" run "$room/none"
 row 'help' 0 '^usage: sshlink' '' "$tree/sshlink" --help
+row 'a word that is no flag' 2 '^usage$' '^usage: sshlink' "$tree/sshlink" -V
+row 'nothing to prove with, though built' 127 '' "can't be proved, and there is no rt" bare '' "$tree/sshlink" --prove
 for name in sshlink sshservice sshaudit sshmux sshpipe; do
   unbuilt "$name"
   row "$name unproved, wrong words, without rt" 2 '^usage$' "^usage: $name" bare '' "$tree/$name" fly
   row "$name unproved, help" 0 "^usage: $name" '' bare '' "$tree/$name" -h
+  row "$name unproved, no words" 2 '^usage$' "^usage: $name" bare '' "$tree/$name"
+  row "$name unproved, the word help" 2 '^usage$' "^usage: $name" bare '' "$tree/$name" help
+  row "$name unproved, version" 0 "^$name of Lirghette .*: not proved$" '' bare '' "$tree/$name" --version
 done
 
 # --- What is needed
