@@ -142,7 +142,7 @@ while read -r crate; do start try_tests "$crate"; done < <(grep -l '#\[test\]' c
 start check check/edited.sh
 start check check/library.sh
 start check check/wrappers.sh
-for script in edits documents reference grammar programs layers; do start check "check/$script.py"; done
+for script in edits documents reference grammar programs layers names; do start check "check/$script.py"; done
 start check check/english.py
 start check vectors/machines/model.py vectors/machines/*.txt
 start check cases/attack_model.py
