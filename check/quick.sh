@@ -90,7 +90,7 @@ try_rows() {
   for file in "$@"; do
     [[ $file == *_long.txt ]] || cp "$file" "$folder/$(tr / - <<<"${file#vectors/}")"
   done
-  (cd "crates/$program" && rt try --seconds 60 --cases "$folder" 2>&1) >"$folder.log"
+  (cd "crates/$program" && rt try --seconds 400 --cases "$folder" 2>&1) >"$folder.log"
   awk -v program="$program" '
     /^== / { name = $2 }
     /^[0-9]+ passed, [0-9]+ failed$/ {
@@ -126,6 +126,8 @@ started=0
 lay_out sshlink 3
 for program in sshservice sshaudit sshmux; do lay_out "$program" 1; done
 examples
+# The rows of real parts take longest, some two minutes.
+start try_rows check_parts vectors/real_parts.txt
 for folder in "$room"/cases/*; do start try_cases "$folder"; done
 mapfile -t others < <(find vectors -name '*.txt' -not -path 'vectors/exchange/*' -not -path 'vectors/machines/*' \
   -not -path vectors/services.txt -not -path vectors/powers.txt -not -path vectors/real_parts.txt | sort)
@@ -136,7 +138,6 @@ start try_rows check_machines "${machines[@]}"
 start try_rows check_transport vectors/machines/transport.txt
 start try_rows check_services vectors/services.txt
 start try_rows check_powers vectors/powers.txt
-start try_rows check_parts vectors/real_parts.txt
 start try_rows check_replay vectors/peers/*.txt
 while read -r crate; do start try_tests "$crate"; done < <(grep -l '#\[test\]' crates/*/src/*.rt | cut -d/ -f2 | sort -u)
 start check check/edited.sh
